@@ -1,0 +1,7 @@
+pub mod Lists
+pub mod Over
+pub mod Gather
+pub mod Tests
+pub mod Reading
+pub mod Bits
+pub mod Text
