@@ -1,2 +1,5 @@
 pub mod Table
 pub mod Judge
+pub mod Places
+pub mod Index
+pub mod Examples

@@ -1,8 +1,8 @@
 // The rule table: its fields, the judge, the rules of (mode, kind, class), the class of a URI.
-ghost use mathlib.Core.Path.{_≡_};
-
-
-
+pub mod words;
+pub mod uris;
+pub mod judging;
+pub mod index;
 
 // What judge, step and run hand back, but for the session.
 pub struct Answer {
@@ -52,4 +52,11 @@ pub struct Rule {
 pub struct Listed {
     pub at: usize,
     pub len: usize,
+}
+
+// The rules of a mode, kind and class in the index: their key, the first of them, and where they all have ended.
+pub struct Chosen {
+    pub key: u32,
+    pub first: usize,
+    pub end: usize,
 }
