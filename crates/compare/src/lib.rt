@@ -1,26 +1,34 @@
 // Bytes compared with bytes, and with the fixed byte strings that document 01 names.
 ghost use mathlib.Core.Path.{_≡_};
-ghost use Rattle.compare.specs.Compare.{sameAt, isWord, xmlUri, xmlnsUri};
+ghost use Rattle.laws.specs.Lists.{sameList};
+ghost use Rattle.compare.specs.Compare.{spanOf, xmlUri, xmlnsUri};
 
-// Are the n bytes of a from i on those of b from j on? No where either runs past its end.
-pub fn same_at(a: &[u8], i: usize, b: &[u8], j: usize, n: usize) -> bool
-    ensures { λ r. ⌜ r ≡ sameAt (now (a .entry)) i (now (b .entry)) j n ⌝ }
+// The n bytes of s from at on; where s has fewer, what it has.
+pub fn part_of(s: &[u8], at: usize, n: usize) -> &[u8]
+    ensures { λ r. ⌜ now r ≡ spanOf (now (s .entry)) at n ⌝ }
 {
-    if a.len() < n {
-        return false;
+    let len = s.len();
+    if len <= at {
+        return &s[..0];
     }
-    if a.len() - n < i {
-        return false;
+    if len - at <= n {
+        return &s[at..];
     }
-    if b.len() < n {
-        return false;
-    }
-    if b.len() - n < j {
+    let end = at + n;
+    &s[at..end]
+}
+
+// Are a and b the same bytes?
+pub fn same(a: &[u8], b: &[u8]) -> bool
+    ensures { λ r. ⌜ r ≡ sameList (now (a .entry)) (now (b .entry)) ⌝ }
+{
+    let n = a.len();
+    if n != b.len() {
         return false;
     }
     let mut k = 0;
     while k < n {
-        if a[i + k] != b[j + k] {
+        if a[k] != b[k] {
             return false;
         }
         k += 1;
@@ -28,26 +36,16 @@ pub fn same_at(a: &[u8], i: usize, b: &[u8], j: usize, n: usize) -> bool
     true
 }
 
-// Are the n bytes of s from at on the word? No where they run past the end.
-pub fn is_word(s: &[u8], at: usize, n: usize, word: &[u8]) -> bool
-    ensures { λ r. ⌜ r ≡ isWord (now (s .entry)) at n (now (word .entry)) ⌝ }
+// Is it the URI of xml?
+pub fn is_xml_uri(uri: &[u8]) -> bool
+    ensures { λ r. ⌜ r ≡ sameList (now (uri .entry)) xmlUri ⌝ }
 {
-    if n != word.len() {
-        return false;
-    }
-    same_at(s, at, word, 0, n)
+    same(uri, b"http://www.w3.org/XML/1998/namespace")
 }
 
-// Are the n bytes of s from at on the URI of xml?
-pub fn is_xml_uri(s: &[u8], at: usize, n: usize) -> bool
-    ensures { λ r. ⌜ r ≡ isWord (now (s .entry)) at n xmlUri ⌝ }
+// Is it the URI of xmlns?
+pub fn is_xmlns_uri(uri: &[u8]) -> bool
+    ensures { λ r. ⌜ r ≡ sameList (now (uri .entry)) xmlnsUri ⌝ }
 {
-    is_word(s, at, n, b"http://www.w3.org/XML/1998/namespace")
-}
-
-// Are the n bytes of s from at on the URI of xmlns?
-pub fn is_xmlns_uri(s: &[u8], at: usize, n: usize) -> bool
-    ensures { λ r. ⌜ r ≡ isWord (now (s .entry)) at n xmlnsUri ⌝ }
-{
-    is_word(s, at, n, b"http://www.w3.org/2000/xmlns/")
+    same(uri, b"http://www.w3.org/2000/xmlns/")
 }

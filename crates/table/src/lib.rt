@@ -1,8 +1,8 @@
 // The rule table: its fields, the judge, the rules of (mode, kind, class), the class of a URI.
-pub mod words;
-pub mod uris;
-pub mod judging;
 pub mod index;
+pub mod judging;
+pub mod uris;
+pub mod words;
 
 // What judge, step and run hand back, but for the session.
 pub struct Answer {

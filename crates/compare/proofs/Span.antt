@@ -1,0 +1,21 @@
+-- What `part_of` hands back is `spanOf`, at each of its ends.
+use Prim.Native.Nat.{ℕ, _+_, _-_, _≤_}
+use mathlib.Core.Path.{_≡_, sym, ap, _∙_}
+use mathlib.Core.List.{List, []}
+use native.Mathlib.Omega.{arith}
+use native.Mathlib.Nat.{add-sub-cancel-left}
+use lib.ListN.{length, take, drop, drop-of-length-le, length-drop}
+use lib.Seq.{take-all, take-nil}
+use Rattle.compare.specs.Compare.{spanOf}
+
+module _ (s : List ℕ) (at n : ℕ) where
+  pub past : length s ≤ at → [] ≡ spanOf s at n
+  past h = sym (ap (take n) (drop-of-length-le s h) ∙ take-nil n)
+
+  pub rest : length s - at ≤ n → take (length s - at) (drop at s) ≡ spanOf s at n
+  rest h =
+      take-all (length s - at) (drop at s) (omega (arith, length-drop at s))
+      ∙ sym (take-all n (drop at s) (omega (arith, length-drop at s)))
+
+  pub within : take (at + n - at) (drop at s) ≡ spanOf s at n
+  within = ap (λ (k : ℕ). take k (drop at s)) (add-sub-cancel-left at n)
