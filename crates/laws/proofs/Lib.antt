@@ -1,2 +1,4 @@
 pub mod Over
 pub mod Gather
+pub mod Holds
+pub mod Kept

@@ -4,6 +4,7 @@
 --     Stable, stable-*                    an answer that is not `cut` stays when more bytes come
 --     peek                                the byte at an index, or `cut`
 --     Next, run, run-*                    a machine that reads byte by byte
+--     run-agree, run-agree-at             machines that know their scene, when more bytes come
 --     run-out, run-stop, run-go, machine  a turn of the loop that runs a machine: `search machine`
 --     room-step, fill-next                an array filled from the front, the default behind
 use Prim.Native.Nat.{ℕ, zero, suc, _+_, _-_, _≤_, _<_, zero-le, suc-le-suc}
@@ -148,6 +149,32 @@ module _ {St Out : Type 0} where
       pub run-go : i < length s → (q′ : St) → go q′ ≡ step q (getD s i 0) i → run q′ (drop (i + 1) s) (i + 1) ≡ p
       unfolding run
       run-go h q′ e = simp (← inv, drop-here, ← e)
+
+-- two machines, each of which may know a scene of its own, the second's longer: where their steps agree inside the list, but for the steps that
+-- stop with `cut`, their answers do
+module _ {St Out : Type 0} (cut : Out) (step step′ : St → ℕ → ℕ → Next St Out) where
+  pub run-agree : (q : St) (l t : List ℕ) (at : ℕ) → ((q′ : St) (b j : ℕ) → at ≤ j → j < at + length l → Stable (stop cut) (step q′ b j) (step′ q′ b j)) → Stable cut (run cut step q l at) (run cut step′ q (l ++ t) at)
+  unfolding run
+  run-agree q [] t at h = stable-cut cut (run cut step′ q t at)
+  run-agree q (b ∷ l) t at h =
+      agree (step q b at) (step′ q b at) (h q b at (omega arith) (omega arith)) (λ (q′ : St). run-agree q′ l t (at + 1) (λ q″ b′ j lo hi. h q″ b′ j (omega arith) (omega arith)))
+    where
+      differ : (q′ : St) → go q′ ≡ stop cut → ⊥
+      differ q′ e = let z : _≡_ {A = ℕ} 0 1 = cc in omega arith
+
+      agree : (n n′ : Next St Out) → Stable (stop cut) n n′ → ((q′ : St) → Stable cut (run cut step q′ l (at + 1)) (run cut step′ q′ (l ++ t) (at + 1))) → Stable cut (follow n (λ (q′ : St). run cut step q′ l (at + 1))) (follow n′ (λ (q′ : St). run cut step′ q′ (l ++ t) (at + 1)))
+      agree (go q′) n′ k ih n = rw (k (differ q′)) (ih q′ n)
+      agree (stop o) n′ k ih n = rw (k (λ e. n (cc)))
+
+  pub run-agree-at : (q : St) (s t : List ℕ) (at : ℕ) → ((q′ : St) (b j : ℕ) → at ≤ j → j < length s → Stable (stop cut) (step q′ b j) (step′ q′ b j)) → Stable cut (run cut step q (drop at s) at) (run cut step′ q (drop at (s ++ t)) at)
+  unfolding run
+  run-agree-at q s t at h = ⊎-elim inside outside (le-or-lt at (length s))
+    where
+      inside : at ≤ length s → Stable cut (run cut step q (drop at s) at) (run cut step′ q (drop at (s ++ t)) at)
+      inside l = rw drop-append-le (run-agree q (drop at s) t at (λ q′ b j lo hi. h q′ b j lo (omega (arith, length-drop at s))))
+
+      outside : length s < at → Stable cut (run cut step q (drop at s) at) (run cut step′ q (drop at (s ++ t)) at)
+      outside l = rw (drop-out s at (le-of-lt l)) (stable-cut cut (run cut step′ q (drop at (s ++ t)) at))
 
 -- for `search machine` at the returns and the turns of a loop that runs a machine
 pub ruleset machine = (run-out, run-stop, run-go, tests)

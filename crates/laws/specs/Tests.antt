@@ -1,14 +1,16 @@
 -- For `search`: a goal `r ≡ cond t x y` from the branches that the code took.
 --     on, off               by the test's value
 --     told, untold          a test that a callee made
+--     counted, uncounted    a number that a callee gave, tested
+--     past-ltb              an index behind one that is outside
 --     both, .., joined      tests joined by && and ||
 --     in-range              a byte in a range
-use Prim.Native.Nat.{ℕ, _≤_}
+use Prim.Native.Nat.{ℕ, _+_, _≤_}
 use mathlib.Core.Path.{_≡_, refl, sym, _∙_}
 use mathlib.Core.Bool.{Bool, true, false, cond, not, _&&_, _||_}
 use native.Mathlib.Omega.{arith}
 use borrow.Author.Tests.{eq-eqb, ne-eqb, lt-ltb, le-ltb, le-leb, lt-leb, leb-true}
-use lib.Dec.{leb}
+use lib.Dec.{leb, ltb, eqb}
 
 pub on : {A : Type 0} (t : Bool) (r x y : A) → t ≡ true → r ≡ x → r ≡ cond t x y
 on true r x y e h = h
@@ -35,6 +37,16 @@ untold false t p q = sym p
 pub untold′ : (r t : Bool) → r ≡ t → not r ≡ false → t ≡ true
 untold′ true t p q = sym p
 untold′ false t p q = sym p ∙ sym q
+
+-- a number that a callee gave, and what the branch says of it
+pub counted : (r n k : ℕ) → r ≡ n → r ≡ k → eqb n k ≡ true
+counted r n k p q = eq-eqb n k (sym p ∙ q)
+
+pub uncounted : (r n k : ℕ) → r ≡ n → (r ≡ k → ⊥) → eqb n k ≡ false
+uncounted r n k p q = ne-eqb n k (λ (e : n ≡ k). q (p ∙ e))
+
+pub past-ltb : (a b : ℕ) → b ≤ a → ltb (a + 1) b ≡ false
+past-ltb a b h = le-ltb (a + 1) b (omega arith)
 
 -- tests that are joined
 pub both : (a b : Bool) → a ≡ true → b ≡ true → (a && b) ≡ true

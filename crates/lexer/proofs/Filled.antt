@@ -1,0 +1,104 @@
+-- The loop of `attrs_from`: what is stored, and what a turn does.
+use Prim.Native.Nat.{ℕ, _+_, _-_, _*_, _≤_, _<_}
+use mathlib.Core.Path.{_≡_, refl, sym, ap, _∙_}
+use mathlib.Core.List.{List, [], _∷_, _++_}
+use mathlib.Core.Bool.{Bool}
+use native.Mathlib.Omega.{arith}
+use lib.ListN.{length, length-append}
+use Rattle.laws.specs.Over.{overwrite}
+use Rattle.laws.specs.Reading.{room-step}
+use Rattle.lexer.specs.Attrs.{numbersOf, laid}
+use Rattle.lexer.specs.Names.{nameAt}
+use Rattle.lexer.specs.Tags.{attributeAt, turnAt, TagRead, tagClosed, tagStopped, fullTurn, turnThen, attrsFrom, tagAt}
+use Rattle.lexer.specs.declared.Stop.{Stop}
+use Rattle.lexer.specs.declared.Name.{Name}
+use Rattle.lexer.specs.declared.Named.{Named}
+use Rattle.lexer.specs.declared.Named.the-variants as named
+use Rattle.lexer.specs.declared.Attr.{Attr}
+use Rattle.lexer.specs.declared.Attributed.{Attributed}
+use Rattle.lexer.specs.declared.Attributed.the-variants as attributed
+use Rattle.lexer.specs.declared.Turn.{Turn}
+use Rattle.lexer.specs.declared.Turn.the-variants as turn
+use Rattle.lexer.specs.declared.Tagged.{Tagged}
+use Rattle.lexer.specs.declared.Tagged.the-variants as tagged
+use Rattle.lexer.proofs.Arrays.{laid-none, laid-more}
+
+-- where there is no room: what a turn decides
+pub full-at : (s : List ℕ) (name : Name) (at : ℕ) (r m : Turn) (x : Tagged) → r ≡ turnAt s at → r ≡ m → ((l : List Attr) → length l ≡ 16 → x ≡ fullTurn name l m .answer) → (l : List Attr) → length l ≡ 16 → x ≡ attrsFrom s name l 0 at .answer
+unfolding attrsFrom
+full-at s name at r m x p q h l e = h l e ∙ ap (λ (y : Turn). fullTurn name l y .answer) (sym q ∙ p)
+
+full-held : (s : List ℕ) (name : Name) (l : List Attr) (at : ℕ) → attrsFrom s name l 0 at .attrs ≡ l
+unfolding attrsFrom
+full-held s name l at = kept (turnAt s at)
+  where
+    kept : (t : Turn) → fullTurn name l t .attrs ≡ l
+    kept (turn.Close next empty) = refl
+    kept (turn.Attribute i) = refl
+    kept (turn.Stopped x) = refl
+
+-- the whole that is asked for
+abbrev pub asked : List ℕ → Name → TagRead
+asked s name = attrsFrom s name [] 16 (name .end)
+
+-- count attributes are stored, and what is read from a place on makes the answer whole
+pub record Filled (s : List ℕ) (name : Name) (array₀ array : List ℕ) (count at : ℕ) : Type 0 where
+  pub held : List Attr
+  pub counted : length held ≡ count
+  pub few : count ≤ 16
+  pub filled : array ≡ laid held array₀
+  pub left : attrsFrom s name held (16 - count) at ≡ asked s name
+
+pub start : (s : List ℕ) (name : Name) (array : List ℕ) → Filled s name array array 0 (name .end)
+start s name array = record { held = []; counted = refl; few = omega arith; filled = laid-none array; left = refl }
+
+-- an answer and an array are those of what was read
+abbrev pub Answered : TagRead → List ℕ → List ℕ → Tagged → Type 0
+Answered t array₀ array x = (x ≡ t .answer) × (array ≡ laid (t .attrs) array₀)
+
+module _ (s : List ℕ) (name : Name) (array₀ array : List ℕ) (count at : ℕ) (f : Filled s name array₀ array count at) where
+  -- what was read, if its attributes are those that are held
+  answered : (t : TagRead) → t .attrs ≡ f .held → t ≡ asked s name → Answered (asked s name) array₀ array (t .answer)
+  answered t e q = (ap (λ (u : TagRead). u .answer) q, f .filled ∙ ap (λ (l : List Attr). laid l array₀) (sym e ∙ ap (λ (u : TagRead). u .attrs) q))
+
+  -- what the place decides
+  turned : count < 16 → turnThen s (λ (l : List Attr) (i : ℕ). attrsFrom s name l (16 - (count + 1)) i) name (f .held) (turnAt s at) ≡ asked s name
+  unfolding attrsFrom
+  turned h = rw (room-step 16 count h) at (f .left)
+
+  module _ (h : count < 16) (r : Turn) (p : r ≡ turnAt s at) where
+    pub closed : (next : ℕ) (empty : Bool) → r ≡ turn.Close next empty → Answered (asked s name) array₀ array (tagged.Got (record { name = name; count = count; next = next; empty = empty }))
+    closed next empty q = rw (← f .counted) (answered (tagClosed name (f .held) next empty) refl (rw (sym p ∙ q) at (turned h)))
+
+    pub stopped : (x : Stop) → r ≡ turn.Stopped x → Answered (asked s name) array₀ array (tagged.Stopped x)
+    stopped x q = answered (tagStopped (f .held) x) refl (rw (sym p ∙ q) at (turned h))
+
+    module _ (i : ℕ) (q : r ≡ turn.Attribute i) (v : Attributed) (e : v ≡ attributeAt s i) where
+      pub refused : (x : Stop) → v ≡ attributed.Stopped x → Answered (asked s name) array₀ array (tagged.Stopped x)
+      refused x g = answered (tagStopped (f .held) x) refl (rw (sym e ∙ g) at (rw (sym p ∙ q) at (turned h)))
+
+      pub more : (a : Attr) → v ≡ attributed.Got a → (array′ : List ℕ) → array′ ≡ overwrite array (5 * count) (numbersOf a) → Filled s name array₀ array′ (count + 1) (a .stop + 1)
+      more a g array′ w =
+          record {
+            held = f .held ++ (a ∷ []);
+            counted = length-append (f .held) (a ∷ []) ∙ ap (λ (n : ℕ). n + 1) (f .counted);
+            few = omega arith;
+            filled = w ∙ (rw (f .filled, ← f .counted) (laid-more (f .held) a array₀));
+            left = rw (sym e ∙ g) at (rw (sym p ∙ q) at (turned h));
+          }
+
+  pub full : 16 ≤ count → (x : Tagged) → ((l : List Attr) → length l ≡ 16 → x ≡ attrsFrom s name l 0 at .answer) → Answered (asked s name) array₀ array x
+  full h x g =
+      let z : 16 - count ≡ 0 = omega arith in
+      let n : length (f .held) ≡ 16 = omega arith in
+      rw (g (f .held) n) (answered (attrsFrom s name (f .held) 0 at) (full-held s name (f .held) at) (rw z at (f .left)))
+
+-- the tag's name, and what stands behind it
+module _ (s : List ℕ) (at : ℕ) (r : Named) (p : r ≡ nameAt s at) (array₀ : List ℕ) where
+  pub named-tag : (name : Name) → r ≡ named.Got name → (array : List ℕ) (x : Tagged) → Answered (asked s name) array₀ array x → Answered (tagAt s at) array₀ array x
+  unfolding tagAt
+  named-tag name q array x h = rw (sym p ∙ q) h
+
+  pub nameless-tag : (x : Stop) → r ≡ named.Stopped x → Answered (tagAt s at) array₀ array₀ (tagged.Stopped x)
+  unfolding tagAt
+  nameless-tag x q = rw (sym p ∙ q) (refl, laid-none array₀)

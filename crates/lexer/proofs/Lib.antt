@@ -1,0 +1,10 @@
+pub mod Common
+pub mod References
+pub mod ValueLaws
+pub mod Passing
+pub mod Inside
+pub mod Behind
+pub mod Arrays
+pub mod Filled
+pub mod Stable
+pub mod WholeNames

@@ -1,0 +1,193 @@
+-- References and values: the place that an answer names is inside the scene, and an answer other than `Cut` stays when more bytes come.
+--     Within                                what an answer says of its place
+--     reference-inside, value-inside        which places those are; end-of, bad-of, no-long take them out
+--     reference-stable, value-stable        more bytes
+use Prim.Native.Nat.{ℕ, _+_, _-_, _≤_, _<_}
+use mathlib.Core.Path.{_≡_, refl, sym, ap, subst, _∙_}
+use mathlib.Core.List.{List, [], _∷_, _++_, append-assoc}
+use mathlib.Core.Bool.{cond}
+use mathlib.Core.Logic.{⊎-elim}
+use native.Mathlib.Omega.{arith}
+use borrow.Author.Tests.{eqb-true, leb-false, ltb-true, ltb-false, lt-leb}
+use lib.ListN.{length, drop, getD, length-drop, length-append}
+use lib.Seq.{drop-append-le}
+use lib.Dec.{leb, ltb, eqb}
+use Rattle.laws.specs.Reading.{Next, go, stop, Stable, stable-same, stable-cut, stable-cond, stable-bind, run-agree-at, le-or-lt}
+use Rattle.laws.specs.Text.{bytes}
+use Rattle.laws.proofs.Holds.{holds-cond, Turned, run-held}
+use Rattle.lexer.specs.Values.{references, common, wholeOf, furthest, noReference, referenceEnd, isText, referred, valueStep, valueEnd}
+use Rattle.lexer.specs.declared.Stop.the-variants.{Bad, Long, Cut}
+use Rattle.lexer.specs.declared.Read.{Read}
+use Rattle.lexer.specs.declared.Read.the-variants.{End, Stopped}
+use Rattle.lexer.proofs.Common.{common-none, common-all, common-kept}
+use Rattle.lexer.proofs.References.{found-in, none-cut}
+
+-- P: what holds of the end. A byte that cannot stand there is inside the scene; a reference and a value are never too long
+abbrev pub Within : (ℕ → Type 0) → List ℕ → ℕ → Read → Type 0
+Within P s at (End j) = P j
+Within P s at (Stopped (Bad j)) = (at ≤ j) × (j < length s)
+Within P s at (Stopped (Long j)) = ⊥
+Within P s at (Stopped Cut) = Unit
+
+module _ (P : ℕ → Type 0) (s : List ℕ) (at j : ℕ) (r : Read) (w : Within P s at r) where
+  pub end-of : r ≡ End j → P j
+  end-of e = subst (Within P s at) e w
+
+  pub bad-of : r ≡ Stopped (Bad j) → (at ≤ j) × (j < length s)
+  bad-of e = subst (Within P s at) e w
+
+  pub no-long : r ≡ Stopped (Long j) → ⊥
+  no-long e = subst (Within P s at) e w
+
+-- ---- one of the five, or none
+data Reference : List ℕ → Type 0 where
+  lt : Reference (bytes "&lt;")
+  gt : Reference (bytes "&gt;")
+  amp : Reference (bytes "&amp;")
+  quot : Reference (bytes "&quot;")
+  apos : Reference (bytes "&apos;")
+
+module _ (P : Read → Type 0) (s : List ℕ) (at : ℕ) (other : Read) where
+  none : P other → P (wholeOf s at [] other)
+  unfolding wholeOf
+  none p = p
+
+  word : (w : List ℕ) (words : List (List ℕ)) → (common (drop at s) w ≡ length w → P (End (at + length w))) → P (wholeOf s at words other) → P (wholeOf s at (w ∷ words) other)
+  unfolding wholeOf
+  word w words p q = holds-cond P (eqb (common (drop at s) w) (length w)) (λ e. p (eqb-true (common (drop at s) w) (length w) e)) (λ e. q)
+
+  each : ((w : List ℕ) → Reference w → common (drop at s) w ≡ length w → P (End (at + length w))) → P other → P (wholeOf s at references other)
+  each p q =
+      word _ _ (p _ lt) (word _ _ (p _ gt) (word _ _ (p _ amp) (word _ _ (p _ quot) (word _ _ (p _ apos) (none q)))))
+
+some : (w : List ℕ) → Reference w → 0 < length w
+some w lt = omega arith
+some w gt = omega arith
+some w amp = omega arith
+some w quot = omega arith
+some w apos = omega arith
+
+-- ---- inside
+abbrev pub ReferenceTo : List ℕ → ℕ → ℕ → Type 0
+ReferenceTo s at j = (at < j) × (j ≤ length s)
+
+none-inside : (s : List ℕ) (at : ℕ) → Within (ReferenceTo s at) s at (noReference s at)
+unfolding noReference
+none-inside s at =
+    holds-cond (Within (ReferenceTo s at) s at) (leb (length s) k) (λ e. tt) (λ e. (omega arith, leb-false (length s) k e))
+  where
+    k : ℕ
+    k = at + furthest (drop at s) references
+
+pub reference-inside : (s : List ℕ) (at : ℕ) → Within (ReferenceTo s at) s at (referenceEnd s at)
+unfolding referenceEnd
+reference-inside s at =
+    each (Within (ReferenceTo s at) s at) s at (noReference s at)
+    (λ (w : List ℕ) o e. (omega (arith, some w o), found-in s w at (length w) (sym e) (some w o)))
+    (none-inside s at)
+
+-- the end of a value is its quote
+abbrev pub ValueTo : List ℕ → ℕ → ℕ → ℕ → Type 0
+ValueTo s quote at j = (at ≤ j) × (j < length s) × (getD s j 0 ≡ quote)
+
+pub value-inside : (s : List ℕ) (at quote : ℕ) → Within (ValueTo s quote at) s at (valueEnd s at quote)
+unfolding valueEnd
+value-inside s at quote = run-held (Stopped Cut) (valueStep s quote) s (λ (left j : ℕ). at ≤ j) In tt turn 0 at (omega arith)
+  where
+    In : Read → Type 0
+    In = Within (ValueTo s quote at) s at
+
+    Turn : ℕ → Next ℕ Read → Type 0
+    Turn j = Turned (λ (left : ℕ). at ≤ j + 1) In
+
+    passed : (j : ℕ) → at ≤ j → (r : Read) → Within (ReferenceTo s j) s j r → Turn j (referred j r)
+    passed j lo (End k) w = omega arith
+    passed j lo (Stopped (Bad k)) w = omega arith
+    passed j lo (Stopped (Long k)) w = w
+    passed j lo (Stopped Cut) w = tt
+
+    turn : (left j : ℕ) → j < length s → at ≤ j → Turn j (valueStep s quote left (getD s j 0) j)
+    turn left j hi lo =
+        holds-cond (Turn j) (eqb left 0)
+        (λ _. holds-cond (Turn j) (eqb (getD s j 0) quote) (λ e. (lo, hi, eqb-true (getD s j 0) quote e))
+        (λ _. holds-cond (Turn j) (eqb (getD s j 0) 0x26) (λ _. passed j lo (referenceEnd s j) (reference-inside s j))
+        (λ _. holds-cond (Turn j) (isText (getD s j 0)) (λ _. omega arith) (λ _. (lo, hi)))))
+        (λ _. omega arith)
+
+-- ---- more bytes
+-- a reference stands whole: it is read
+stands : (w s rest : List ℕ) (at : ℕ) → Reference w → drop at s ≡ w ++ rest → referenceEnd s at ≡ End (at + length w)
+unfolding referenceEnd wholeOf common
+stands w s rest at lt e = rw (e, common-none rest)
+stands w s rest at gt e = rw (e, common-none rest)
+stands w s rest at amp e = rw (e, common-none rest)
+stands w s rest at quot e = rw (e, common-none rest)
+stands w s rest at apos e = rw (e, common-none rest)
+
+stands-kept : (w s t : List ℕ) (at : ℕ) → Reference w → common (drop at s) w ≡ length w → referenceEnd (s ++ t) at ≡ End (at + length w)
+stands-kept w s t at o e =
+    let i = found-in s w at (length w) (sym e) (some w o) in
+    let a : drop at (s ++ t) ≡ drop at s ++ t = drop-append-le at s t (omega arith) in
+    let b : drop at s ++ t ≡ (w ++ drop (length w) (drop at s)) ++ t = ap (λ (l : List ℕ). l ++ t) (common-all (drop at s) w e) in
+    stands w (s ++ t) (drop (length w) (drop at s) ++ t) at o (a ∙ b ∙ append-assoc w (drop (length w) (drop at s)) t)
+
+-- none goes as far as the scene: more bytes change nothing
+furthest-least : (l w : List ℕ) (words : List (List ℕ)) → (common l w ≤ furthest l (w ∷ words)) × (furthest l words ≤ furthest l (w ∷ words))
+unfolding furthest
+furthest-least l w words =
+    holds-cond (λ (k : ℕ). (common l w ≤ k) × (furthest l words ≤ k)) (ltb (furthest l words) (common l w))
+    (λ e. omega (arith, ltb-true (furthest l words) (common l w) e))
+    (λ e. omega (arith, ltb-false (furthest l words) (common l w) e))
+
+furthest-kept : (l t : List ℕ) (words : List (List ℕ)) → furthest l words < length l → furthest (l ++ t) words ≡ furthest l words
+unfolding furthest
+furthest-kept l t [] h = refl
+furthest-kept l t (w ∷ words) h =
+    let least = furthest-least l w words in
+    rw (common-kept l w t (omega arith), furthest-kept l t words (omega arith))
+
+whole-kept : (s t : List ℕ) (at : ℕ) (other : Read) → at ≤ length s → (words : List (List ℕ)) → furthest (drop at s) words < length (drop at s) → wholeOf (s ++ t) at words other ≡ wholeOf s at words other
+unfolding wholeOf
+whole-kept s t at other i [] h = refl
+whole-kept s t at other i (w ∷ words) h =
+    let least = furthest-least (drop at s) w words in
+    rw (drop-append-le at s t i, common-kept (drop at s) w t (omega arith), whole-kept s t at other i words (omega arith))
+
+none-kept : (s t : List ℕ) (at : ℕ) → at + furthest (drop at s) references < length s → noReference (s ++ t) at ≡ noReference s at
+unfolding noReference
+none-kept s t at h =
+    let i : furthest (drop at s) references < length (drop at s) = simp length-drop (omega arith) in
+    let m : at + furthest (drop at s) references < length (s ++ t) = simp length-append (omega arith) in
+    rw (drop-append-le at s t (omega arith), furthest-kept (drop at s) t references i, lt-leb (length s) (at + furthest (drop at s) references) h, lt-leb (length (s ++ t)) (at + furthest (drop at s) references) m)
+
+pub reference-stable : (s t : List ℕ) (at : ℕ) → (referenceEnd s at ≡ Stopped Cut → ⊥) → referenceEnd (s ++ t) at ≡ referenceEnd s at
+unfolding referenceEnd
+reference-stable s t at = ⊎-elim ends goes (le-or-lt (length s) (at + furthest (drop at s) references))
+  where
+    Kept : Read → Type 0
+    Kept r = Stable (Stopped Cut) r (referenceEnd (s ++ t) at)
+
+    ends : length s ≤ at + furthest (drop at s) references → Kept (referenceEnd s at)
+    ends h =
+        each Kept s at (noReference s at) (λ (w : List ℕ) o e n. stands-kept w s t at o e)
+        (rw (← none-cut s at (furthest (drop at s) references) refl h) (stable-cut (Stopped Cut) (referenceEnd (s ++ t) at)))
+
+    goes : at + furthest (drop at s) references < length s → Kept (referenceEnd s at)
+    goes h n =
+        let i : furthest (drop at s) references < length (drop at s) = simp length-drop (omega arith) in
+        rw (none-kept s t at h) (whole-kept s t at (noReference s at) (omega arith) references i)
+
+pub value-stable : (s t : List ℕ) (at quote : ℕ) → (valueEnd s at quote ≡ Stopped Cut → ⊥) → valueEnd (s ++ t) at quote ≡ valueEnd s at quote
+unfolding valueEnd
+value-stable s t at quote = run-agree-at cut (valueStep s quote) (valueStep (s ++ t) quote) 0 s t at agree
+  where
+    cut : Read
+    cut = Stopped Cut
+
+    agree : (left b j : ℕ) → at ≤ j → j < length s → Stable (stop cut) (valueStep s quote left b j) (valueStep (s ++ t) quote left b j)
+    agree left b j lo hi =
+        stable-cond (stop cut) (eqb left 0)
+        (stable-cond (stop cut) (eqb b quote) (stable-same (stop cut) (stop (End j)))
+        (stable-cond (stop cut) (eqb b 0x26) (stable-bind cut (stop cut) (referred j) (referred j) refl (λ (r : Read). stable-same (stop cut) (referred j r)) (referenceEnd s j) (referenceEnd (s ++ t) j) (reference-stable s t j))
+        (stable-same (stop cut) (cond (isText b) (go 0) (stop (Stopped (Bad j)))))))
+        (stable-same (stop cut) (go (left - 1)))

@@ -1,0 +1,66 @@
+-- References, values and texts. Definitions.
+use Prim.Native.Nat.{ℕ, zero, suc, _+_, _-_}
+use mathlib.Core.List.{List, [], _∷_}
+use mathlib.Core.Bool.{Bool, cond, not, _&&_, _||_}
+use lib.ListN.{length, drop}
+use lib.Dec.{leb, ltb, eqb}
+use Rattle.laws.specs.Reading.{Next, go, stop, run}
+use Rattle.laws.specs.Text.{bytes}
+use Rattle.lexer.specs.declared.Stop.the-variants.{Bad, Cut}
+use Rattle.lexer.specs.declared.Read.{Read}
+use Rattle.lexer.specs.declared.Read.the-variants as read
+
+-- "& starts only &lt; &gt; &amp; &quot; or &apos;"
+abbrev pub references : List (List ℕ)
+references = bytes "&lt;" ∷ bytes "&gt;" ∷ bytes "&amp;" ∷ bytes "&quot;" ∷ bytes "&apos;" ∷ []
+
+-- how many bytes of a list are those that a word begins with
+unfoldable pub common : List ℕ → List ℕ → ℕ
+common [] word = 0
+common (b ∷ l) [] = 0
+common (b ∷ l) (c ∷ word) = cond (eqb b c) (suc (common l word)) 0
+
+-- the end of the first word that stands whole at a place
+unfoldable pub wholeOf : List ℕ → ℕ → List (List ℕ) → Read → Read
+wholeOf s at [] other = other
+wholeOf s at (w ∷ ws) other = cond (eqb (common (drop at s) w) (length w)) (read.End (at + length w)) (wholeOf s at ws other)
+
+-- the most bytes that one of the words shares with what stands at a place
+unfoldable pub furthest : List ℕ → List (List ℕ) → ℕ
+furthest l [] = 0
+furthest l (w ∷ ws) = cond (ltb (furthest l ws) (common l w)) (common l w) (furthest l ws)
+
+-- none of the five stands whole at a place: the scene ends inside one; else 2 at the first byte with which none goes on
+unfoldable pub noReference : List ℕ → ℕ → Read
+noReference s at =
+    let k = at + furthest (drop at s) references in
+    cond (leb (length s) k) (read.Stopped Cut) (read.Stopped (Bad k))
+
+-- a reference whose & stands at a place
+unfoldable pub referenceEnd : List ℕ → ℕ → Read
+referenceEnd s at = wholeOf s at references (noReference s at)
+
+-- "Text and values hold 09, 0A, 0D and 20 to FF, without <"
+abbrev pub isText : ℕ → Bool
+isText b = (leb 0x20 b || eqb b 0x0A || eqb b 0x09 || eqb b 0x0D) && not (eqb b 0x3C)
+
+-- a reference passed over, from its & on
+abbrev pub referred : ℕ → Read → Next ℕ Read
+referred i (read.End j) = go (j - (i + 1))
+referred i (read.Stopped x) = stop (read.Stopped x)
+
+-- "a value lacks its own quote; & starts only .." In the state: how many bytes of a reference are still to be passed over
+abbrev pub valueStep : List ℕ → ℕ → ℕ → ℕ → ℕ → Next ℕ Read
+valueStep s quote left b i =
+    cond (eqb left 0)
+    (cond (eqb b quote) (stop (read.End i))
+    (cond (eqb b 0x26) (referred i (referenceEnd s i)) (cond (isText b) (go 0) (stop (read.Stopped (Bad i))))))
+    (go (left - 1))
+
+-- a value from a place on: the place of its quote. A text is such a value, its quote the <: "complete once the next < is read, which it does
+-- not consume"
+unfoldable pub valueEnd : List ℕ → ℕ → ℕ → Read
+valueEnd s at quote = run (read.Stopped Cut) (valueStep s quote) 0 (drop at s) at
+
+abbrev pub textEnd : List ℕ → ℕ → Read
+textEnd s at = valueEnd s at 0x3C

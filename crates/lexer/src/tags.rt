@@ -1,0 +1,322 @@
+// Attributes and tags, as bytes.
+use crate::Attr;
+use crate::Attributed;
+use crate::Begin;
+use crate::EndTag;
+use crate::Ended;
+use crate::Name;
+use crate::Named;
+use crate::Read;
+use crate::Stop;
+use crate::Tag;
+use crate::Tagged;
+use crate::Turn;
+use crate::names::name_at;
+use crate::names::spaces_end;
+use crate::names::start_len;
+use crate::values::value_end;
+ghost use mathlib.Core.Path.{_≡_};
+ghost use mathlib.Core.List.{List, []};
+ghost use Prim.Native.Nat.{_*_, _<_};
+ghost use lib.ListN.{length};
+ghost use Rattle.laws.specs.Over.{overwrite};
+ghost use Rattle.lexer.specs.Attrs.{numbersOf, laid, attrIn};
+ghost use Rattle.lexer.specs.Tags.{wanted, equalsEnd, quotedAt, attributeAt, slashAt, turnBehind, turnAt, attrsFrom, tagAt, endTagAt, tagBegins, beginInside, beginOutside, beginAt};
+
+// The place behind this byte, which must stand here.
+pub fn want(s: &[u8], at: usize, byte: u8) -> Read
+    ensures { λ r. ⌜ r ≡ wanted (now (s .entry)) at byte ⌝ }
+{
+    if s.len() <= at {
+        return Read::Stopped(Stop::Cut);
+    }
+    if s[at] == byte {
+        return Read::End(at + 1);
+    }
+    Read::Stopped(Stop::Bad(at))
+}
+
+// Space, = and space: the place of the quote.
+fn equals_end(s: &[u8], at: usize) -> Read
+    ensures { λ r. ⌜ r ≡ equalsEnd (now (s .entry)) at ⌝ }
+{
+    match spaces_end(s, at) {
+        Read::End(i) => match want(s, i, b'=') {
+            Read::End(j) => spaces_end(s, j),
+            Read::Stopped(x) => Read::Stopped(x),
+        },
+        Read::Stopped(x) => Read::Stopped(x),
+    }
+}
+
+// The value whose quote stands at a place, behind a name.
+fn quoted_at(s: &[u8], name: Name, at: usize) -> Attributed
+    ensures { λ r. ⌜ r ≡ quotedAt (now (s .entry)) name at ⌝ }
+{
+    if s.len() <= at {
+        return Attributed::Stopped(Stop::Cut);
+    }
+    let quote = s[at];
+    if (quote == 0x22) | (quote == 0x27) {
+        let value = at + 1;
+        match value_end(s, value, quote) {
+            Read::End(stop) => Attributed::Got(Attr { name, value, stop }),
+            Read::Stopped(x) => Attributed::Stopped(x),
+        }
+    } else {
+        Attributed::Stopped(Stop::Bad(at))
+    }
+}
+
+// The attribute whose name begins at a place.
+pub fn attribute_at(s: &[u8], at: usize) -> Attributed
+    ensures { λ r. ⌜ r ≡ attributeAt (now (s .entry)) at ⌝ }
+{
+    match name_at(s, at) {
+        Named::Got(name) => match equals_end(s, name.end) {
+            Read::End(quote) => quoted_at(s, name, quote),
+            Read::Stopped(x) => Attributed::Stopped(x),
+        },
+        Named::Stopped(x) => Attributed::Stopped(x),
+    }
+}
+
+// The end of a tag that ends in />, its / at a place.
+fn slash_at(s: &[u8], at: usize) -> Turn
+    ensures { λ r. ⌜ r ≡ slashAt (now (s .entry)) at ⌝ }
+{
+    if s.len() <= at {
+        return Turn::Stopped(Stop::Cut);
+    }
+    match want(s, at + 1, b'>') {
+        Read::End(next) => Turn::Close(next, true),
+        Read::Stopped(x) => Turn::Stopped(x),
+    }
+}
+
+// What stands behind a tag's name or an attribute, behind the space from `at` to i.
+fn turn_behind(s: &[u8], at: usize, i: usize) -> Turn
+    ensures { λ r. ⌜ r ≡ turnBehind (now (s .entry)) at i ⌝ }
+{
+    if s.len() <= i {
+        return Turn::Stopped(Stop::Cut);
+    }
+    let b = s[i];
+    if b == b'>' {
+        return Turn::Close(i + 1, false);
+    }
+    if b == b'/' {
+        return slash_at(s, i);
+    }
+    if i == at {
+        return Turn::Stopped(Stop::Bad(i));
+    }
+    if start_len(s, i) == 0 {
+        return Turn::Stopped(Stop::Bad(i));
+    }
+    Turn::Attribute(i)
+}
+
+// What stands behind a tag's name or an attribute that ends at a place.
+pub fn turn_at(s: &[u8], at: usize) -> Turn
+    ensures { λ r. ⌜ r ≡ turnAt (now (s .entry)) at ⌝ }
+{
+    match spaces_end(s, at) {
+        Read::End(i) => turn_behind(s, at, i),
+        Read::Stopped(x) => Turn::Stopped(x),
+    }
+}
+
+// Stores the k-th attribute.
+fn put_attr(numbers: &mut [usize], k: usize, a: Attr)
+    requires { ⌜ (k < 16) × (length (now numbers) ≡ 80) ⌝ }
+    ensures { λ _. ⌜ now (numbers .exit) ≡ overwrite (now (numbers .entry)) (5 * k) (numbersOf a) ⌝ }
+{
+    let at = 5 * k;
+    numbers[at] = a.name.at;
+    numbers[at + 1] = a.name.part;
+    numbers[at + 2] = a.name.end;
+    numbers[at + 3] = a.value;
+    numbers[at + 4] = a.stop;
+}
+
+// Behind sixteen attributes.
+fn full_turn(s: &[u8], name: Name, at: usize) -> Tagged
+    ensures { λ r. ⌜ ((l : List Attr) → length l ≡ 16 → r ≡ attrsFrom (now (s .entry)) name l 0 at .answer) ⌝ }
+{
+    match turn_at(s, at) {
+        Turn::Close(next, empty) => Tagged::Got(Tag {
+            name,
+            count: 16,
+            next,
+            empty,
+        }),
+        Turn::Attribute(i) => Tagged::Stopped(Stop::Long(i)),
+        Turn::Stopped(x) => Tagged::Stopped(x),
+    }
+}
+
+// The attributes behind a tag's name.
+fn attrs_from(s: &[u8], name: Name, attrs: &mut [usize; 80]) -> Tagged
+    ensures answer { λ r. ⌜ r ≡ attrsFrom (now (s .entry)) name [] 16 (name .end) .answer ⌝ }
+    ensures array { λ _. ⌜ now (attrs .exit) ≡ laid (attrsFrom (now (s .entry)) name [] 16 (name .end) .attrs) (now (attrs .entry)) ⌝ }
+{
+    let mut at = name.end;
+    let mut count: usize = 0;
+    while count < 16 {
+        match turn_at(s, at) {
+            Turn::Close(next, empty) => {
+                return Tagged::Got(Tag {
+                    name,
+                    count,
+                    next,
+                    empty,
+                });
+            }
+            Turn::Attribute(i) => match attribute_at(s, i) {
+                Attributed::Got(a) => {
+                    put_attr(attrs, count, a);
+                    at = a.stop + 1;
+                    count += 1;
+                }
+                Attributed::Stopped(x) => {
+                    return Tagged::Stopped(x);
+                }
+            },
+            Turn::Stopped(x) => {
+                return Tagged::Stopped(x);
+            }
+        }
+    }
+    full_turn(s, name, at)
+}
+
+// The start tag from behind its < on; its attributes go to the array.
+pub fn start_tag(s: &[u8], at: usize, attrs: &mut [usize; 80]) -> Tagged
+    ensures { λ r. ⌜ (r ≡ tagAt (now (s .entry)) at .answer) × (now (attrs .exit) ≡ laid (tagAt (now (s .entry)) at .attrs) (now (attrs .entry))) ⌝ }
+{
+    match name_at(s, at) {
+        Named::Got(name) => attrs_from(s, name, attrs),
+        Named::Stopped(x) => Tagged::Stopped(x),
+    }
+}
+
+// The k-th attribute of 80 numbers; of zeros where they have none.
+fn attr_of(numbers: &[usize], k: usize) -> Attr
+    requires { ⌜ length (now numbers) ≡ 80 ⌝ }
+    ensures { λ r. ⌜ r ≡ attrIn (now (numbers .entry)) k ⌝ }
+{
+    if 16 <= k {
+        let name = Name {
+            at: 0,
+            part: 0,
+            end: 0,
+        };
+        return Attr {
+            name,
+            value: 0,
+            stop: 0,
+        };
+    }
+    let at = 5 * k;
+    let name = Name {
+        at: numbers[at],
+        part: numbers[at + 1],
+        end: numbers[at + 2],
+    };
+    Attr {
+        name,
+        value: numbers[at + 3],
+        stop: numbers[at + 4],
+    }
+}
+
+// The k-th attribute of the array; of zeros where the array has none.
+pub fn attr_in(attrs: &[usize; 80], k: usize) -> Attr
+    ensures { λ r. ⌜ r ≡ attrIn (now (attrs .entry)) k ⌝ }
+{
+    attr_of(attrs, k)
+}
+
+// The end tag from behind its </ on.
+pub fn end_tag(s: &[u8], at: usize) -> Ended
+    ensures { λ r. ⌜ r ≡ endTagAt (now (s .entry)) at ⌝ }
+{
+    match name_at(s, at) {
+        Named::Got(name) => match spaces_end(s, name.end) {
+            Read::End(i) => match want(s, i, b'>') {
+                Read::End(next) => Ended::Got(EndTag { name, next }),
+                Read::Stopped(x) => Ended::Stopped(x),
+            },
+            Read::Stopped(x) => Ended::Stopped(x),
+        },
+        Named::Stopped(x) => Ended::Stopped(x),
+    }
+}
+
+// The tag whose < stands at a place: an end tag only inside an element.
+fn tag_begins(s: &[u8], inside: bool, at: usize) -> Begin
+    ensures { λ r. ⌜ r ≡ tagBegins (now (s .entry)) inside at ⌝ }
+{
+    if s.len() <= at {
+        return Begin::Stopped(Stop::Cut);
+    }
+    let second = at + 1;
+    if s.len() <= second {
+        return Begin::Stopped(Stop::Cut);
+    }
+    if s[second] == b'/' {
+        if inside {
+            return Begin::End(at);
+        }
+        return Begin::Stopped(Stop::Bad(second));
+    }
+    Begin::Start(at)
+}
+
+// Inside an element: a tag or a text.
+fn begin_inside(s: &[u8], at: usize) -> Begin
+    ensures { λ r. ⌜ r ≡ beginInside (now (s .entry)) at ⌝ }
+{
+    if s.len() <= at {
+        return Begin::Stopped(Stop::Cut);
+    }
+    if s[at] == b'<' {
+        return tag_begins(s, true, at);
+    }
+    Begin::Text(at)
+}
+
+// Outside the root, at the first byte that is no space.
+fn begin_outside(s: &[u8], at: usize, closed: bool) -> Begin
+    ensures { λ r. ⌜ r ≡ beginOutside (now (s .entry)) at closed ⌝ }
+{
+    if s.len() <= at {
+        return Begin::Stopped(Stop::Cut);
+    }
+    if closed {
+        return Begin::Stopped(Stop::Bad(at));
+    }
+    if s[at] == b'<' {
+        return tag_begins(s, false, at);
+    }
+    Begin::Stopped(Stop::Bad(at))
+}
+
+// Where the next event begins: inside an element or not, the root closed or not.
+pub fn begin_at(s: &[u8], at: usize, inside: bool, closed: bool) -> Begin
+    ensures { λ r. ⌜ r ≡ beginAt (now (s .entry)) at inside closed ⌝ }
+{
+    if inside {
+        return begin_inside(s, at);
+    }
+    match spaces_end(s, at) {
+        Read::End(i) => begin_outside(s, i, closed),
+        Read::Stopped(x) => {
+            if closed {
+                return Begin::Finished;
+            }
+            Begin::Stopped(x)
+        }
+    }
+}

@@ -1,0 +1,126 @@
+// References, values and texts.
+use crate::Read;
+use crate::Stop;
+ghost use mathlib.Core.Path.{_≡_};
+ghost use mathlib.Core.Bool.{cond};
+ghost use lib.Dec.{ltb};
+ghost use lib.ListN.{drop};
+ghost use Rattle.lexer.specs.Values.{references, common, furthest, noReference, referenceEnd, isText, valueEnd, textEnd};
+
+// How many bytes from at on are those that the word begins with.
+fn common_at(s: &[u8], at: usize, word: &[u8]) -> usize
+    ensures { λ r. ⌜ r ≡ common (drop at (now (s .entry))) (now (word .entry)) ⌝ }
+{
+    let mut k = 0;
+    while k < word.len() {
+        if s.len() <= at {
+            return k;
+        }
+        if s.len() - at <= k {
+            return k;
+        }
+        if s[at + k] != word[k] {
+            return k;
+        }
+        k += 1;
+    }
+    k
+}
+
+fn larger(a: usize, b: usize) -> usize
+    ensures { λ r. ⌜ r ≡ cond (ltb b a) a b ⌝ }
+{
+    if b < a {
+        return a;
+    }
+    b
+}
+
+// The most bytes from at on that one of the five references begins with.
+fn furthest_at(s: &[u8], at: usize) -> usize
+    ensures { λ r. ⌜ r ≡ furthest (drop at (now (s .entry))) references ⌝ }
+{
+    let e = larger(common_at(s, at, b"&apos;"), 0);
+    let d = larger(common_at(s, at, b"&quot;"), e);
+    let c = larger(common_at(s, at, b"&amp;"), d);
+    let b = larger(common_at(s, at, b"&gt;"), c);
+    larger(common_at(s, at, b"&lt;"), b)
+}
+
+// None of the five references stands whole at a place.
+fn no_reference(s: &[u8], at: usize) -> Read
+    ensures { λ r. ⌜ r ≡ noReference (now (s .entry)) at ⌝ }
+{
+    let k = furthest_at(s, at);
+    if s.len() <= at {
+        return Read::Stopped(Stop::Cut);
+    }
+    if s.len() - at <= k {
+        return Read::Stopped(Stop::Cut);
+    }
+    Read::Stopped(Stop::Bad(at + k))
+}
+
+// Where a reference whose & stands at a place ends.
+pub fn reference_end(s: &[u8], at: usize) -> Read
+    ensures { λ r. ⌜ r ≡ referenceEnd (now (s .entry)) at ⌝ }
+{
+    if common_at(s, at, b"&lt;") == 4 {
+        return Read::End(at + 4);
+    }
+    if common_at(s, at, b"&gt;") == 4 {
+        return Read::End(at + 4);
+    }
+    if common_at(s, at, b"&amp;") == 5 {
+        return Read::End(at + 5);
+    }
+    if common_at(s, at, b"&quot;") == 6 {
+        return Read::End(at + 6);
+    }
+    if common_at(s, at, b"&apos;") == 6 {
+        return Read::End(at + 6);
+    }
+    no_reference(s, at)
+}
+
+fn is_text(b: u8) -> bool
+    ensures { λ r. ⌜ r ≡ isText b ⌝ }
+{
+    ((0x20 <= b) | (b == 0x0A) | (b == 0x09) | (b == 0x0D)) & (b != 0x3C)
+}
+
+// The place of the quote that ends a value, which begins at a place.
+pub fn value_end(s: &[u8], at: usize, quote: u8) -> Read
+    ensures { λ r. ⌜ r ≡ valueEnd (now (s .entry)) at quote ⌝ }
+{
+    let mut i = at;
+    while i < s.len() {
+        let b = s[i];
+        if b == quote {
+            return Read::End(i);
+        }
+        if b == b'&' {
+            match reference_end(s, i) {
+                Read::End(j) => {
+                    i = j;
+                }
+                Read::Stopped(x) => {
+                    return Read::Stopped(x);
+                }
+            }
+        } else {
+            if !is_text(b) {
+                return Read::Stopped(Stop::Bad(i));
+            }
+            i += 1;
+        }
+    }
+    Read::Stopped(Stop::Cut)
+}
+
+// The place of the < that ends a text, which begins at a place.
+pub fn text_end(s: &[u8], at: usize) -> Read
+    ensures { λ r. ⌜ r ≡ textEnd (now (s .entry)) at ⌝ }
+{
+    value_end(s, at, b'<')
+}

@@ -1,5 +1,0 @@
-pub mod Table
-pub mod Judge
-pub mod Places
-pub mod Index
-pub mod Examples
