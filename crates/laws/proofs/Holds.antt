@@ -1,7 +1,7 @@
 -- What holds of each way that an answer may come about holds of the answer.
 --     holds-cond, holds-peek     by a test, by the byte at an index
 --     Turned, run-held           by a machine whose state keeps an invariant
---     Each, each-*               of each element of a list
+--     each-*                   of each element of a list
 use Prim.Native.Nat.{ℕ, zero, suc, _+_, _<_}
 use mathlib.Core.Path.{_≡_, refl, sym, ap, subst, _∙_}
 use mathlib.Core.List.{List, [], _∷_, _++_}
@@ -12,6 +12,7 @@ use borrow.Author.Tests.{ltb-true}
 use lib.ListN.{length, drop, getD, length-drop}
 use lib.Dec.{ltb}
 use Rattle.laws.specs.Reading.{Next, go, stop, follow, run, drop-here}
+use Rattle.laws.specs.Members.{All}
 
 pub holds-cond : {A : Type 0} (P : A → Type 0) (t : Bool) {a b : A} → (t ≡ true → P a) → (t ≡ false → P b) → P (cond t a b)
 holds-cond P true p q = p refl
@@ -46,16 +47,12 @@ module _ {St Out : Type 0} (cut : Out) (step : St → ℕ → ℕ → Next St Ou
   run-held q i h = held (drop i s) q i refl h
 
 -- each element
-abbrev pub Each : {A : Type 0} → (A → Type 0) → List A → Type 0
-Each P [] = Unit
-Each P (x ∷ l) = P x × Each P l
-
 module _ {A : Type 0} (P : A → Type 0) where
-  pub each-more : (l : List A) (x : A) → Each P l → P x → Each P (l ++ (x ∷ []))
+  pub each-more : (l : List A) (x : A) → All P l → P x → All P (l ++ (x ∷ []))
   each-more [] x h p = (p, tt)
   each-more (y ∷ l) x h p = (h .0, each-more l x (h .1) p)
 
-  pub each-at : (l : List A) (k : ℕ) (d : A) → Each P l → k < length l → P (getD l k d)
+  pub each-at : (l : List A) (k : ℕ) (d : A) → All P l → k < length l → P (getD l k d)
   each-at [] k d h i = absurd (not-suc-le-zero i)
   each-at (x ∷ l) zero d h i = h .0
   each-at (x ∷ l) (suc k) d h i = each-at l k d (h .1) (le-of-suc-le-suc i)

@@ -1,4 +1,5 @@
 pub mod Lists
+pub mod Members
 pub mod Over
 pub mod Gather
 pub mod Tests

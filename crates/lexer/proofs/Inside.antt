@@ -8,7 +8,8 @@ use native.Mathlib.Omega.{arith}
 use borrow.Author.Tests.{eqb-true, eqb-false}
 use lib.ListN.{length, getD, length-append}
 use lib.Dec.{eqb}
-use Rattle.laws.proofs.Holds.{holds-cond, holds-peek, Turned, run-held, Each, each-more}
+use Rattle.laws.specs.Members.{All}
+use Rattle.laws.proofs.Holds.{holds-cond, holds-peek, Turned, run-held, each-more}
 use Rattle.lexer.specs.Stops.{after, afterName}
 use Rattle.lexer.specs.Names.{isSpace, spaceStep, spacesEnd, startLen, nameLen, partStep, partEnd, nameOf, prefixedAt, nameAt}
 use Rattle.lexer.specs.Values.{valueEnd}
@@ -289,18 +290,18 @@ TaggedInside s at l (tagged.Stopped x) = StopInside s at x
 -- the attributes that were read, also where reading stops
 pub record TagReadInside (s : List ℕ) (at : ℕ) (r : TagRead) : Type 0 where
   pub few : length (r .attrs) ≤ 16
-  pub each : Each (AttrBehind s at) (r .attrs)
+  pub each : All (AttrBehind s at) (r .attrs)
   pub answer : TaggedInside s at (r .attrs) (r .answer)
 
 module _ (s : List ℕ) (at : ℕ) where
-  stopped-inside : (l : List Attr) → length l ≤ 16 → Each (AttrBehind s at) l → (x : Stop) → StopInside s at x → TagReadInside s at (tagStopped l x)
+  stopped-inside : (l : List Attr) → length l ≤ 16 → All (AttrBehind s at) l → (x : Stop) → StopInside s at x → TagReadInside s at (tagStopped l x)
   stopped-inside l few each x h = record { few = few; each = each; answer = h }
 
-  closed-inside : (name : Name) (l : List Attr) (next : ℕ) (empty : Bool) → NameInside s at name → length l ≤ 16 → Each (AttrBehind s at) l → name .end < next → next ≤ length s → TagReadInside s at (tagClosed name l next empty)
+  closed-inside : (name : Name) (l : List Attr) (next : ℕ) (empty : Bool) → NameInside s at name → length l ≤ 16 → All (AttrBehind s at) l → name .end < next → next ≤ length s → TagReadInside s at (tagClosed name l next empty)
   closed-inside name l next empty n few each lo hi =
       record { few = few; each = each; answer = record { name = n; counted = refl; few = few; onward = lo; inside = hi } }
 
-  pub attrs-inside : (name : Name) → NameInside s at name → (room : ℕ) (l : List Attr) (i : ℕ) → name .end ≤ i → length l + room ≡ 16 → Each (AttrBehind s at) l → TagReadInside s at (attrsFrom s name l room i)
+  pub attrs-inside : (name : Name) → NameInside s at name → (room : ℕ) (l : List Attr) (i : ℕ) → name .end ≤ i → length l + room ≡ 16 → All (AttrBehind s at) l → TagReadInside s at (attrsFrom s name l room i)
   unfolding attrsFrom
   attrs-inside name n zero l i le few each = ends (turnAt s i) (turn-inside s i)
     where
@@ -312,7 +313,7 @@ module _ (s : List ℕ) (at : ℕ) where
     where
       -- what is left to show of the attributes behind
       More : Type 0
-      More = (l′ : List Attr) (k : ℕ) → name .end ≤ k → length l′ + room ≡ 16 → Each (AttrBehind s at) l′ → TagReadInside s at (attrsFrom s name l′ room k)
+      More = (l′ : List Attr) (k : ℕ) → name .end ≤ k → length l′ + room ≡ 16 → All (AttrBehind s at) l′ → TagReadInside s at (attrsFrom s name l′ room k)
 
       one : (j : ℕ) → i < j → (r : Attributed) → AttributedInside (AttrInside s j) s j r → More → TagReadInside s at (attrThen (λ (l′ : List Attr) (k : ℕ). attrsFrom s name l′ room k) l r)
       one j lt (attributed.Got a) h more =

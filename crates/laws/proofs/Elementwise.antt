@@ -1,0 +1,54 @@
+-- More on what holds of each element of a list.
+--     each-map, each-append, each-gather, each-any     from list to list
+--     any-same, anyPair-same, gather-same              functions that agree at each element
+use Prim.Native.Nat.{ℕ}
+use mathlib.Core.Path.{_≡_, refl, ap₂}
+use mathlib.Core.List.{List, [], _∷_, _++_}
+use mathlib.Core.Bool.{Bool, true, false, _||_}
+use native.Mathlib.Omega.{arith}
+use Rattle.laws.specs.Lists.{any, anyPair}
+use Rattle.laws.specs.Gather.{gather}
+use Rattle.laws.specs.Members.{All}
+
+pub each-map : {A : Type 0} (P Q : A → Type 0) → ((x : A) → P x → Q x) → (l : List A) → All P l → All Q l
+each-map P Q f [] h = tt
+each-map P Q f (x ∷ l) h = (f x (h .0), each-map P Q f l (h .1))
+
+pub each-append : {A : Type 0} (P : A → Type 0) (l m : List A) → All P l → All P m → All P (l ++ m)
+each-append P [] m h k = k
+each-append P (x ∷ l) m h k = (h .0, each-append P l m (h .1) k)
+
+pub each-gather : {A B : Type 0} (P : A → Type 0) (Q : B → Type 0) (f : A → List B) → ((x : A) → P x → All Q (f x)) → (l : List A) → All P l → All Q (gather f l)
+unfolding gather
+each-gather P Q f g [] h = tt
+each-gather P Q f g (x ∷ l) h = each-append Q (f x) (gather f l) (g x (h .0)) (each-gather P Q f g l (h .1))
+
+-- of lists of which no element passes a test
+pub each-any : {A : Type 0} (P : A → Type 0) (p : A → Bool) (l : List A) → All P l → any p l ≡ false → All (λ (x : A). P x × (p x ≡ false)) l
+unfolding any
+each-any P p [] h e = tt
+each-any P p (x ∷ l) h e = ((h .0, first (p x) e), each-any P p l (h .1) (second (p x) e))
+  where
+    first : (t : Bool) → (t || any p l) ≡ false → t ≡ false
+    first true q = q
+    first false q = refl
+
+    second : (t : Bool) → (t || any p l) ≡ false → any p l ≡ false
+    second true q = absurd (let z : _≡_ {A = ℕ} 0 1 = cc in omega arith)
+    second false q = q
+
+module _ {A : Type 0} (P : A → Type 0) where
+  pub any-same : (p q : A → Bool) → ((x : A) → P x → p x ≡ q x) → (l : List A) → All P l → any p l ≡ any q l
+  unfolding any
+  any-same p q f [] h = refl
+  any-same p q f (x ∷ l) h = ap₂ _||_ (f x (h .0)) (any-same p q f l (h .1))
+
+  pub anyPair-same : (p q : A → A → Bool) → ((x y : A) → P x → P y → p x y ≡ q x y) → (l : List A) → All P l → anyPair p l ≡ anyPair q l
+  unfolding anyPair
+  anyPair-same p q f [] h = refl
+  anyPair-same p q f (x ∷ l) h = ap₂ _||_ (any-same (p x) (q x) (λ y k. f x y (h .0) k) l (h .1)) (anyPair-same p q f l (h .1))
+
+  pub gather-same : {B : Type 0} (f g : A → List B) → ((x : A) → P x → f x ≡ g x) → (l : List A) → All P l → gather f l ≡ gather g l
+  unfolding gather
+  gather-same f g e [] h = refl
+  gather-same f g e (x ∷ l) h = ap₂ _++_ (e x (h .0)) (gather-same f g e l (h .1))

@@ -1,0 +1,13 @@
+pub mod Colons
+pub mod Pushes
+pub mod Levels
+pub mod Tabulated
+pub mod Opens
+pub mod Progress
+pub mod TagMeaning
+pub mod ReadNames
+pub mod Held
+pub mod MoreBytes
+pub mod NextStable
+pub mod EventsFirst
+pub mod LastStable

@@ -1,0 +1,9 @@
+pub mod Spans
+pub mod Namespaces
+pub mod Stored
+pub mod Events
+pub mod Scope
+pub mod Pushed
+pub mod Counted
+pub mod Held
+pub mod Examples

@@ -1,0 +1,13 @@
+-- `table::index::first_of` meets its contract.
+use Rattle.laws.specs.Tests.{tests}
+use Rattle.table.proofs.index.first_of.Statement.{statement}
+use Rattle.table.proofs.index.first_of.Tie as tie
+
+returns : tie.Need-returns
+returns c = search tests
+
+returns-2 : tie.Need-returns-2
+returns-2 c = search tests
+
+pub first-of-spec : {M : Type 1} → statement M
+first-of-spec = tie.close (tie.spec returns returns-2)

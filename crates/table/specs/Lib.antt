@@ -1,0 +1,6 @@
+pub mod Table
+pub mod Judge
+pub mod Places
+pub mod Index
+pub mod Kept
+pub mod Examples
