@@ -1,0 +1,16 @@
+pub mod Lists
+pub mod Merge
+pub mod Divide
+pub mod Keyed
+pub mod Simulation
+pub mod Keys
+pub mod Cut
+pub mod Contents
+pub mod UnitKeys
+pub mod Numbers
+pub mod Theorems
+pub mod Steps
+pub mod Run
+pub mod Count
+pub mod Samples
+pub mod Tables

@@ -1,0 +1,10 @@
+pub mod Theory
+pub mod Tree
+pub mod Sections
+pub mod Model
+pub mod Stream
+pub mod Units
+pub mod Elements
+pub mod Records
+pub mod Dispatch
+pub mod Examples

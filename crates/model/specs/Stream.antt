@@ -1,0 +1,98 @@
+-- 'Records' and 'Calls': the same records event by event, from the strands of the open elements and a count of units. Definitions.
+use mathlib.Core.Bool.{true, false, cond}
+use mathlib.Core.List.{List, [], _∷_, _++_, map, tail, foldl}
+use mathlib.Core.Option.{none, some}
+use Prim.Native.Nat.{ℕ, suc, _+_}
+use lib.ListN.{length}
+use Rattle.laws.specs.Gather.{gather, total}
+use Rattle.model.specs.Theory.{AttributeUnit, holds, Record, Theory, Strand, beforeRoot, stay, byRule, receiver, give, attributesFrom, taken, opening, closing}
+use Rattle.model.specs.Tree.{Event, start, text, end}
+
+-- An open element, and its strands.
+pub record Level (Θ : Theory) : Type 0 where
+  pub at : Θ .Kept
+  pub strands : List (Strand ℕ)
+
+-- The open elements, the innermost first, and the count of units opened so far.
+pub record State (Θ : Theory) : Type 0 where
+  pub levels : List (Level Θ)
+  pub units : ℕ
+
+-- A strand of an element that starts, and the schema of the rule taken last.
+pub record Entry : Type 0 where
+  pub strand : Strand ℕ
+  pub schema : ℕ
+
+-- The units that open here get the numbers from u on, in strand order.
+abbrev pub allot : ℕ → List Entry → List Entry
+allot u [] = []
+allot u (e ∷ es) = elim (e .strand .here) [
+  | false ↦ e ∷ allot u es
+  | true ↦ record { strand = record { mode = e .strand .mode; action = e .strand .action; target = some u; here = true }; schema = e .schema } ∷ allot (suc u) es
+]
+
+-- How many there are.
+abbrev pub newUnits : List Entry → ℕ
+newUnits = total (λ e. cond (e .strand .here) 1 0)
+
+module _ (Θ : Theory) where
+  -- "At a new section each strand, in order, takes the rules". A new unit has no number yet.
+  abbrev pub takeRules : Θ .StartInfo → List (Strand ℕ) → List Entry
+  takeRules σ = gather (λ s. map (λ q. record { strand = byRule (q .action) (q .next) none (s .target); schema = q .schema }) (taken Θ (s .mode) σ))
+
+  -- The strands of an element that starts. "Inside a section strands stay."
+  abbrev pub enter : List (Level Θ) → Θ .StartInfo → List Entry
+  enter [] σ = takeRules σ (beforeRoot ∷ [])
+  enter (l ∷ ls) σ = cond (Θ .sameSection (l .at) σ) (map (λ s. record { strand = stay s; schema = 0 }) (l .strands)) (takeRules σ (l .strands))
+
+  -- Its attribute units, by strand, each in the strand's own mode.
+  abbrev pub unitsOf : Θ .StartInfo → List Entry → List (AttributeUnit (Θ .Body))
+  unitsOf σ = gather (λ e. Θ .attributeUnits (e .strand .mode) σ)
+
+  -- Its strands, its new units numbered behind the attribute units.
+  abbrev pub entered : State Θ → Θ .StartInfo → List Entry
+  entered z σ = let es = enter (z .levels) σ in allot (z .units + length (unitsOf σ es)) es
+
+  -- "then per strand an open if new and start, then 2 and 3 per kept attribute".
+  abbrev pub startRecords : Θ .StartInfo → Entry → List (Record (Θ .Body) ℕ)
+  startRecords σ e = give (receiver (e .strand .action) (e .strand .target)) (opening Θ σ (e .schema) (e .strand .here) ++ map holds (Θ .startBodies (e .strand .mode) σ))
+
+  -- "Text: per strand."
+  abbrev pub textRecords : Θ .TextInfo → Strand ℕ → List (Record (Θ .Body) ℕ)
+  textRecords τ s = give (receiver (s .action) (s .target)) (holds (Θ .textBody τ) ∷ [])
+
+  -- "End: per strand an end, and a close if the unit opened at this element."
+  abbrev pub endRecords : Θ .Kept → Θ .EndInfo → Strand ℕ → List (Record (Θ .Body) ℕ)
+  endRecords κ ε s = give (receiver (s .action) (s .target)) (holds (Θ .endBody κ ε) ∷ closing Θ (s .here))
+
+  -- What an event writes. "A start event writes first the attribute units, by strand, section, rule, each open to close; then per strand".
+  unfoldable pub written : State Θ → Event Θ → List (Record (Θ .Body) ℕ)
+  written z (start σ) = attributesFrom (λ n. n) (z .units) (unitsOf σ (enter (z .levels) σ)) ++ gather (startRecords σ) (entered z σ)
+  written z (text τ) = elim (z .levels) [ [] ↦ [] | _∷_ l ls ↦ gather (textRecords τ) (l .strands) ]
+  written z (end ε) = elim (z .levels) [ [] ↦ [] | _∷_ l ls ↦ gather (endRecords (l .at) ε) (l .strands) ]
+
+  -- The state after an event.
+  unfoldable pub after : State Θ → Event Θ → State Θ
+  after z (start σ) = record {
+    levels = record { at = Θ .keep σ; strands = map (λ e. e .strand) (entered z σ) } ∷ z .levels;
+    units = z .units + length (unitsOf σ (enter (z .levels) σ)) + newUnits (enter (z .levels) σ);
+  }
+  after z (text τ) = z
+  after z (end ε) = record { levels = tail (z .levels); units = z .units }
+
+  -- "Fresh is .. no unit opened, nothing open".
+  abbrev pub fresh : State Θ
+  fresh = record { levels = []; units = 0 }
+
+  -- The state after some events.
+  abbrev pub reached : List (Event Θ) → State Θ
+  reached = foldl after fresh
+
+  -- What each event writes, from a state on.
+  unfoldable pub streamFrom : State Θ → List (Event Θ) → List (List (Record (Θ .Body) ℕ))
+  streamFrom z [] = []
+  streamFrom z (e ∷ es) = written z e ∷ streamFrom (after z e) es
+
+  -- What each event of a scene writes.
+  unfoldable pub streamOf : List (Event Θ) → List (List (Record (Θ .Body) ℕ))
+  streamOf = streamFrom fresh

@@ -1,0 +1,1 @@
+// The reference model and the stream of events: definitions in specs/, theorems in proofs/. No code.
