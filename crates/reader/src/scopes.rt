@@ -2,25 +2,15 @@
 use crate::Opened;
 use crate::Scope;
 use crate::Span;
+use crate::bindings::at_most;
 use compare::part_of;
 use compare::same;
 ghost use mathlib.Core.Path.{_≡_};
 ghost use Rattle.laws.specs.Lists.{sameList};
 ghost use Rattle.reader.specs.Spans.{bytesOf};
-ghost use Rattle.reader.specs.Stored.{atMost};
 ghost use Rattle.reader.specs.Events.{colonEnd, partOf};
 ghost use Rattle.reader.specs.Scope.{freshScope, openedOf, closedOf, nameIn};
 ghost use Rattle.reader.specs.Pushed.{pushedBindings};
-
-// How many declarations of a tag count: at most 16.
-pub fn at_most(n: usize) -> usize
-    ensures { λ r. ⌜ r ≡ atMost 16 n ⌝ }
-{
-    if n <= Scope::OWN {
-        return n;
-    }
-    Scope::OWN
-}
 
 // The first owned bindings of own laid behind those that are bound, where there is room for them.
 pub fn push_bindings(
@@ -125,7 +115,7 @@ impl Scope {
                 scope: self,
             };
         }
-        let count = at_most(owned);
+        let count = at_most(Scope::OWN, owned);
         if Scope::BINDINGS - count < bound {
             return Opened {
                 number: 22,

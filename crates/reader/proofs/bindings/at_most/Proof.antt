@@ -1,7 +1,7 @@
--- `scopes::at_most` meets its contract.
+-- `reader::bindings::at_most` meets its contract.
 use Rattle.laws.specs.Tests.{tests}
-use Rattle.reader.proofs.scopes.at_most.Statement.{statement}
-use Rattle.reader.proofs.scopes.at_most.Tie as tie
+use Rattle.reader.proofs.bindings.at_most.Statement.{statement}
+use Rattle.reader.proofs.bindings.at_most.Tie as tie
 
 returns : tie.Need-returns
 returns c = search tests

@@ -1,0 +1,45 @@
+-- `any` and `anyPair` of what is left of a list from an index on: none left, a hit, a miss; and `any` of two lists.
+use Prim.Native.Nat.{ℕ, _+_, _≤_, _<_}
+use mathlib.Core.Path.{_≡_, refl, sym, _∙_}
+use mathlib.Core.List.{List, [], _∷_, _++_}
+use mathlib.Core.Bool.{Bool, true, false, _||_, or-assoc}
+use native.Mathlib.Numerals.{add-one}
+use lib.ListN.{length, getD, drop, drop-of-length-le}
+use lib.Seq.{drop-cons}
+use Rattle.laws.specs.Lists.{any, anyPair}
+
+module _ {A : Type 0} (p : A → Bool) (l : List A) (i : ℕ) where
+  pub any-out : length l ≤ i → any p (drop i l) ≡ false
+  unfolding any
+  any-out h = rw (drop-of-length-le l h)
+
+  pub any-here : (d : A) → i < length l → any p (drop i l) ≡ (p (getD l i d) || any p (drop (i + 1) l))
+  unfolding any
+  any-here d h = rw (add-one, drop-cons l i d h)
+
+  pub any-hit : (d : A) → i < length l → p (getD l i d) ≡ true → any p (drop i l) ≡ true
+  any-hit d h e = any-here d h ∙ rw e
+
+  pub any-miss : (d : A) → i < length l → p (getD l i d) ≡ false → any p (drop i l) ≡ any p (drop (i + 1) l)
+  any-miss d h e = any-here d h ∙ rw e
+
+pub any-append : {A : Type 0} (p : A → Bool) (xs ys : List A) → any p (xs ++ ys) ≡ (any p xs || any p ys)
+unfolding any
+any-append p [] ys = refl
+any-append p (x ∷ xs) ys = rw (any-append p xs ys) (sym (or-assoc (p x) (any p xs) (any p ys)))
+
+module _ {A : Type 0} (p : A → A → Bool) (l : List A) (i : ℕ) where
+  pub pair-out : length l ≤ i → anyPair p (drop i l) ≡ false
+  unfolding anyPair
+  pair-out h = rw (drop-of-length-le l h)
+
+  pub pair-here : (d : A) → i < length l → anyPair p (drop i l) ≡ (any (p (getD l i d)) (drop (i + 1) l) || anyPair p (drop (i + 1) l))
+  unfolding anyPair
+  pair-here d h = rw (add-one, drop-cons l i d h)
+
+-- what a turn's test leaves of the answer v
+pub or-hit : (r t v : Bool) → (r || t) ≡ v → r ≡ true → true ≡ v
+or-hit r t v h e = rw e at h
+
+pub or-miss : (r t v : Bool) → (r || t) ≡ v → r ≡ false → t ≡ v
+or-miss r t v h e = rw e at h
