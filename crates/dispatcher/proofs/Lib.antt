@@ -1,0 +1,12 @@
+pub mod Sound
+pub mod SoundFresh
+pub mod SoundCoherent
+pub mod MoreScene
+pub mod NewStrands
+pub mod Packing
+pub mod Own
+pub mod Views
+pub mod Spaces
+pub mod Followed
+pub mod Behind
+pub mod SoundStep

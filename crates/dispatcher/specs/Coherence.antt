@@ -1,0 +1,128 @@
+-- Number 20: "session not coherent", a clause for each phrase of document 01's list. Definitions.
+use Prim.Native.Nat.{ℕ, _+_, _*_}
+use mathlib.Core.List.{List, [], _∷_}
+use mathlib.Core.Bool.{Bool, true, false, not, _&&_, _||_}
+use mathlib.Core.Option.{Option, none, some}
+use lib.ListN.{length, getD}
+use lib.Dec.{leb, ltb, eqb}
+use Rattle.laws.specs.Lists.{all, tabulate}
+use Rattle.laws.specs.Gather.{total}
+use Rattle.table.specs.Table.{Table}
+use Rattle.table.specs.declared.Action.{Action}
+use Rattle.table.specs.declared.Action.the-variants.{Attach, Unwrap, Validate}
+use Rattle.lexer.specs.Whole.{isPart, isWholeName}
+use Rattle.reader.specs.declared.Span.{Span}
+use Rattle.reader.specs.declared.Binding.{Binding}
+use Rattle.reader.specs.Spans.{bytesOf}
+use Rattle.reader.specs.Namespaces.{refusedBinding}
+use Rattle.reader.specs.Stored.{bindingIn}
+use Rattle.reader.specs.Scope.{nameIn, countIn}
+use Rattle.model.specs.Theory.{Strand}
+use Rattle.dispatcher.specs.Sessions.{classIn, uriIn, strandCount, strandsIn}
+use Rattle.dispatcher.specs.declared.Session.{Session}
+
+-- the numbers of the open levels, and the open bindings
+abbrev pub levelNumbers : Session → List ℕ
+levelNumbers z = tabulate (λ (k : ℕ). k) 0 (z .scope .depth)
+
+abbrev pub openBindings : Session → List Binding
+openBindings z = tabulate (bindingIn (z .scope .bindings)) 0 (z .scope .bound)
+
+-- "a place or span outside the scene"
+abbrev pub placeInside : List ℕ → Session → Bool
+placeInside s z = leb (z .place) (length s)
+
+abbrev pub spanInside : List ℕ → Span → Bool
+spanInside s w = leb (w .at + w .len) (length s)
+
+abbrev pub levelSpansInside : List ℕ → Session → Bool
+levelSpansInside s z = all (λ (k : ℕ). spanInside s (nameIn (z .scope .levels) k) && spanInside s (uriIn z k)) (levelNumbers z)
+
+abbrev pub bindingSpansInside : List ℕ → Session → Bool
+bindingSpansInside s z = all (λ (b : Binding). spanInside s (b .prefix) && spanInside s (b .uri)) (openBindings z)
+
+-- "a level's name at offset 0 or not a name by the reader's rules"
+abbrev pub namesFit : List ℕ → Session → Bool
+namesFit s z =
+    all
+    (λ (k : ℕ). not (eqb (nameIn (z .scope .levels) k .at) 0) && isWholeName (bytesOf s (nameIn (z .scope .levels) k)))
+    (levelNumbers z)
+
+-- "a binding that 5 would refuse"
+abbrev pub bindingsAllowed : List ℕ → Session → Bool
+bindingsAllowed s z = all (λ (b : Binding). not (refusedBinding s b)) (openBindings z)
+
+-- "or whose prefix is neither zero nor a name part"
+abbrev pub prefixFits : List ℕ → Span → Bool
+prefixFits s w = eqb (w .at) 0 && eqb (w .len) 0 || isPart (bytesOf s w)
+
+abbrev pub prefixesFit : List ℕ → Session → Bool
+prefixesFit s z = all (λ (b : Binding). prefixFits s (b .prefix)) (openBindings z)
+
+-- "depth over 64"
+abbrev pub depthFits : Session → Bool
+depthFits z = leb (z .scope .depth) 64
+
+-- "a level without 1 to 16 strands"
+abbrev pub strandCountsFit : Session → Bool
+strandCountsFit z = all (λ (k : ℕ). leb 1 (strandCount z k) && leb (strandCount z k) 16) (levelNumbers z)
+
+-- "a mode, class or unit that the table or count lacks"
+abbrev pub modesFit : Table → Session → Bool
+modesFit t z = all (λ (k : ℕ). all (λ (r : Strand ℕ). ltb (r .mode) (t .modes)) (strandsIn z k)) (levelNumbers z)
+
+abbrev pub classesFit : Table → Session → Bool
+classesFit t z = all (λ (k : ℕ). leb (classIn z k) (length (t .uris)) || (eqb (classIn z k) 254 || eqb (classIn z k) 255)) (levelNumbers z)
+
+abbrev pub targetFits : ℕ → Option ℕ → Bool
+targetFits units none = true
+targetFits units (some u) = ltb u units
+
+abbrev pub targetsFit : Session → Bool
+targetsFit z = all (λ (k : ℕ). all (λ (r : Strand ℕ). targetFits (z .units) (r .target)) (strandsIn z k)) (levelNumbers z)
+
+-- "a validate strand without a target"
+abbrev pub aims : Action → Option ℕ → Bool
+aims Attach target = true
+aims Unwrap target = true
+aims Validate none = false
+aims Validate (some u) = true
+
+abbrev pub validatesAim : Session → Bool
+validatesAim z = all (λ (k : ℕ). all (λ (r : Strand ℕ). aims (r .action) (r .target)) (strandsIn z k)) (levelNumbers z)
+
+-- "over 65,536 units"
+abbrev pub unitsFit : Session → Bool
+unitsFit z = leb (z .units) 65536
+
+-- "over 64 bindings or levels' counts that do not add up to them"
+abbrev pub boundFits : Session → Bool
+boundFits z = leb (z .scope .bound) 64
+
+abbrev pub countsAddUp : Session → Bool
+countsAddUp z = eqb (total (countIn (z .scope)) (levelNumbers z)) (z .scope .bound)
+
+-- "an awaited end at depth 0"
+abbrev pub awaitedFits : Session → Bool
+awaitedFits z = not (z .awaited) || not (eqb (z .scope .depth) 0)
+
+-- "a closed root at depth above 0"
+abbrev pub closedFits : Session → Bool
+closedFits z = not (z .closed) || eqb (z .scope .depth) 0
+
+unfoldable pub coherent : Table → List ℕ → Session → Bool
+coherent t s z =
+    depthFits z
+    && (boundFits z
+    && (placeInside s z
+    && (levelSpansInside s z
+    && (bindingSpansInside s z
+    && (namesFit s z
+    && (bindingsAllowed s z
+    && (prefixesFit s z
+    && (strandCountsFit z
+    && (modesFit t z
+    && (classesFit t z
+    && (targetsFit z
+    && (validatesAim z
+    && (unitsFit z && (countsAddUp z && (awaitedFits z && closedFits z)))))))))))))))

@@ -1,0 +1,82 @@
+-- Samples A to H, as one fact about the definitions, by computation.
+use Prim.Native.Nat.{ℕ, _+_, _*_, _-_}
+use mathlib.Core.Path.{_≡_, refl}
+use mathlib.Core.List.{List, [], _∷_, _++_}
+use lib.ListN.{length, drop, replicate}
+use Rattle.laws.specs.Lists.{sameList, any, all, anyPair, keep, tabulate}
+use Rattle.laws.specs.Over.{overwrite}
+use Rattle.laws.specs.Gather.{gather, total}
+use Rattle.laws.specs.Text.{bytes}
+use Rattle.laws.specs.Reading.{run}
+use Rattle.table.specs.Table.{urisFrom, rulesOf, listedFrom, classOf}
+use Rattle.table.specs.Judge.{judged, urisFill}
+use Rattle.table.specs.Examples.{T, T2}
+use Rattle.lexer.specs.Names.{startLen, nameLen, spacesEnd, partEnd, prefixedAt, nameAt}
+use Rattle.lexer.specs.Values.{common, wholeOf, furthest, noReference, referenceEnd, valueEnd}
+use Rattle.lexer.specs.Tags.{wanted, equalsEnd, quotedAt, attributeAt, slashAt, turnBehind, turnAt, attrsFrom, tagAt, endTagAt, tagBegins, beginInside, beginOutside, beginAt}
+use Rattle.lexer.specs.Whole.{isPart, isWholeName}
+use Rattle.reader.specs.Spans.{kindOf}
+use Rattle.reader.specs.Namespaces.{sameNamespace, refusedBinding, lookUp, ofPrefix, ofElement, resolved, meaningOf}
+use Rattle.reader.specs.Stored.{bindingIn}
+use Rattle.reader.specs.Scope.{nameIn, opensIn, closedOf}
+use Rattle.reader.specs.Events.{bindingsOf, colonEnd, partOf, next}
+use Rattle.model.specs.Stream.{written, after}
+use Rattle.model.specs.Elements.{spaceOf, attributeOf, elementOf, placed, sectionsFrom, sectionsOf}
+use Rattle.model.specs.Records.{recordBytes, attributeUnits, kept, startBodies}
+use Rattle.dispatcher.specs.Sessions.{strandIn, packed, levelUri, strandsIn, levelIn, levelsIn}
+use Rattle.dispatcher.specs.Coherence.{coherent}
+use Rattle.dispatcher.specs.Stepping.{Run, answered, planOf, startPlan, stepOf, runFrom, runOf}
+
+-- room for 20 records
+abbrev blank : List ℕ
+blank = replicate 320 7
+
+-- a record's bytes, from its seven fields
+abbrev row : ℕ → ℕ → ℕ → ℕ → ℕ → ℕ → ℕ → List ℕ
+row unit kind class at len uriAt uriLen =
+    recordBytes unit (record { kind = kind; class = class; at = at; len = len; uriAt = uriAt; uriLen = uriLen })
+
+abbrev joined : List (List ℕ) → List ℕ
+joined [] = []
+joined (r ∷ rs) = r ++ joined rs
+
+-- a run's answer, and its output: the records, and the bytes past them as they were
+abbrev ran : ℕ → ℕ → ℕ → List (List ℕ) → Run
+ran number place events rows =
+    record { answer = answered number place events (length rows); output = joined rows ++ drop (16 * length rows) blank }
+
+-- Sample A
+abbrev SampleA : Type 0
+SampleA = runOf T (bytes "<r xmlns=\"u\">a<x/></r>") blank ≡ ran 9 22 5 (row 0 0 0 0 0 0 0 ∷ row 0 1 1 1 1 0 0 ∷ row 0 4 0 13 1 0 0 ∷ row 0 1 1 15 1 0 0 ∷ row 0 5 1 15 1 0 0 ∷ row 0 5 1 20 1 0 0 ∷ row 0 6 0 0 0 0 0 ∷ [])
+
+-- Sample B: the empty scene
+abbrev SampleB : Type 0
+SampleB = runOf T [] blank ≡ ran 1 0 0 []
+
+-- Sample C
+abbrev SampleC : Type 0
+SampleC = runOf T (bytes "<r/>") blank ≡ ran 9 4 2 []
+
+-- Sample D
+abbrev SampleD : Type 0
+SampleD = runOf T2 (bytes "<r xmlns=\"u\"><x xmlns=\"v\"/></r>") blank ≡ ran 9 31 4 (row 0 0 0 0 0 0 0 ∷ row 0 1 1 1 1 0 0 ∷ row 1 0 1 13 0 0 0 ∷ row 1 1 2 14 1 0 0 ∷ row 0 1 2 14 1 0 0 ∷ row 1 5 2 14 1 0 0 ∷ row 1 6 0 0 0 0 0 ∷ row 0 5 2 14 1 0 0 ∷ row 0 5 1 29 1 0 0 ∷ row 0 6 0 0 0 0 0 ∷ [])
+
+-- Sample E
+abbrev SampleE : Type 0
+SampleE = runOf T2 (bytes "<r xmlns=\"u\">a<w xmlns=\"q\">b<x xmlns=\"v\"/></w>c</r>") blank ≡ ran 9 51 9 (row 0 0 0 0 0 0 0 ∷ row 0 1 1 1 1 0 0 ∷ row 0 4 0 13 1 0 0 ∷ row 1 0 1 28 0 0 0 ∷ row 1 1 2 29 1 0 0 ∷ row 0 1 2 29 1 0 0 ∷ row 1 5 2 29 1 0 0 ∷ row 1 6 0 0 0 0 0 ∷ row 0 5 2 29 1 0 0 ∷ row 0 4 0 46 1 0 0 ∷ row 0 5 1 49 1 0 0 ∷ row 0 6 0 0 0 0 0 ∷ [])
+
+-- Sample F
+abbrev SampleF : Type 0
+SampleF = runOf T (bytes "<r></s>") blank ≡ ran 4 3 1 []
+
+-- Sample G
+abbrev SampleG : Type 0
+SampleG = runOf T (bytes "<p:r/>") blank ≡ ran 5 0 0 []
+
+-- Sample H
+abbrev SampleH : Type 0
+SampleH = (runOf T (bytes "<r/") blank ≡ ran 1 3 0 []) × (runOf T (bytes "<r/x") blank ≡ ran 2 3 0 [])
+
+pub samples : SampleA × SampleB × SampleC × SampleD × SampleE × SampleF × SampleG × SampleH
+unfolding runOf runFrom stepOf planOf startPlan coherent strandIn packed levelUri strandsIn levelIn levelsIn judged urisFill all bindingIn nameIn opensIn closedOf overwrite isPart isWholeName recordBytes written after rulesOf listedFrom classOf urisFrom keep tabulate total attributeUnits startBodies kept placed sectionsFrom sectionsOf spaceOf attributeOf elementOf next bindingsOf colonEnd partOf meaningOf resolved ofElement ofPrefix lookUp sameNamespace refusedBinding kindOf sameList any anyPair gather beginAt beginOutside beginInside tagBegins endTagAt tagAt attrsFrom turnAt turnBehind slashAt attributeAt quotedAt equalsEnd wanted valueEnd referenceEnd noReference furthest wholeOf common nameAt prefixedAt partEnd nameLen startLen spacesEnd run
+samples = (refl, refl, refl, refl, refl, refl, refl, (refl, refl))

@@ -1,0 +1,146 @@
+-- "A session holds ..": what a session's numbers mean. Every number means something, so that number 20 has nothing to say of packing. Definitions.
+use Prim.Native.Nat.{ℕ, zero, suc, _+_, _*_, _-_, _/_, _%_, _^_}
+use mathlib.Core.List.{List, [], _∷_, map}
+use mathlib.Core.Bool.{Bool, true, false, cond}
+use mathlib.Core.Option.{Option, none, some}
+use lib.ListN.{getD, replicate, length}
+use lib.Dec.{eqb}
+use Rattle.laws.specs.Lists.{tabulate}
+use Rattle.laws.specs.Over.{overwrite}
+use Rattle.laws.specs.Gather.{gather}
+use Rattle.compare.specs.Compare.{xmlUri}
+use Rattle.table.specs.Table.{Table, actionOf}
+use Rattle.table.specs.declared.Action.{Action}
+use Rattle.table.specs.declared.Action.the-variants.{Attach, Unwrap, Validate}
+use Rattle.reader.specs.declared.Span.{Span}
+use Rattle.reader.specs.declared.Binding.{Binding}
+use Rattle.reader.specs.Spans.{span, bytesOf}
+use Rattle.reader.specs.Stored.{narrowed, numbersOf}
+use Rattle.reader.specs.Scope.{freshScope, nameIn, opensOf, withLevel, closedOf}
+use Rattle.reader.specs.Events.{ReaderState, partOf}
+use Rattle.model.specs.Elements.{Space}
+use Rattle.model.specs.Records.{OpenElement}
+use Rattle.model.specs.Theory.{Strand}
+use Rattle.model.specs.Stream.{Level, State}
+use Rattle.model.specs.Dispatch.{dispatch}
+use Rattle.dispatcher.specs.declared.Session.{Session}
+
+-- a strand in a number: mode 5 bits, action 2, opened here 1, has a target 1, target 16, from the lowest on
+unfoldable pub strandIn : ℕ → Strand ℕ
+strandIn w =
+    record {
+      mode = w % 2 ^ 5;
+      action = actionOf (w / 2 ^ 5 % 2 ^ 2);
+      target = cond (eqb (w / 2 ^ 8 % 2) 1) (some (w / 2 ^ 9 % 2 ^ 16)) none;
+      here = eqb (w / 2 ^ 7 % 2) 1;
+    }
+
+abbrev pub actionNumber : Action → ℕ
+actionNumber Attach = 0
+actionNumber Unwrap = 1
+actionNumber Validate = 2
+
+abbrev pub targetNumber : Option ℕ → ℕ
+targetNumber none = 0
+targetNumber (some u) = 2 ^ 8 + u * 2 ^ 9
+
+abbrev pub hereNumber : Bool → ℕ
+hereNumber false = 0
+hereNumber true = 2 ^ 7
+
+unfoldable pub packed : Strand ℕ → ℕ
+packed r = r .mode + actionNumber (r .action) * 2 ^ 5 + hereNumber (r .here) + targetNumber (r .target)
+
+-- the URI of a level: class 0 the empty one, 1 to N the table's, 254 xml's, 255 the bytes of its span
+unfoldable pub levelUri : Table → List ℕ → ℕ → Span → List ℕ
+levelUri t s class w =
+    cond (eqb class 0) [] (cond (eqb class 254) xmlUri (cond (eqb class 255) (bytesOf s w) (getD (t .uris) (class - 1) [])))
+
+-- "class and URI span as a start record has them", and the strands
+abbrev pub classIn : Session → ℕ → ℕ
+classIn z k = getD (z .spaces) (4 * k) 0
+
+abbrev pub uriIn : Session → ℕ → Span
+uriIn z k = span (getD (z .spaces) (4 * k + 1) 0) (getD (z .spaces) (4 * k + 2) 0)
+
+abbrev pub strandCount : Session → ℕ → ℕ
+strandCount z k = getD (z .spaces) (4 * k + 3) 0
+
+unfoldable pub strandsIn : Session → ℕ → List (Strand ℕ)
+strandsIn z k = map strandIn (tabulate (λ (i : ℕ). getD (z .strands) i 0) (16 * k) (strandCount z k))
+
+-- the k-th level as the stream has it
+unfoldable pub levelIn : (t : Table) → List ℕ → Session → ℕ → Level (dispatch t)
+levelIn t s z k =
+    record {
+      at =
+          record {
+            part = partOf s (nameIn (z .scope .levels) k);
+            space = record { class = classIn z k; uri = uriIn z k; bytes = levelUri t s (classIn z k) (uriIn z k) };
+          };
+      strands = strandsIn z k;
+    }
+
+-- the first so many levels, innermost first
+unfoldable pub levelsIn : (t : Table) → List ℕ → Session → ℕ → List (Level (dispatch t))
+levelsIn t s z zero = []
+levelsIn t s z (suc k) = levelIn t s z k ∷ levelsIn t s z k
+
+-- What a session holds: the reader's state, and the stream's
+abbrev pub readerOf : Session → ReaderState
+readerOf z = record { place = z .place; closed = z .closed; awaited = z .awaited; opened = opensOf (z .scope) }
+
+abbrev pub stateOf : (t : Table) → List ℕ → Session → State (dispatch t)
+stateOf t s z = record { levels = levelsIn t s z (z .scope .depth); units = z .units }
+
+-- "Fresh is place 0, no unit opened, nothing open, no root closed"
+abbrev pub freshOf : Session
+freshOf =
+    record {
+      place = 0;
+      units = 0;
+      closed = false;
+      awaited = false;
+      scope = freshScope;
+      spaces = replicate 256 0;
+      strands = replicate 1024 0;
+    }
+
+-- the session behind a text, an end and a start: what is not named keeps its value
+abbrev pub withPlace : Session → ℕ → Session
+withPlace z place =
+    record {
+      place = place;
+      units = z .units;
+      closed = z .closed;
+      awaited = z .awaited;
+      scope = z .scope;
+      spaces = z .spaces;
+      strands = z .strands;
+    }
+
+abbrev pub withEnd : Session → ℕ → Bool → Session
+withEnd z place closed =
+    record {
+      place = place;
+      units = z .units;
+      closed = closed;
+      awaited = false;
+      scope = closedOf (z .scope);
+      spaces = z .spaces;
+      strands = z .strands;
+    }
+
+abbrev pub withStart : Session → ℕ → Bool → ℕ → Span → List Binding → Space → List (Strand ℕ) → Session
+withStart z place awaited units name own space strands =
+    record {
+      place = place;
+      units = units;
+      closed = false;
+      awaited = awaited;
+      scope = withLevel (z .scope) name (gather numbersOf own) (length own);
+      spaces =
+          overwrite (z .spaces) (4 * z .scope .depth)
+          (narrowed (space .class) ∷ narrowed (space .uri .at) ∷ narrowed (space .uri .len) ∷ length strands ∷ []);
+      strands = overwrite (z .strands) (16 * z .scope .depth) (map packed strands);
+    }

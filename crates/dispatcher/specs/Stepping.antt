@@ -1,0 +1,118 @@
+-- 'Calls' and 'From the input', 'From the state': what step and run hand back, for all arguments. Definitions.
+use Prim.Native.Nat.{ℕ, zero, suc, _+_, _*_}
+use mathlib.Core.List.{List, [], _∷_, _++_, map}
+use mathlib.Core.Bool.{Bool, true, false, cond, not}
+use lib.ListN.{length, take, drop}
+use lib.Dec.{leb, ltb, eqb}
+use Rattle.laws.specs.Over.{overwrite}
+use Rattle.laws.specs.Gather.{gather}
+use Rattle.table.specs.Table.{Table, decode}
+use Rattle.table.specs.Judge.{judged}
+use Rattle.table.specs.declared.Answer.{Answer}
+use Rattle.reader.specs.declared.Span.{Span}
+use Rattle.reader.specs.Events as scene
+use Rattle.model.specs.Theory.{Record}
+use Rattle.model.specs.Tree.{start, text, end}
+use Rattle.model.specs.Elements.{elementOf}
+use Rattle.model.specs.Records.{Body}
+use Rattle.model.specs.Stream.{Entry, enter, entered, written, after}
+use Rattle.model.specs.Dispatch.{dispatch, bytesOf}
+use Rattle.dispatcher.specs.Sessions.{readerOf, stateOf, freshOf, withPlace, withEnd, withStart}
+use Rattle.dispatcher.specs.Coherence.{coherent}
+use Rattle.dispatcher.specs.declared.Session.{Session}
+
+-- What a coherent session does next: a refusal and its place; 9 and its place; or an event: the place that 25 would have, its records, and the
+-- session behind it. No output comes into it
+pub data Plan : Type 0 where
+  refused : ℕ → ℕ → Plan
+  finished : ℕ → Plan
+  event : ℕ → List (Record Body ℕ) → Session → Plan
+
+-- "21 depth 65; 22 a 65th open binding; 23 a 17th strand; 24 a unit past 65,535 (< of the tag)", in this order
+unfoldable pub startPlan : Table → List ℕ → Session → scene.Start → scene.Open → ℕ → Plan
+startPlan t s z e o place =
+    let σ = elementOf t s e in
+    let state = stateOf t s z in
+    let behind = after (dispatch t) state (start σ) in
+    cond (leb 64 (z .scope .depth)) (refused 21 (e .at))
+    (cond (ltb 64 (z .scope .bound + length (o .declarations))) (refused 22 (e .at))
+    (cond (ltb 16 (length (enter (dispatch t) (state .levels) σ))) (refused 23 (e .at))
+    (cond (ltb 65536 (behind .units)) (refused 24 (e .at))
+    (event (e .at) (written (dispatch t) state (start σ))
+    (withStart z place (e .empty) (behind .units) (e .name) (o .declarations) (σ .space) (map (λ (e : Entry). e .strand) (entered (dispatch t) state σ)))))))
+
+-- of what the reader reads next
+abbrev pub opensPlan : Table → List ℕ → Session → scene.Start → ℕ → List scene.Open → Plan
+opensPlan t s z e place [] = refused 20 0
+opensPlan t s z e place (o ∷ os) = startPlan t s z e o place
+
+abbrev pub eventPlan : Table → List ℕ → Session → scene.Event → scene.ReaderState → Plan
+eventPlan t s z (scene.start e) z′ = opensPlan t s z e (z′ .place) (z′ .opened)
+eventPlan t s z (scene.text w) z′ =
+    event (w .at) (written (dispatch t) (stateOf t s z) (text w)) (withPlace z (z′ .place))
+eventPlan t s z (scene.end part at) z′ =
+    event at (written (dispatch t) (stateOf t s z) (end part)) (withEnd z (z′ .place) (z′ .closed))
+
+abbrev pub planBy : Table → List ℕ → Session → scene.Next → Plan
+planBy t s z (scene.event e z′) = eventPlan t s z e z′
+planBy t s z (scene.refusal n p) = refused n p
+planBy t s z (scene.finished p) = finished p
+
+unfoldable pub planOf : Table → List ℕ → Session → Plan
+planOf t s z = planBy t s z (scene.next s (readerOf z))
+
+-- What a step hands back: the answer, the session, and the output
+pub record Step : Type 0 where
+  pub answer : Answer
+  pub session : Session
+  pub output : List ℕ
+
+abbrev pub answered : ℕ → ℕ → ℕ → ℕ → Answer
+answered number place events records = record { number = number; place = place; events = events; records = records }
+
+-- "A step with any number but 0 returns the session unchanged and writes nothing"
+abbrev pub refusedStep : ℕ → ℕ → Session → List ℕ → Step
+refusedStep number place z out = record { answer = answered number place 0 0; session = z; output = out }
+
+-- "25 the event's records exceed the output"; "records from the output's first byte", "Output bytes past the records keep their values"
+abbrev pub eventStep : ℕ → List (Record Body ℕ) → Session → Session → List ℕ → Step
+eventStep at records next z out =
+    cond (ltb (length out) (16 * length records)) (refusedStep 25 at z out)
+    (record { answer = answered 0 (next .place) 1 (length records); session = next; output = overwrite out 0 (gather bytesOf records) })
+
+abbrev pub planned : Plan → Session → List ℕ → Step
+planned (refused n p) z out = refusedStep n p z out
+planned (finished p) z out = refusedStep 9 p z out
+planned (event at records next) z out = eventStep at records next z out
+
+-- "7 scene over 16,777,215 bytes (0)"
+abbrev pub longest : ℕ
+longest = 16777215
+
+-- "Order: 10 short, 11 header, 10, 11, 12, 7, 20; then 2, 3 or 1 by first byte; then 4; 5, 6, 21, 22, 23, 24; 25"
+unfoldable pub stepOf : List ℕ → List ℕ → Session → List ℕ → Step
+stepOf table s z out =
+    cond (not (eqb (judged table .number) 0)) (refusedStep (judged table .number) (judged table .place) z out)
+    (cond (ltb longest (length s)) (refusedStep 7 0 z out)
+    (cond (not (coherent (decode table) s z)) (refusedStep 20 0 z out)
+    (planned (planOf (decode table) s z) z out)))
+
+-- What a run hands back: the answer and the output
+pub record Run : Type 0 where
+  pub answer : Answer
+  pub output : List ℕ
+
+-- "Run: steps from fresh, records joined, until a step's number is not 0": at most so many steps, each lent the output from the used bytes on
+unfoldable pub runFrom : ℕ → List ℕ → List ℕ → Session → List ℕ → ℕ → ℕ → ℕ → Run
+runFrom zero table s z out used events records = record { answer = answered 0 (z .place) events records; output = out }
+runFrom (suc n) table s z out used events records =
+    let r = stepOf table s z (drop used out) in
+    let whole = take used out ++ r .output in
+    let more =
+    runFrom n table s (r .session) whole (used + 16 * r .answer .records) (events + 1) (records + r .answer .records) in
+    cond (eqb (r .answer .number) 0) more
+    (record { answer = answered (r .answer .number) (r .answer .place) events records; output = whole })
+
+-- each event reads a byte or ends an awaited end, so that many steps suffice
+unfoldable pub runOf : List ℕ → List ℕ → List ℕ → Run
+runOf table s out = runFrom (2 * length s + 2) table s freshOf out 0 0 0

@@ -1,0 +1,32 @@
+-- "Another call on a table and scene gives the URI of a record's class and span". Definitions.
+use Prim.Native.Nat.{ℕ, _+_}
+use mathlib.Core.List.{List}
+use mathlib.Core.Bool.{Bool, cond, not, _&&_, _||_}
+use lib.ListN.{length}
+use lib.Dec.{leb, ltb, eqb}
+use Rattle.compare.specs.Compare.{spanOf}
+use Rattle.table.specs.Table.{headerOf}
+use Rattle.table.specs.Judge.{judged}
+use Rattle.table.specs.Places.{placeOf}
+use Rattle.dispatcher.specs.declared.UriSpan.{UriSpan}
+use Rattle.dispatcher.specs.declared.Source.{Source}
+use Rattle.dispatcher.specs.declared.Source.the-variants.{Table, Scene}
+
+abbrev pub stands : Source → ℕ → ℕ → UriSpan
+stands source at len = record { source = source; at = at; len = len }
+
+-- "the table's own bytes for a listed class, the scene's for 255 with a span inside it, else, or with a refused table, the empty part at the
+-- scene's start"
+unfoldable pub uriSpanOf : List ℕ → List ℕ → ℕ → ℕ → ℕ → UriSpan
+uriSpanOf table s class at len =
+    let h = headerOf table in
+    cond (not (eqb (judged table .number) 0)) (stands Scene 0 0)
+    (cond (leb 1 class && leb class (h .namespaces)) (stands Table (placeOf table h class .at) (placeOf table h class .len))
+    (cond (eqb class 255 && leb (at + len) (length s)) (stands Scene at len) (stands Scene 0 0)))
+
+abbrev pub partBy : List ℕ → List ℕ → Source → ℕ → ℕ → List ℕ
+partBy table s Table at len = spanOf table at len
+partBy table s Scene at len = spanOf s at len
+
+unfoldable pub uriOf : List ℕ → List ℕ → ℕ → ℕ → ℕ → List ℕ
+uriOf table s class at len = let w = uriSpanOf table s class at len in partBy table s (w .source) (w .at) (w .len)
