@@ -1,0 +1,13 @@
+pub mod Goes
+pub mod CoherentHeld
+pub mod Refusals
+pub mod RefusedByte
+pub mod Bytes
+pub mod Prefixes
+pub mod Expected
+pub mod Reached
+pub mod Outcomes
+pub mod Steps
+pub mod Runs
+pub mod Accepted
+pub mod Samples

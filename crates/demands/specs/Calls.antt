@@ -1,0 +1,58 @@
+-- 'For demand 3': calls of step, each on the session that the one before handed back; their scenes, and the records that they hand out. Definitions.
+use Prim.Native.Nat.{ℕ, _*_}
+use mathlib.Core.Path.{_≡_}
+use mathlib.Core.List.{List, [], _∷_, _++_}
+use mathlib.Core.Bool.{Bool}
+use lib.ListN.{length, take}
+use lib.Dec.{eqb}
+use Rattle.laws.specs.Lists.{keep}
+use Rattle.laws.specs.Gather.{gather}
+use Rattle.dispatcher.specs.Stepping.{Step, stepOf}
+use Rattle.dispatcher.specs.declared.Session.{Session}
+
+-- A call: its scene and its output
+pub record Call : Type 0 where
+  pub scene : List ℕ
+  pub output : List ℕ
+
+-- each scene begins with the one before
+abbrev pub BeginsWith : List ℕ → List ℕ → Type 0
+BeginsWith s first = (rest : List ℕ) × (s ≡ first ++ rest)
+
+abbrev pub GrowingFrom : List ℕ → List Call → Type 0
+GrowingFrom before [] = Unit {0}
+GrowingFrom before (c ∷ cs) = BeginsWith (c .scene) before × GrowingFrom (c .scene) cs
+
+abbrev pub Growing : List Call → Type 0
+Growing [] = Unit {0}
+Growing (c ∷ cs) = GrowingFrom (c .scene) cs
+
+-- the last call's scene; the empty one where there is no call
+abbrev pub lastFrom : List ℕ → List Call → List ℕ
+lastFrom before [] = before
+lastFrom before (c ∷ cs) = lastFrom (c .scene) cs
+
+abbrev pub lastScene : List Call → List ℕ
+lastScene cs = lastFrom [] cs
+
+-- what the calls hand back: each steps the session that the one before handed back
+unfoldable pub stepsFrom : List ℕ → Session → List Call → List Step
+stepsFrom table z [] = []
+stepsFrom table z (c ∷ cs) =
+    let r = stepOf table (c .scene) z (c .output) in
+    r ∷ stepsFrom table (r .session) cs
+
+-- "an accepted step is one that gives 0"
+abbrev pub isAccepted : Step → Bool
+isAccepted r = eqb (r .answer .number) 0
+
+abbrev pub acceptedIn : List Step → ℕ
+acceptedIn rs = length (keep isAccepted rs)
+
+-- "Its records are the first bytes of its output, 16 for each record that it counts, as it hands them back"
+abbrev pub recordsOf : Step → List ℕ
+recordsOf r = take (16 * r .answer .records) (r .output)
+
+-- "joined is in the list's order"
+unfoldable pub joinedOf : List Step → List ℕ
+joinedOf rs = gather recordsOf (keep isAccepted rs)
