@@ -147,15 +147,14 @@ module _ (s : List ℕ) (z : Session) (c : Cleared s z) where
   opens-held zero bound d b e = tt
   opens-held (suc k) bound d b e =
       let count = getD (z .scope .levels) (3 * k + 2) 0 in
-      let level = level-held k (omega arith) in
-      (
+      let level = level-held k (omega arith) in (
         record {
           behind = level .0;
           inside = level .1;
           named = level .2;
           declarations = each-tabulated (bindingIn (z .scope .bindings)) (BindingHeld s) (bound - count) count (λ i l. binding-held i (omega arith));
         },
-        opens-held k (bound - count) (omega arith) (omega arith) (omega arith)
+        opens-held k (bound - count) (omega arith) (omega arith) (omega arith),
       )
 
   counted : countOf (z .scope .levels) (z .scope .depth) ≡ z .scope .bound

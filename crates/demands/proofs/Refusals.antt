@@ -247,8 +247,7 @@ module _ (table s : List ℕ) (z : Session) (out : List ℕ) where
   writes (no-room r p rs z″ q l) n = absurd (omega arith)
   writes (written r p rs z″ q l) n =
       let size : length (gather bytesOf rs) ≡ 16 * length rs = records-length rs in
-      let from : 0 + length (gather bytesOf rs) ≡ 16 * length rs = omega arith in
-      (
+      let from : 0 + length (gather bytesOf rs) ≡ 16 * length rs = omega arith in (
         r,
         record {
           at = p;
@@ -262,7 +261,7 @@ module _ (table s : List ℕ) (z : Session) (out : List ℕ) where
           bytes = size;
           rest = subst (λ (k : ℕ). drop k (overwrite out 0 (gather bytesOf rs)) ≡ drop k out) from (drop-over out 0 (gather bytesOf rs) (omega arith));
           size = length-over out 0 (gather bytesOf rs) (omega arith);
-        }
+        },
       )
 
   pub refused-keeps : (stepOf table s z out .answer .number ≡ 0 → ⊥) → Unchanged z out (stepOf table s z out)

@@ -3,3 +3,4 @@ pub mod Coherence
 pub mod Stepping
 pub mod Uris
 pub mod CoherenceExamples
+pub mod StepExamples
