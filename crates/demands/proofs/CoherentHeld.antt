@@ -1,35 +1,38 @@
 -- A coherent session holds a reader's state: its spans lie inside the scene, its names are names, its declarations are none that 5 refuses.
---     all-tabulated, each-tabulated     what a list of f k, f (k + 1), .. says of each
+--     all-tabulated, tabulated-all, each-tabulated     what a list of f k, f (k + 1), .. says of each, and back
+--     Cleared, cleared, cleared-coherent               coherence clause by clause
 --     coherent-held
+--     coherent-more                                    more bytes behind the scene
 use Prim.Native.Nat.{ℕ, zero, suc, _+_, _-_, _*_, _≤_, _<_}
 use mathlib.Core.Path.{_≡_, refl, sym, ap, ap₂, subst, _∙_}
-use mathlib.Core.List.{List, [], _∷_}
+use mathlib.Core.List.{List, [], _++_}
 use mathlib.Core.Bool.{Bool, true, false, not, _&&_, _||_}
 use mathlib.Core.Logic.{_⊎_, inl, inr, ⊎-elim}
 use native.Mathlib.Omega.{arith}
 use native.Mathlib.Numerals.{add-one}
 use native.Mathlib.Nat.{add-zero, zero-add}
-use borrow.Author.Tests.{eqb-true, leb-true, eqb-false, not-true}
-use lib.ListN.{length, getD}
-use lib.Dec.{leb, eqb}
+use borrow.Author.Tests.{eqb-true, leb-true, eqb-false, not-true, le-leb}
+use lib.ListN.{length, getD, length-append}
+use lib.Dec.{eqb}
 use Rattle.laws.specs.Reading.{le-or-lt}
 use Rattle.laws.specs.Lists.{all, tabulate}
 use Rattle.laws.specs.Gather.{total}
 use Rattle.laws.specs.Members.{All}
+use Rattle.laws.specs.Tests.{both}
 use Rattle.laws.proofs.Flags.{differ, and-left, and-right}
 use Rattle.laws.proofs.Gather.{total-append}
 use Rattle.table.specs.Table.{Table}
 use Rattle.lexer.specs.Whole.{isPart, isWholeName}
-use Rattle.reader.specs.declared.Span.{Span}
-use Rattle.reader.specs.declared.Binding.{Binding}
 use Rattle.reader.specs.Spans.{span, bytesOf}
 use Rattle.reader.specs.Namespaces.{refusedBinding}
 use Rattle.reader.specs.Stored.{bindingIn}
-use Rattle.reader.specs.Scope.{nameIn, countIn, opensIn, opensOf}
+use Rattle.reader.specs.Scope.{nameIn, countIn, opensIn}
 use Rattle.reader.specs.Counted.{countOf}
-use Rattle.reader.specs.Events.{Open}
-use Rattle.reader.specs.Held.{SpanHeld, BindingIn, BindingHeld, OpenHeld, Held}
+use Rattle.reader.specs.Held.{SpanHeld, BindingHeld, OpenHeld, Held}
+use Rattle.reader.specs.declared.Span.{Span}
+use Rattle.reader.specs.declared.Binding.{Binding}
 use Rattle.reader.proofs.Tabulated.{tabulate-append}
+use Rattle.reader.proofs.MoreBytes.{bytes-more, refused-more}
 use Rattle.dispatcher.specs.Sessions.{uriIn, readerOf}
 use Rattle.dispatcher.specs.Coherence.{levelNumbers, openBindings, depthFits, boundFits, placeInside, spanInside, levelSpansInside, bindingSpansInside, namesFit, bindingsAllowed, prefixFits, prefixesFit, strandCountsFit, modesFit, classesFit, targetsFit, validatesAim, unitsFit, countsAddUp, awaitedFits, closedFits, coherent}
 use Rattle.dispatcher.specs.declared.Session.{Session}
@@ -44,6 +47,11 @@ module _ {A : Type 0} (f : ℕ → A) where
       (λ le. let q : i ≡ k = omega arith in subst (λ (j : ℕ). p (f j) ≡ true) q (and-left (p (f i)) (all p (tabulate f (suc i) n)) e))
       (λ lt. all-tabulated p (suc i) n (and-right (p (f i)) (all p (tabulate f (suc i) n)) e) k lt (omega arith))
       (le-or-lt k i)
+
+  pub tabulated-all : (p : A → Bool) (i n : ℕ) → ((k : ℕ) → k < i + n → p (f k) ≡ true) → all p (tabulate f i n) ≡ true
+  unfolding all tabulate
+  tabulated-all p i zero h = refl
+  tabulated-all p i (suc n) h = both (p (f i)) (all p (tabulate f (suc i) n)) (h i (omega arith)) (tabulated-all p (suc i) n (λ k l. h k (omega arith)))
 
   pub each-tabulated : (P : A → Type 0) (i n : ℕ) → ((k : ℕ) → k < i + n → P (f k)) → All P (tabulate f i n)
   unfolding tabulate
@@ -62,19 +70,27 @@ total-numbers levels (suc n) =
     ∙ ap (λ (i : ℕ). total f (tabulate (λ (k : ℕ). k) 0 n) + i) (add-zero (f n))
     ∙ ap (λ (i : ℕ). i + f n) (total-numbers levels n)
 
--- the clauses that speak of what the reader holds
-record Cleared (s : List ℕ) (z : Session) : Type 0 where
-  place : placeInside s z ≡ true
-  spans : levelSpansInside s z ≡ true
-  bound : bindingSpansInside s z ≡ true
-  names : namesFit s z ≡ true
-  allowed : bindingsAllowed s z ≡ true
-  prefixes : prefixesFit s z ≡ true
-  counts : countsAddUp z ≡ true
-  awaited : awaitedFits z ≡ true
-  closed : closedFits z ≡ true
+-- the clauses
+pub record Cleared (t : Table) (s : List ℕ) (z : Session) : Type 0 where
+  pub depth : depthFits z ≡ true
+  pub few : boundFits z ≡ true
+  pub place : placeInside s z ≡ true
+  pub spans : levelSpansInside s z ≡ true
+  pub bound : bindingSpansInside s z ≡ true
+  pub names : namesFit s z ≡ true
+  pub allowed : bindingsAllowed s z ≡ true
+  pub prefixes : prefixesFit s z ≡ true
+  pub strands : strandCountsFit z ≡ true
+  pub modes : modesFit t z ≡ true
+  pub classes : classesFit t z ≡ true
+  pub targets : targetsFit z ≡ true
+  pub aims : validatesAim z ≡ true
+  pub units : unitsFit z ≡ true
+  pub counts : countsAddUp z ≡ true
+  pub awaited : awaitedFits z ≡ true
+  pub closed : closedFits z ≡ true
 
-cleared : (t : Table) (s : List ℕ) (z : Session) → coherent t s z ≡ true → Cleared s z
+pub cleared : (t : Table) (s : List ℕ) (z : Session) → coherent t s z ≡ true → Cleared t s z
 unfolding coherent
 cleared t s z e =
     let e1 = and-right (depthFits z) _ e in
@@ -93,16 +109,45 @@ cleared t s z e =
     let e14 = and-right (unitsFit z) _ e13 in
     let e15 = and-right (countsAddUp z) _ e14 in
     record {
+      depth = and-left (depthFits z) _ e;
+      few = and-left (boundFits z) _ e1;
       place = and-left (placeInside s z) _ e2;
       spans = and-left (levelSpansInside s z) _ e3;
       bound = and-left (bindingSpansInside s z) _ e4;
       names = and-left (namesFit s z) _ e5;
       allowed = and-left (bindingsAllowed s z) _ e6;
       prefixes = and-left (prefixesFit s z) _ e7;
+      strands = and-left (strandCountsFit z) _ e8;
+      modes = and-left (modesFit t z) _ e9;
+      classes = and-left (classesFit t z) _ e10;
+      targets = and-left (targetsFit z) _ e11;
+      aims = and-left (validatesAim z) _ e12;
+      units = and-left (unitsFit z) _ e13;
       counts = and-left (countsAddUp z) _ e14;
       awaited = and-left (awaitedFits z) _ e15;
       closed = and-right (awaitedFits z) _ e15;
     }
+
+pub cleared-coherent : (t : Table) (s : List ℕ) (z : Session) → Cleared t s z → coherent t s z ≡ true
+unfolding coherent
+cleared-coherent t s z c =
+    both _ _ (c .depth)
+    (both _ _ (c .few)
+    (both _ _ (c .place)
+    (both _ _ (c .spans)
+    (both _ _ (c .bound)
+    (both _ _ (c .names)
+    (both _ _ (c .allowed)
+    (both _ _ (c .prefixes)
+    (both _ _ (c .strands)
+    (both _ _ (c .modes)
+    (both _ _ (c .classes)
+    (both _ _ (c .targets)
+    (both _ _ (c .aims)
+    (both _ _ (c .units)
+    (both _ _ (c .counts)
+    (both _ _ (c .awaited)
+    (c .closed))))))))))))))))
 
 prefix-part : (s : List ℕ) (w : Span) → prefixFits s w ≡ true → (w ≡ span 0 0) ⊎ (isPart (bytesOf s w) ≡ true)
 prefix-part s w e = by (eqb (w .at) 0 && eqb (w .len) 0) refl e
@@ -115,7 +160,7 @@ implied : (a b : Bool) → a ≡ true → (not a || b) ≡ true → b ≡ true
 implied true b e p = p
 implied false b e p = absurd (differ (sym e))
 
-module _ (s : List ℕ) (z : Session) (c : Cleared s z) where
+module _ (t : Table) (s : List ℕ) (z : Session) (c : Cleared t s z) where
   level-held : (k : ℕ) → k < z .scope .depth → (0 < nameIn (z .scope .levels) k .at) × SpanHeld s (nameIn (z .scope .levels) k) × (isWholeName (bytesOf s (nameIn (z .scope .levels) k)) ≡ true)
   level-held k l =
       let w = nameIn (z .scope .levels) k in
@@ -178,4 +223,63 @@ module _ (s : List ℕ) (z : Session) (c : Cleared s z) where
       }
 
 pub coherent-held : (t : Table) (s : List ℕ) (z : Session) → coherent t s z ≡ true → Held s (readerOf z)
-coherent-held t s z e = cleared-held s z (cleared t s z e)
+coherent-held t s z e = cleared-held t s z (cleared t s z e)
+
+-- ---- more bytes
+pub coherent-more : (t : Table) (s u : List ℕ) (z : Session) → coherent t s z ≡ true → coherent t (s ++ u) z ≡ true
+coherent-more t s u z e =
+    cleared-coherent t (s ++ u) z
+    (record {
+      depth = c .depth;
+      few = c .few;
+      place = le-leb (z .place) (length (s ++ u)) (longer (z .place) (leb-true (z .place) (length s) (c .place)));
+      spans = levels (λ (k : ℕ). spanInside (s ++ u) (name k) && spanInside (s ++ u) (uriIn z k)) (λ k l. let h = spans k l in both _ _ (span-longer (name k) (h .0)) (span-longer (uriIn z k) (h .1)));
+      bound = bindings (λ (b : Binding). spanInside (s ++ u) (b .prefix) && spanInside (s ++ u) (b .uri)) (λ k l. let h = held k l .inside in both _ _ (span-longer (binding k .prefix) (h .prefix)) (span-longer (binding k .uri) (h .uri)));
+      names = levels (λ (k : ℕ). not (eqb (name k .at) 0) && isWholeName (bytesOf (s ++ u) (name k))) (λ k l. rw (bytes-more s u (name k) (spans k l .0)) (names k l));
+      allowed = bindings (λ (b : Binding). not (refusedBinding (s ++ u) b)) (λ k l. rw (refused-more s u (binding k) (held k l .inside), held k l .fits));
+      prefixes = bindings (λ (b : Binding). prefixFits (s ++ u) (b .prefix)) (λ k l. rw (bytes-more s u (binding k .prefix) (held k l .inside .prefix)) (prefixes k l));
+      strands = c .strands;
+      modes = c .modes;
+      classes = c .classes;
+      targets = c .targets;
+      aims = c .aims;
+      units = c .units;
+      counts = c .counts;
+      awaited = c .awaited;
+      closed = c .closed;
+    })
+  where
+    c : Cleared t s z
+    c = cleared t s z e
+
+    name : ℕ → Span
+    name = nameIn (z .scope .levels)
+
+    binding : ℕ → Binding
+    binding = bindingIn (z .scope .bindings)
+
+    longer : (n : ℕ) → n ≤ length s → n ≤ length (s ++ u)
+    longer n l = simp length-append (omega arith)
+
+    span-longer : (w : Span) → SpanHeld s w → spanInside (s ++ u) w ≡ true
+    span-longer w h = le-leb (w .at + w .len) (length (s ++ u)) (longer (w .at + w .len) h)
+
+    levels : (p : ℕ → Bool) → ((k : ℕ) → k < z .scope .depth → p k ≡ true) → all p (levelNumbers z) ≡ true
+    levels p f = tabulated-all (λ (k : ℕ). k) p 0 (z .scope .depth) (λ k l. f k (omega arith))
+
+    bindings : (p : Binding → Bool) → ((k : ℕ) → k < z .scope .bound → p (binding k) ≡ true) → all p (openBindings z) ≡ true
+    bindings p f = tabulated-all binding p 0 (z .scope .bound) (λ k l. f k (omega arith))
+
+    spans : (k : ℕ) → k < z .scope .depth → SpanHeld s (name k) × SpanHeld s (uriIn z k)
+    spans k l =
+        let h : (spanInside s (name k) && spanInside s (uriIn z k)) ≡ true = all-tabulated (λ (k : ℕ). k) _ 0 (z .scope .depth) (c .spans) k (omega arith) (omega arith) in
+        (leb-true (name k .at + name k .len) (length s) (and-left (spanInside s (name k)) _ h), leb-true (uriIn z k .at + uriIn z k .len) (length s) (and-right (spanInside s (name k)) _ h))
+
+    names : (k : ℕ) → k < z .scope .depth → (not (eqb (name k .at) 0) && isWholeName (bytesOf s (name k))) ≡ true
+    names k l = all-tabulated (λ (k : ℕ). k) _ 0 (z .scope .depth) (c .names) k (omega arith) (omega arith)
+
+    held : (k : ℕ) → k < z .scope .bound → BindingHeld s (binding k)
+    held = binding-held t s z c
+
+    prefixes : (k : ℕ) → k < z .scope .bound → prefixFits s (binding k .prefix) ≡ true
+    prefixes k l = all-tabulated binding _ 0 (z .scope .bound) (c .prefixes) k (omega arith) (omega arith)

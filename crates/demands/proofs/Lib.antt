@@ -1,6 +1,9 @@
 pub mod Goes
 pub mod CoherentHeld
 pub mod Refusals
+pub mod Late
+pub mod CompletedParts
+pub mod Completed
 pub mod RefusedByte
 pub mod Bytes
 pub mod Prefixes

@@ -3,11 +3,11 @@
 --     answered-by, answered-so         each step has a stage, and a stage has one answer
 --     refused-keeps, accepted-writes   what a step changes
 --     exactly-*                        when a number is given, and at what place
-use Prim.Native.Nat.{ℕ, zero, suc, _+_, _*_, _≤_, _<_}
+use Prim.Native.Nat.{ℕ, _+_, _*_, _≤_, _<_}
 use mathlib.Core.Path.{_≡_, refl, sym, ap, subst, _∙_}
-use mathlib.Core.List.{List, [], _∷_, _++_, map}
+use mathlib.Core.List.{List, [], _∷_}
 use mathlib.Core.Bool.{Bool, true, false, cond, not, _||_}
-use mathlib.Core.Logic.{_⊎_, inl, inr, ⊎-elim, _↔_}
+use mathlib.Core.Logic.{_⊎_, inl, inr, ⊎-elim}
 use native.Mathlib.Omega.{arith}
 use borrow.Author.Tests.{ltb-true, ltb-false, leb-true, leb-false, eqb-true, eqb-false, not-true, not-false, lt-ltb, le-ltb, le-leb, lt-leb, eq-eqb, ne-eqb}
 use lib.ListN.{length, drop, length-append}
@@ -21,16 +21,16 @@ use Rattle.table.specs.Table.{Table, decode, headerOf, wordsOf, urisOf}
 use Rattle.table.specs.Judge.{judged, said, headerFits, lengthFits, wordFits, isEmpty, rulesClash, urisClash}
 use Rattle.table.specs.declared.Answer.{Answer}
 use Rattle.reader.specs.Events as scene
-use Rattle.reader.proofs.Held.{NextHeld, next-held, Refused, numbered, cut-at}
+use Rattle.reader.proofs.Held.{NextHeld, next-held, numbered, cut-at}
 use Rattle.model.specs.Theory.{Record}
 use Rattle.model.specs.Tree.{start}
 use Rattle.model.specs.Elements.{elementOf}
 use Rattle.model.specs.Records.{Body, recordBytes}
-use Rattle.model.specs.Stream.{Entry, enter, after}
+use Rattle.model.specs.Stream.{enter, after}
 use Rattle.model.specs.Dispatch.{dispatch, bytesOf}
 use Rattle.dispatcher.specs.Sessions.{readerOf, stateOf}
 use Rattle.dispatcher.specs.Coherence.{coherent}
-use Rattle.dispatcher.specs.Stepping.{Plan, refused, finished, event, startPlan, opensPlan, eventPlan, planBy, planOf, Step, answered, refusedStep, eventStep, planned, longest, stepOf}
+use Rattle.dispatcher.specs.Stepping.{Plan, refused, finished, event, startPlan, opensPlan, planBy, planOf, Step, answered, refusedStep, eventStep, planned, longest, stepOf}
 use Rattle.dispatcher.specs.declared.Session.{Session}
 use Rattle.demands.proofs.Goes.{event-goes}
 use Rattle.demands.proofs.CoherentHeld.{coherent-held}
@@ -276,6 +276,11 @@ pub record Exactly (table s : List ℕ) (z : Session) (out : List ℕ) (n p : �
   pub when : C → stepOf table s z out ≡ refusedStep n p z out
   pub only : stepOf table s z out .answer .number ≡ n → C
 
+-- n, at each place p exactly where C p
+pub record ExactlyAt (table s : List ℕ) (z : Session) (out : List ℕ) (n : ℕ) (C : ℕ → Type 0) : Type 0 where
+  pub when : (p : ℕ) → C p → stepOf table s z out ≡ refusedStep n p z out
+  pub only : stepOf table s z out .answer .number ≡ n → C (stepOf table s z out .answer .place)
+
 module _ (table s : List ℕ) (z : Session) (out : List ℕ) where
   -- 10, 11 and 12
   pub exactly-table : (n : ℕ) → 10 ≤ n → n ≤ 12 → Exactly table s z out n (judged table .place) (judged table .number ≡ n)
@@ -325,9 +330,9 @@ module _ (table s : List ℕ) (z : Session) (out : List ℕ) where
   abbrev pub Unread : ℕ → ℕ → Type 0
   Unread n p = Ready table s z × (scene.next s (readerOf z) ≡ scene.refusal n p)
 
-  pub exactly-read : (n : ℕ) → 1 ≤ n → n ≤ 6 → Exactly table s z out n (stepOf table s z out .answer .place) (Unread n (stepOf table s z out .answer .place))
+  pub exactly-read : (n : ℕ) → 1 ≤ n → n ≤ 6 → ExactlyAt table s z out n (Unread n)
   exactly-read n lo hi =
-      record { when = λ c. answered-so table s z out (unread (c .0) n (stepOf table s z out .answer .place) (c .1) lo hi); only = by (answered-by table s z out) }
+      record { when = λ p c. answered-so table s z out (unread (c .0) n p (c .1) lo hi); only = by (answered-by table s z out) }
     where
       by : {r : Step} → Answered table s z out r → r .answer .number ≡ n → Unread n (r .answer .place)
       by (bad-table a b) e = absurd (omega arith)
@@ -342,8 +347,8 @@ module _ (table s : List ℕ) (z : Session) (out : List ℕ) where
   abbrev pub AllRead : ℕ → Type 0
   AllRead p = Ready table s z × (scene.next s (readerOf z) ≡ scene.finished p)
 
-  pub exactly-9 : Exactly table s z out 9 (stepOf table s z out .answer .place) (AllRead (stepOf table s z out .answer .place))
-  exactly-9 = record { when = λ c. answered-so table s z out (all-read (c .0) (stepOf table s z out .answer .place) (c .1)); only = by (answered-by table s z out) }
+  pub exactly-9 : ExactlyAt table s z out 9 AllRead
+  exactly-9 = record { when = λ p c. answered-so table s z out (all-read (c .0) p (c .1)); only = by (answered-by table s z out) }
     where
       by : {r : Step} → Answered table s z out r → r .answer .number ≡ 9 → AllRead (r .answer .place)
       by (bad-table a b) e = absurd (omega arith)
@@ -361,9 +366,9 @@ module _ (table s : List ℕ) (z : Session) (out : List ℕ) where
       Ready table s z
       × ((rs : List (Record Body ℕ)) × (z″ : Session) × (planOf (decode table) s z ≡ event p rs z″) × (length out < 16 * length rs))
 
-  pub exactly-25 : Exactly table s z out 25 (stepOf table s z out .answer .place) (NoRoom (stepOf table s z out .answer .place))
+  pub exactly-25 : ExactlyAt table s z out 25 NoRoom
   exactly-25 =
-      record { when = λ c. answered-so table s z out (no-room (c .0) (stepOf table s z out .answer .place) (c .1 .0) (c .1 .1) (c .1 .2) (c .1 .3)); only = by (answered-by table s z out) }
+      record { when = λ p c. answered-so table s z out (no-room (c .0) p (c .1 .0) (c .1 .1) (c .1 .2) (c .1 .3)); only = by (answered-by table s z out) }
     where
       by : {r : Step} → Answered table s z out r → r .answer .number ≡ 25 → NoRoom (r .answer .place)
       by (bad-table a b) e = absurd (omega arith)

@@ -1,3 +1,4 @@
 pub mod Calls
 pub mod Scenes
 pub mod Runs
+pub mod CallExamples

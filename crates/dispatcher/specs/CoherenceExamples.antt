@@ -1,5 +1,5 @@
 -- Number 20 by computation: for each clause a session that fails it alone, sessions that no clause refuses, and what a step makes of odd but coherent ones.
-use Prim.Native.Nat.{ℕ, _+_, _*_}
+use Prim.Native.Nat.{ℕ, _*_}
 use mathlib.Core.Path.{_≡_, refl}
 use mathlib.Core.List.{List, [], _∷_, _++_}
 use mathlib.Core.Bool.{Bool, true, false}
