@@ -36,6 +36,7 @@ use Rattle.reader.proofs.MoreBytes.{bytes-more, refused-more}
 use Rattle.dispatcher.specs.Sessions.{uriIn, readerOf}
 use Rattle.dispatcher.specs.Coherence.{levelNumbers, openBindings, depthFits, boundFits, placeInside, spanInside, levelSpansInside, bindingSpansInside, namesFit, bindingsAllowed, prefixFits, prefixesFit, strandCountsFit, modesFit, classesFit, targetsFit, validatesAim, unitsFit, countsAddUp, awaitedFits, closedFits, coherent}
 use Rattle.dispatcher.specs.declared.Session.{Session}
+use Rattle.dispatcher.proofs.SoundCoherent.{total-numbers}
 
 -- ---- a list of f k, f (k + 1), ..
 module _ {A : Type 0} (f : ℕ → A) where
@@ -57,18 +58,6 @@ module _ {A : Type 0} (f : ℕ → A) where
   unfolding tabulate
   each-tabulated P i zero h = tt
   each-tabulated P i (suc n) h = (h i (omega arith), each-tabulated P (suc i) n (λ k l. h k (omega arith)))
-
-total-numbers : (levels : List ℕ) (n : ℕ) → total (λ (k : ℕ). getD levels (3 * k + 2) 0) (tabulate (λ (k : ℕ). k) 0 n) ≡ countOf levels n
-unfolding total tabulate countOf
-total-numbers levels zero = refl
-total-numbers levels (suc n) =
-    let f : ℕ → ℕ = λ (k : ℕ). getD levels (3 * k + 2) 0 in
-    ap (λ (i : ℕ). total f (tabulate (λ (k : ℕ). k) 0 i)) (sym (add-one n))
-    ∙ ap (total f) (tabulate-append (λ (k : ℕ). k) 0 n 1)
-    ∙ total-append f (tabulate (λ (k : ℕ). k) 0 n) (tabulate (λ (k : ℕ). k) (0 + n) 1)
-    ∙ ap (λ (i : ℕ). total f (tabulate (λ (k : ℕ). k) 0 n) + (f i + 0)) (zero-add n)
-    ∙ ap (λ (i : ℕ). total f (tabulate (λ (k : ℕ). k) 0 n) + i) (add-zero (f n))
-    ∙ ap (λ (i : ℕ). i + f n) (total-numbers levels n)
 
 -- the clauses
 pub record Cleared (t : Table) (s : List ℕ) (z : Session) : Type 0 where

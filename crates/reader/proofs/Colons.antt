@@ -29,7 +29,7 @@ module _ (s : List ℕ) (i v : ℕ) (inv : colonEnd i (drop i s) ≡ v) where
   unfolding colonEnd
   none l = simp (← inv, drop-out)
 
-colon-in : (k : ℕ) (l : List ℕ) → colonEnd k l ≤ k + length l
+pub colon-in : (k : ℕ) (l : List ℕ) → colonEnd k l ≤ k + length l
 unfolding colonEnd
 colon-in k [] = omega arith
 colon-in k (b ∷ l) = by (eqb b 0x3A) (colon-in (k + 1) l)

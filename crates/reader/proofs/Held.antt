@@ -35,6 +35,7 @@ use Rattle.reader.specs.Events.{Start, Event, start, text, end, Open, Re
 use Rattle.reader.specs.Held.{SpanHeld, BindingIn, BindingHeld, OpenHeld, Held}
 use Rattle.reader.proofs.TagMeaning.{NamespaceHeld, AttributeHeld, MeaningHeld, meaning-held}
 use Rattle.reader.proofs.ReadNames.{tag-named}
+use Rattle.reader.proofs.Colons.{colon-in}
 
 -- ---- what each answer says
 -- a start: its name stands behind its <, and ends in its part
@@ -74,12 +75,6 @@ unfolding bindingsOf
 bindings-in s [] h = tt
 bindings-in s (o ∷ os) h =
     each-append (BindingIn s) (bindingsOf os) (o .declarations) (bindings-in s os (h .1)) (each-map (BindingHeld s) (BindingIn s) (λ b k. k .inside) (o .declarations) (h .0 .declarations))
-
--- up to a colon there are no more bytes than there are
-colon-few : (l : List ℕ) (k : ℕ) → colonEnd k l ≤ k + length l
-unfolding colonEnd
-colon-few [] k = omega arith
-colon-few (b ∷ l) k = holds-cond (λ (n : ℕ). n ≤ k + length (b ∷ l)) (eqb b 0x3A) (λ e. omega arith) (λ e. omega (arith, colon-few l (k + 1)))
 
 -- ---- by what was read
 module _ (s : List ℕ) (z : ReaderState) (h : Held s z) where
@@ -146,7 +141,7 @@ module _ (s : List ℕ) (z : ReaderState) (h : Held s z) where
   by-held : (a : Bool) (os : List Open) → All (OpenHeld s) os → NextHeld s z (nextBy s z a os)
   unfolding partOf
   by-held true (o ∷ os) k =
-      let few = colon-few (bytesOf s (o .name)) 0 in
+      let few = colon-in 0 (bytesOf s (o .name)) in
       let open′ = k .0 in
       (omega (arith, length-take (o .name .len) (drop (o .name .at) s), length-drop (o .name .at) s), left-held (z .place) o os (h .place) k)
   by-held true [] k = begun-held false (beginAt s (z .place) false (z .closed)) (begin-inside s (z .place) false (z .closed))
