@@ -146,6 +146,7 @@ Outside =
     × Alone 3 A (spaced 13 1 22 1 1)
     × Alone 3 A (spaced 13 1 23 0 1)
     × Alone 3 (bytes "<r xmlns=\"u\">r") (named 13 2 1)
+    × Alone 4 (bytes "<r xmlns=\"u\">r") (binding 13 2 10 1)
     × Alone 4 A (binding 0 0 22 1)
     × Alone 4 A (binding 0 0 23 0)
 
@@ -213,6 +214,16 @@ Ends =
     × Steps (strand 18 417) 22 [] 0
     × Steps (strand 18 129) 22 [] 0
 
+-- a level's namespace, held against that of <x/>, which is u: the table's for class 1, the bytes of its span for 255, the empty URI for 0, xml's
+-- for 254. In its section x is written; as a section of its own, for which mode 1 has no rule, it is not
+abbrev Namespaces : Type 0
+Namespaces =
+    Steps (spaced 14 1 0 0 1) 18 (row 0 1 1 15 1 0 0 ∷ []) 2
+    × Steps (spaced 14 255 10 1 1) 18 (row 0 1 1 15 1 0 0 ∷ []) 2
+    × Steps (spaced 14 255 3 5 1) 18 [] 2
+    × Steps (spaced 14 0 0 0 1) 18 [] 2
+    × Steps (spaced 14 254 0 0 1) 18 [] 2
+
 -- an awaited end ends the innermost level, wherever the place is
 abbrev Awaited : Type 0
 Awaited = Steps (made 16 1 false true 1 1 levels bindings spaces strands) 16 (row 0 5 1 1 1 0 0 ∷ row 0 6 0 0 0 0 0 ∷ []) 0
@@ -233,8 +244,8 @@ Inside = Steps (placedAt 15) 18 (row 0 4 0 15 3 0 0 ∷ []) 1
 
 pub incoherent : First × Depth × Bound × Outside × Names × Refused × Prefixes × Counts × Lacking × Sums × Flags
 unfolding stepOf planOf startPlan coherent strandIn packed levelUri strandsIn levelIn levelsIn judged urisFill all bindingIn nameIn opensIn closedOf overwrite isPart isWholeName recordBytes written after rulesOf listedFrom classOf urisFrom keep tabulate total attributeUnits startBodies kept placed sectionsFrom sectionsOf spaceOf attributeOf elementOf next bindingsOf colonEnd partOf meaningOf resolved ofElement ofPrefix lookUp sameNamespace refusedBinding kindOf sameList any anyPair gather beginAt beginOutside beginInside tagBegins endTagAt tagAt attrsFrom turnAt turnBehind slashAt attributeAt quotedAt equalsEnd wanted valueEnd referenceEnd noReference furthest wholeOf common nameAt prefixedAt partEnd nameLen startLen spacesEnd run
-incoherent = (refl, ((refl, refl), refl), (refl, refl), ((refl, refl), (refl, refl), (refl, refl), (refl, refl), (refl, refl), (refl, refl)), ((refl, refl), (refl, refl), (refl, refl), (refl, refl)), ((refl, refl), (refl, refl), (refl, refl), (refl, refl), (refl, refl)), ((refl, refl), (refl, refl)), ((refl, refl), (refl, refl)), ((refl, refl), (refl, refl), (refl, refl), (refl, refl), (refl, refl)), ((refl, refl), (refl, refl), (refl, refl)), ((refl, refl), (refl, refl)))
+incoherent = (refl, ((refl, refl), refl), (refl, refl), ((refl, refl), (refl, refl), (refl, refl), (refl, refl), (refl, refl), (refl, refl), (refl, refl)), ((refl, refl), (refl, refl), (refl, refl), (refl, refl)), ((refl, refl), (refl, refl), (refl, refl), (refl, refl), (refl, refl)), ((refl, refl), (refl, refl)), ((refl, refl), (refl, refl)), ((refl, refl), (refl, refl), (refl, refl), (refl, refl), (refl, refl)), ((refl, refl), (refl, refl), (refl, refl)), ((refl, refl), (refl, refl)))
 
-pub coherent-though : Never × Ends × Awaited × Both × Twice × Inside
+pub coherent-though : Never × Ends × Namespaces × Awaited × Both × Twice × Inside
 unfolding stepOf planOf startPlan coherent strandIn packed levelUri strandsIn levelIn levelsIn judged urisFill all bindingIn nameIn opensIn closedOf overwrite isPart isWholeName recordBytes written after rulesOf listedFrom classOf urisFrom keep tabulate total attributeUnits startBodies kept placed sectionsFrom sectionsOf spaceOf attributeOf elementOf next bindingsOf colonEnd partOf meaningOf resolved ofElement ofPrefix lookUp sameNamespace refusedBinding kindOf sameList any anyPair gather beginAt beginOutside beginInside tagBegins endTagAt tagAt attrsFrom turnAt turnBehind slashAt attributeAt quotedAt equalsEnd wanted valueEnd referenceEnd noReference furthest wholeOf common nameAt prefixedAt partEnd nameLen startLen spacesEnd run
-coherent-though = ((refl, refl, refl, refl, refl, refl, refl, refl, refl), ((refl, refl, refl, refl, refl), (refl, refl, refl, refl, refl), (refl, refl, refl, refl, refl), (refl, refl, refl, refl, refl), (refl, refl, refl, refl, refl), (refl, refl, refl, refl, refl)), (refl, refl, refl, refl, refl), (refl, refl, refl, refl, refl), ((refl, refl, refl, refl, refl), (refl, refl, refl, refl, refl)), (refl, refl, refl, refl, refl))
+coherent-though = ((refl, refl, refl, refl, refl, refl, refl, refl, refl), ((refl, refl, refl, refl, refl), (refl, refl, refl, refl, refl), (refl, refl, refl, refl, refl), (refl, refl, refl, refl, refl), (refl, refl, refl, refl, refl), (refl, refl, refl, refl, refl)), ((refl, refl, refl, refl, refl), (refl, refl, refl, refl, refl), (refl, refl, refl, refl, refl), (refl, refl, refl, refl, refl), (refl, refl, refl, refl, refl)), (refl, refl, refl, refl, refl), (refl, refl, refl, refl, refl), ((refl, refl, refl, refl, refl), (refl, refl, refl, refl, refl)), (refl, refl, refl, refl, refl))
