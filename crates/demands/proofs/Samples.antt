@@ -23,6 +23,7 @@ use Rattle.reader.specs.Events.{bindingsOf, colonEnd, partOf, next}
 use Rattle.model.specs.Stream.{written, after}
 use Rattle.model.specs.Elements.{spaceOf, attributeOf, elementOf, placed, sectionsFrom, sectionsOf}
 use Rattle.model.specs.Records.{recordBytes, attributeUnits, kept, startBodies}
+use Rattle.model.specs.Rows.{row}
 use Rattle.dispatcher.specs.Sessions.{strandIn, packed, levelUri, strandsIn, levelIn, levelsIn}
 use Rattle.dispatcher.specs.Coherence.{coherent}
 use Rattle.dispatcher.specs.Stepping.{Run, answered, planOf, startPlan, stepOf, runFrom, runOf}
@@ -30,11 +31,6 @@ use Rattle.dispatcher.specs.Stepping.{Run, answered, planOf, startPlan, stepOf,
 -- room for 20 records
 abbrev blank : List ℕ
 blank = replicate 320 7
-
--- a record's bytes, from its seven fields
-abbrev row : ℕ → ℕ → ℕ → ℕ → ℕ → ℕ → ℕ → List ℕ
-row unit kind class at len uriAt uriLen =
-    recordBytes unit (record { kind = kind; class = class; at = at; len = len; uriAt = uriAt; uriLen = uriLen })
 
 abbrev joined : List (List ℕ) → List ℕ
 joined [] = []

@@ -23,6 +23,7 @@ use Rattle.reader.specs.Events.{bindingsOf, colonEnd, partOf, next}
 use Rattle.model.specs.Stream.{written, after}
 use Rattle.model.specs.Elements.{spaceOf, attributeOf, elementOf, placed, sectionsFrom, sectionsOf}
 use Rattle.model.specs.Records.{recordBytes, attributeUnits, kept, startBodies}
+use Rattle.model.specs.Rows.{row}
 use Rattle.dispatcher.specs.Sessions.{freshOf, strandIn, packed, levelUri, strandsIn, levelIn, levelsIn}
 use Rattle.dispatcher.specs.Coherence.{coherent}
 use Rattle.dispatcher.specs.Stepping.{planOf, startPlan, stepOf}
@@ -42,10 +43,6 @@ cutAt k room = record { scene = take k A; output = replicate room 7 }
 -- 1 in a tag; 25; the start; 1 behind the text; the text; the start of x; 25 at its end; its end
 abbrev calls : List Call
 calls = cutAt 5 64 ∷ cutAt 13 31 ∷ cutAt 13 32 ∷ cutAt 14 64 ∷ cutAt 15 64 ∷ cutAt 20 64 ∷ cutAt 20 0 ∷ cutAt 22 16 ∷ []
-
-abbrev row : ℕ → ℕ → ℕ → ℕ → ℕ → ℕ → ℕ → List ℕ
-row unit kind class at len uriAt uriLen =
-    recordBytes unit (record { kind = kind; class = class; at = at; len = len; uriAt = uriAt; uriLen = uriLen })
 
 four-accepted : acceptedIn (stepsFrom T freshOf calls) ≡ 4
 unfolding stepsFrom stepOf planOf startPlan coherent strandIn packed levelUri strandsIn levelIn levelsIn judged urisFill all bindingIn nameIn opensIn closedOf overwrite isPart isWholeName recordBytes written after rulesOf listedFrom classOf urisFrom keep tabulate total attributeUnits startBodies kept placed sectionsFrom sectionsOf spaceOf attributeOf elementOf next bindingsOf colonEnd partOf meaningOf resolved ofElement ofPrefix lookUp sameNamespace refusedBinding kindOf sameList any anyPair gather beginAt beginOutside beginInside tagBegins endTagAt tagAt attrsFrom turnAt turnBehind slashAt attributeAt quotedAt equalsEnd wanted valueEnd referenceEnd noReference furthest wholeOf common nameAt prefixedAt partEnd nameLen startLen spacesEnd run

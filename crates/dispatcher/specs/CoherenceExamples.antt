@@ -24,6 +24,7 @@ use Rattle.reader.specs.Events.{bindingsOf, colonEnd, partOf, next}
 use Rattle.model.specs.Stream.{written, after}
 use Rattle.model.specs.Elements.{spaceOf, attributeOf, elementOf, placed, sectionsFrom, sectionsOf}
 use Rattle.model.specs.Records.{recordBytes, attributeUnits, kept, startBodies}
+use Rattle.model.specs.Rows.{row}
 use Rattle.dispatcher.specs.Sessions.{freshOf, strandIn, packed, levelUri, strandsIn, levelIn, levelsIn}
 use Rattle.dispatcher.specs.Coherence.{depthFits, boundFits, placeInside, levelSpansInside, bindingSpansInside, namesFit, bindingsAllowed, prefixesFit, strandCountsFit, modesFit, classesFit, targetsFit, validatesAim, unitsFit, countsAddUp, awaitedFits, closedFits, coherent}
 use Rattle.dispatcher.specs.Stepping.{answered, refusedStep, planOf, startPlan, stepOf}
@@ -107,11 +108,6 @@ Alone k s z = (clauses (decode T) s z ≡ allBut k) × (stepOf T s z blank ≡ r
 
 abbrev Passes : Session → Type 0
 Passes z = coherent (decode T) A z ≡ true
-
--- a record's bytes, from its seven fields
-abbrev row : ℕ → ℕ → ℕ → ℕ → ℕ → ℕ → ℕ → List ℕ
-row unit kind class at len uriAt uriLen =
-    recordBytes unit (record { kind = kind; class = class; at = at; len = len; uriAt = uriAt; uriLen = uriLen })
 
 -- a coherent session whose step reads an event: the place behind it, its records, and how many levels are open then
 abbrev Steps : Session → ℕ → List (List ℕ) → ℕ → Type 0

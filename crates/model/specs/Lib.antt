@@ -7,4 +7,5 @@ pub mod Units
 pub mod Elements
 pub mod Records
 pub mod Dispatch
+pub mod Rows
 pub mod Examples
