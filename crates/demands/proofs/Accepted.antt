@@ -32,11 +32,11 @@ use Rattle.model.specs.Stream.{State, Entry, enter, entered, written, after, re
 use Rattle.model.specs.Dispatch.{dispatch, told, expected}
 use Rattle.model.proofs.Steps as stream
 use Rattle.dispatcher.specs.Sessions.{levelsIn, readerOf, stateOf, withPlace, withEnd, withStart}
-use Rattle.dispatcher.specs.Stepping.{finished, event, startPlan, opensPlan, planBy, planOf, Step, answered, refusedStep, runOf}
+use Rattle.dispatcher.specs.Stepping.{eventPlace, finished, event, startPlan, opensPlan, planBy, planOf, Step, answered, refusedStep, runOf}
 use Rattle.dispatcher.specs.declared.Session.{Session}
 use Rattle.dispatcher.proofs.SoundCoherent.{sound-coherent}
 use Rattle.dispatcher.proofs.NewStrands.{new-length}
-use Rattle.demands.specs.Scenes.{behindNext, readerAfter, streamAfter, innermost, WithinAt, Within, modelCount, wholeModel, eventPlace}
+use Rattle.demands.specs.Scenes.{behindNext, readerAfter, streamAfter, innermost, WithinAt, Within, modelCount, wholeModel}
 use Rattle.demands.proofs.Goes.{Onward, goes-on, event-goes}
 use Rattle.demands.proofs.Prefixes.{toldFirst, told-first-on}
 use Rattle.demands.proofs.Expected.{count-grows, expected-whole}

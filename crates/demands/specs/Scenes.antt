@@ -4,7 +4,7 @@ use mathlib.Core.List.{List, [], _∷_, map}
 use lib.ListN.{length, take}
 use Rattle.laws.specs.Gather.{gather}
 use Rattle.table.specs.Table.{Table}
-use Rattle.reader.specs.Events.{Event, start, text, end, ReaderState, freshReader, bindingsOf, Next, event, refusal, finished, next, events}
+use Rattle.reader.specs.Events.{ReaderState, freshReader, bindingsOf, Next, event, refusal, finished, next, events}
 use Rattle.model.specs.Tree.{treeOf}
 use Rattle.model.specs.Stream.{Level, State, reached}
 use Rattle.model.specs.Model.{modelOf, cutModel}
@@ -17,12 +17,6 @@ modelCount t s k = length (gather (λ x. x) (cutModel (dispatch t) (map (told t 
 -- the bytes of the model's records of the whole scene: of the tree of all its events
 unfoldable pub wholeModel : Table → List ℕ → List ℕ
 wholeModel t s = joined (modelOf (dispatch t) (treeOf (dispatch t) (map (told t s) (events s))))
-
--- an event's place: "< of the tag, or first text byte"
-abbrev pub eventPlace : Event → ℕ
-eventPlace (start e) = e .at
-eventPlace (text w) = w .at
-eventPlace (end part at) = at
 
 -- the reader's state behind so many events; its last where there are fewer
 abbrev pub behindNext : ReaderState → Next → ReaderState

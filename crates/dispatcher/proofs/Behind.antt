@@ -28,7 +28,7 @@ use Rattle.model.specs.Records.{Body}
 use Rattle.model.specs.Stream.{enter, written, after}
 use Rattle.model.specs.Dispatch.{dispatch, told}
 use Rattle.dispatcher.specs.Sessions.{strandIn, strandCount, strandsIn, levelIn, readerOf, stateOf, withStart}
-use Rattle.dispatcher.specs.Stepping.{Plan, refused, finished, event, startPlan, opensPlan, planBy, planOf}
+use Rattle.dispatcher.specs.Stepping.{eventPlace, Plan, refused, finished, event, startPlan, opensPlan, planBy, planOf}
 use Rattle.dispatcher.specs.declared.Session.{Session}
 use Rattle.dispatcher.proofs.Sound.{Fits, Sound, StrandSound}
 use Rattle.dispatcher.proofs.SoundCoherent.{sound-level}
@@ -55,17 +55,11 @@ Limits t s z (scene.start e) z′ = OpenLimits t s z e (z′ .opened)
 Limits t s z (scene.text w) z′ = Unit {0}
 Limits t s z (scene.end part at) z′ = Unit {0}
 
--- the place that an event's plan has
-abbrev pub placeOf : scene.Event → ℕ
-placeOf (scene.start e) = e .at
-placeOf (scene.text w) = w .at
-placeOf (scene.end part at) = at
-
 pub record Behind (t : Table) (s : List ℕ) (z : Session) (p : ℕ) (rs : List (Record Body ℕ)) (z″ : Session) : Type 0 where
   pub happened : scene.Event
   pub state : scene.ReaderState
   pub read : scene.next s (readerOf z) ≡ scene.event happened state
-  pub place : p ≡ placeOf happened
+  pub place : p ≡ eventPlace happened
   pub reader : readerOf z″ ≡ state
   pub stream : stateOf t s z″ ≡ after (dispatch t) (stateOf t s z) (told t s happened)
   pub records : rs ≡ written (dispatch t) (stateOf t s z) (told t s happened)

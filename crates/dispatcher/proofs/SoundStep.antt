@@ -1,9 +1,9 @@
 -- A step of a sound session gives a sound session, and number 20 is never given of one.
 --     sound-step           the session behind an event
---     step-kept, no-20     whatever a step hands back, also where more bytes have come behind the scene
+--     step-kept            whatever a step hands back
 use Prim.Native.Nat.{ℕ, _+_, _*_, _≤_}
 use mathlib.Core.Path.{_≡_, refl, sym, ap, subst}
-use mathlib.Core.List.{List, [], _∷_, _++_, tail}
+use mathlib.Core.List.{List, [], _∷_, tail}
 use mathlib.Core.Bool.{Bool, true, false, cond}
 use mathlib.Core.Option.{Option, none, some}
 use native.Mathlib.Omega.{arith}
@@ -30,7 +30,6 @@ use Rattle.dispatcher.specs.declared.Session.{Session}
 use Rattle.dispatcher.proofs.Sound.{Below, StrandSound, LevelSound, Sound}
 use Rattle.dispatcher.proofs.Spaces.{class-bounds, uri-held}
 use Rattle.dispatcher.proofs.SoundCoherent.{sound-coherent}
-use Rattle.dispatcher.proofs.MoreScene.{sound-more}
 use Rattle.dispatcher.proofs.Followed.{followed}
 use Rattle.dispatcher.proofs.Behind.{OpenLimits, Limits, behind}
 use Rattle.dispatcher.proofs.NewStrands.{newStrands, new-length, new-some, new-strands}
@@ -150,7 +149,3 @@ module _ (table : List ℕ) (accepted : Accepted table ≡ true) (s : List ℕ) 
       rw (accepted, sound-coherent (decode table) s z h)
       (holds-cond (StepKept (decode table) s) (ltb longest (length s)) (λ e. record { not-20 = omega arith; sound = h })
       (λ e. planned-kept (ltb-false longest (length s) e) out (planOf (decode table) s z) refl (plan-not (decode table) s z (h .held))))
-
--- whatever comes behind the scene, and however long the output is
-pub no-20 : (table : List ℕ) → Accepted table ≡ true → (s r : List ℕ) (z : Session) → Sound (decode table) s z → (out : List ℕ) → StepKept (decode table) (s ++ r) (stepOf table (s ++ r) z out)
-no-20 table accepted s r z h out = step-kept table accepted (s ++ r) z (sound-more (decode table) s r z h) out

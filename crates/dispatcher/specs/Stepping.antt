@@ -21,6 +21,12 @@ use Rattle.dispatcher.specs.Sessions.{readerOf, stateOf, freshOf, withPl
 use Rattle.dispatcher.specs.Coherence.{coherent}
 use Rattle.dispatcher.specs.declared.Session.{Session}
 
+-- an event's place, which 25 has: "< of the tag, or first text byte"
+abbrev pub eventPlace : scene.Event → ℕ
+eventPlace (scene.start e) = e .at
+eventPlace (scene.text w) = w .at
+eventPlace (scene.end part at) = at
+
 -- What a coherent session does next: a refusal and its place; 9 and its place; or an event: the place that 25 would have, its records, and the
 -- session behind it. No output comes into it
 pub data Plan : Type 0 where
