@@ -27,13 +27,14 @@ use Rattle.model.specs.Elements.{Space, Element, elementOf}
 use Rattle.model.specs.Records.{Body}
 use Rattle.model.specs.Stream.{enter, written, after}
 use Rattle.model.specs.Dispatch.{dispatch, told}
-use Rattle.dispatcher.specs.Sessions.{strandIn, strandCount, strandsIn, levelIn, readerOf, stateOf, withStart}
+use Rattle.strands.specs.Packed.{strandIn}
+use Rattle.dispatcher.specs.Sessions.{strandCount, strandsIn, levelIn, readerOf, stateOf, withStart}
 use Rattle.dispatcher.specs.Stepping.{eventPlace, Plan, refused, finished, event, startPlan, opensPlan, planBy, planOf}
 use Rattle.dispatcher.specs.declared.Session.{Session}
 use Rattle.dispatcher.proofs.Sound.{Fits, Sound, StrandSound}
 use Rattle.dispatcher.proofs.SoundCoherent.{sound-level}
 use Rattle.dispatcher.proofs.NewStrands.{newStrands, new-length, new-strands}
-use Rattle.dispatcher.proofs.Packing.{Packable, below-more}
+use Rattle.strands.proofs.Packing.{Packable, below-more}
 use Rattle.dispatcher.proofs.Own.{SpanSmall, BindingSmall}
 use Rattle.dispatcher.proofs.Views.{Room, state-start, reader-start, fits-start, state-end, reader-end, fits-end, state-place, fits-place}
 use Rattle.dispatcher.proofs.Spaces.{class-few, space-back, uri-held}

@@ -27,7 +27,8 @@ use Rattle.model.specs.Stream.{Level, State, Entry, allot, takeRules, enter, en
 use Rattle.model.specs.Dispatch.{dispatch}
 use Rattle.model.proofs.Lists as model
 use Rattle.model.proofs.Steps as model-steps
-use Rattle.dispatcher.proofs.Sound.{Below, Aims, StrandSound, LevelSound}
+use Rattle.strands.proofs.Packing.{Below}
+use Rattle.dispatcher.proofs.Sound.{Aims, StrandSound, LevelSound}
 
 -- ---- lists
 map-each : {A B : Type 0} (P : A → Type 0) (Q : B → Type 0) (f : A → B) → ((x : A) → P x → Q (f x)) → (l : List A) → All P l → All Q (map f l)

@@ -14,6 +14,7 @@ use Rattle.reader.proofs.Opens.{CountedScope}
 use Rattle.model.specs.Theory.{Strand}
 use Rattle.model.specs.Stream.{Level}
 use Rattle.model.specs.Dispatch.{dispatch}
+use Rattle.strands.proofs.Packing.{Below}
 use Rattle.dispatcher.specs.Sessions.{readerOf, stateOf}
 use Rattle.dispatcher.specs.declared.Session.{Session}
 
@@ -25,11 +26,6 @@ pub record Fits (z : Session) : Type 0 where
   pub counted : CountedScope (z .scope)
   pub shallow : z .scope .depth ≤ 64
   pub few : z .scope .bound ≤ 64
-
--- a target below the count of units
-abbrev pub Below : ℕ → Option ℕ → Type 0
-Below units none = Unit {0}
-Below units (some u) = u < units
 
 -- "a validate strand" has a target
 abbrev pub Aims : Action → Option ℕ → Type 0

@@ -41,10 +41,12 @@ use Rattle.reader.proofs.Tabulated.{tabulate-append}
 use Rattle.model.specs.Theory.{Strand}
 use Rattle.model.specs.Stream.{Level}
 use Rattle.model.specs.Dispatch.{dispatch}
-use Rattle.dispatcher.specs.Sessions.{classIn, uriIn, strandCount, strandsIn, levelIn, levelsIn, strandIn}
+use Rattle.strands.specs.Packed.{strandIn}
+use Rattle.dispatcher.specs.Sessions.{classIn, uriIn, strandCount, strandsIn, levelIn, levelsIn}
 use Rattle.dispatcher.specs.Coherence.{levelNumbers, openBindings, spanInside, prefixFits, targetFits, aims, coherent}
 use Rattle.dispatcher.specs.declared.Session.{Session}
-use Rattle.dispatcher.proofs.Sound.{Below, Aims, StrandSound, LevelSound, Sound}
+use Rattle.strands.proofs.Packing.{Below}
+use Rattle.dispatcher.proofs.Sound.{Aims, StrandSound, LevelSound, Sound}
 
 -- ---- tests of lists
 pub all-each : {A : Type 0} (P : A → Type 0) (p : A → Bool) → ((x : A) → P x → p x ≡ true) → (l : List A) → All P l → all p l ≡ true
@@ -121,7 +123,7 @@ class-fits n class h =
     ⊎-elim (λ l. left (leb class n) (eqb class 254 || eqb class 255) (le-leb class n l))
     (λ m. right (leb class n) (eqb class 254 || eqb class 255) (⊎-elim (λ e. left (eqb class 254) (eqb class 255) (eq-eqb class 254 e)) (λ e. right (eqb class 254) (eqb class 255) (eq-eqb class 255 e)) m)) h
 
-strands-counted : (z : Session) (k : ℕ) → length (strandsIn z k) ≡ strandCount z k
+pub strands-counted : (z : Session) (k : ℕ) → length (strandsIn z k) ≡ strandCount z k
 unfolding strandsIn
 strands-counted z k =
     let numbers = tabulate (λ (i : ℕ). getD (z .strands) i 0) (16 * k) (strandCount z k) in

@@ -27,7 +27,8 @@ use Rattle.model.specs.Dispatch.{dispatch, told}
 use Rattle.dispatcher.specs.Sessions.{readerOf, stateOf}
 use Rattle.dispatcher.specs.Stepping.{Plan, refused, finished, event, startPlan, planBy, planOf, Step, planned, longest, stepOf}
 use Rattle.dispatcher.specs.declared.Session.{Session}
-use Rattle.dispatcher.proofs.Sound.{Below, StrandSound, LevelSound, Sound}
+use Rattle.strands.proofs.Packing.{Below}
+use Rattle.dispatcher.proofs.Sound.{StrandSound, LevelSound, Sound}
 use Rattle.dispatcher.proofs.Spaces.{class-bounds, uri-held}
 use Rattle.dispatcher.proofs.SoundCoherent.{sound-coherent}
 use Rattle.dispatcher.proofs.Followed.{followed}

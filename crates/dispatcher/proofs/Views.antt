@@ -30,10 +30,11 @@ use Rattle.model.specs.Theory.{Strand}
 use Rattle.model.specs.Elements.{Space}
 use Rattle.model.specs.Stream.{Level}
 use Rattle.model.specs.Dispatch.{dispatch}
-use Rattle.dispatcher.specs.Sessions.{strandIn, packed, levelUri, strandCount, strandsIn, levelIn, levelsIn, readerOf, stateOf, withPlace, withEnd, withStart}
+use Rattle.strands.specs.Packed.{strandIn, packed}
+use Rattle.dispatcher.specs.Sessions.{levelUri, strandCount, strandsIn, levelIn, levelsIn, readerOf, stateOf, withPlace, withEnd, withStart}
 use Rattle.dispatcher.specs.declared.Session.{Session}
 use Rattle.dispatcher.proofs.Sound.{Fits}
-use Rattle.dispatcher.proofs.Packing.{Packable, packed-all}
+use Rattle.strands.proofs.Packing.{Packable, packed-all}
 use Rattle.dispatcher.proofs.Own.{SpanSmall, BindingSmall, opened-opens, opened-counted, opened-lengths}
 
 -- A start that a session has room for. Where an open level had more than 16 strands they would reach into the next level's

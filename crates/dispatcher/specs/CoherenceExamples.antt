@@ -25,7 +25,8 @@ use Rattle.model.specs.Stream.{written, after}
 use Rattle.model.specs.Elements.{spaceOf, attributeOf, elementOf, placed, sectionsFrom, sectionsOf}
 use Rattle.model.specs.Records.{recordBytes, attributeUnits, kept, startBodies}
 use Rattle.model.specs.Rows.{row}
-use Rattle.dispatcher.specs.Sessions.{freshOf, strandIn, packed, levelUri, strandsIn, levelIn, levelsIn}
+use Rattle.strands.specs.Packed.{strandIn, packed}
+use Rattle.dispatcher.specs.Sessions.{freshOf, levelUri, strandsIn, levelIn, levelsIn}
 use Rattle.dispatcher.specs.Coherence.{depthFits, boundFits, placeInside, levelSpansInside, bindingSpansInside, namesFit, bindingsAllowed, prefixesFit, strandCountsFit, modesFit, classesFit, targetsFit, validatesAim, unitsFit, countsAddUp, awaitedFits, closedFits, coherent}
 use Rattle.dispatcher.specs.Stepping.{answered, refusedStep, planOf, startPlan, stepOf}
 use Rattle.dispatcher.specs.declared.Session.{Session}

@@ -1,6 +1,8 @@
 pub mod Sessions
 pub mod Coherence
+pub mod Checks
 pub mod Stepping
+pub mod Turns
 pub mod Uris
 pub mod CoherenceExamples
 pub mod StepExamples

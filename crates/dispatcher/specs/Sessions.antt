@@ -1,17 +1,14 @@
 -- "A session holds ..": what a session's numbers mean. Every number means something, so that number 20 has nothing to say of packing. Definitions.
-use Prim.Native.Nat.{ℕ, zero, suc, _+_, _*_, _-_, _/_, _%_, _^_}
+use Prim.Native.Nat.{ℕ, zero, suc, _+_, _*_, _-_}
 use mathlib.Core.List.{List, [], _∷_, map}
 use mathlib.Core.Bool.{Bool, true, false, cond}
-use mathlib.Core.Option.{Option, none, some}
 use lib.ListN.{getD, replicate, length}
 use lib.Dec.{eqb}
 use Rattle.laws.specs.Lists.{tabulate}
 use Rattle.laws.specs.Over.{overwrite}
 use Rattle.laws.specs.Gather.{gather}
 use Rattle.compare.specs.Compare.{xmlUri}
-use Rattle.table.specs.Table.{Table, actionOf}
-use Rattle.table.specs.declared.Action.{Action}
-use Rattle.table.specs.declared.Action.the-variants.{Attach, Unwrap, Validate}
+use Rattle.table.specs.Table.{Table}
 use Rattle.reader.specs.declared.Span.{Span}
 use Rattle.reader.specs.declared.Binding.{Binding}
 use Rattle.reader.specs.Spans.{span, bytesOf}
@@ -23,33 +20,9 @@ use Rattle.model.specs.Records.{OpenElement}
 use Rattle.model.specs.Theory.{Strand}
 use Rattle.model.specs.Stream.{Level, State}
 use Rattle.model.specs.Dispatch.{dispatch}
+use Rattle.strands.specs.Packed.{strandIn, packed}
 use Rattle.dispatcher.specs.declared.Session.{Session}
-
--- a strand in a number: mode 5 bits, action 2, opened here 1, has a target 1, target 16, from the lowest on
-unfoldable pub strandIn : ℕ → Strand ℕ
-strandIn w =
-    record {
-      mode = w % 2 ^ 5;
-      action = actionOf (w / 2 ^ 5 % 2 ^ 2);
-      target = cond (eqb (w / 2 ^ 8 % 2) 1) (some (w / 2 ^ 9 % 2 ^ 16)) none;
-      here = eqb (w / 2 ^ 7 % 2) 1;
-    }
-
-abbrev pub actionNumber : Action → ℕ
-actionNumber Attach = 0
-actionNumber Unwrap = 1
-actionNumber Validate = 2
-
-abbrev pub targetNumber : Option ℕ → ℕ
-targetNumber none = 0
-targetNumber (some u) = 2 ^ 8 + u * 2 ^ 9
-
-abbrev pub hereNumber : Bool → ℕ
-hereNumber false = 0
-hereNumber true = 2 ^ 7
-
-unfoldable pub packed : Strand ℕ → ℕ
-packed r = r .mode + actionNumber (r .action) * 2 ^ 5 + hereNumber (r .here) + targetNumber (r .target)
+use Rattle.dispatcher.specs.declared.Head.{Head}
 
 -- the URI of a level: class 0 the empty one, 1 to N the table's, 254 xml's, 255 the bytes of its span
 unfoldable pub levelUri : Table → List ℕ → ℕ → Span → List ℕ
@@ -104,6 +77,19 @@ freshOf =
       scope = freshScope;
       spaces = replicate 256 0;
       strands = replicate 1024 0;
+    }
+
+-- a session's numbers and its arrays, put together
+abbrev pub sessionOf : Head → List ℕ → List ℕ → List ℕ → List ℕ → Session
+sessionOf h levels bindings spaces strands =
+    record {
+      place = h .place;
+      units = h .units;
+      closed = h .closed;
+      awaited = h .awaited;
+      scope = record { depth = h .depth; bound = h .bound; levels = levels; bindings = bindings };
+      spaces = spaces;
+      strands = strands;
     }
 
 -- the session behind a text, an end and a start: what is not named keeps its value

@@ -22,7 +22,8 @@ use Rattle.reader.specs.Events.{bindingsOf, colonEnd, partOf, next}
 use Rattle.model.specs.Stream.{written, after}
 use Rattle.model.specs.Elements.{spaceOf, attributeOf, elementOf, placed, sectionsFrom, sectionsOf}
 use Rattle.model.specs.Records.{recordBytes, attributeUnits, kept, startBodies}
-use Rattle.dispatcher.specs.Sessions.{freshOf, strandIn, packed, levelUri, strandsIn, levelIn, levelsIn}
+use Rattle.strands.specs.Packed.{strandIn, packed}
+use Rattle.dispatcher.specs.Sessions.{freshOf, levelUri, strandsIn, levelIn, levelsIn}
 use Rattle.dispatcher.specs.Coherence.{coherent}
 use Rattle.dispatcher.specs.Stepping.{answered, refusedStep, planOf, startPlan, stepOf, runFrom, runOf}
 

@@ -1,4 +1,9 @@
-// The dispatcher: the session, and what a step and a run promise. Definitions in specs/.
+// The dispatcher: a session, its steps, a run, and the URI of a record.
+pub mod coherence;
+mod ends;
+mod turns;
+pub mod uris;
+
 use reader::Scope;
 use table::Answer;
 
@@ -19,14 +24,32 @@ pub struct Session {
     pub strands: [u32; Session::STRANDS * Session::DEPTH],
 }
 
-impl Session {
-    pub const DEPTH: usize = 64;
+// The numbers of a session.
+pub struct Head {
+    pub place: usize,
+    pub units: usize,
+    pub closed: bool,
+    pub awaited: bool,
+    pub depth: usize,
+    pub bound: usize,
+}
 
-    pub const BINDINGS: usize = 64;
+// What one event's work gives: a number and its place, how many records were written, and the session's numbers behind it.
+pub struct Turn {
+    pub number: u8,
+    pub place: usize,
+    pub records: usize,
+    pub head: Head,
+}
 
-    pub const STRANDS: usize = 16;
-
-    pub const UNITS: usize = 65536;
+// What was decided: 0, or 23 or 24; how many strands, attributes and attribute sections; the units opened so far behind it; how many records.
+pub struct Decided {
+    pub number: u8,
+    pub strands: usize,
+    pub attributes: usize,
+    pub sections: usize,
+    pub units: usize,
+    pub records: usize,
 }
 
 // What a step hands back.
@@ -45,4 +68,17 @@ pub struct UriSpan {
 pub enum Source {
     Table,
     Scene,
+}
+
+impl Session {
+    pub const DEPTH: usize = 64;
+
+    pub const BINDINGS: usize = 64;
+
+    pub const STRANDS: usize = 16;
+
+    pub const UNITS: usize = 65536;
+
+    // The longest scene.
+    pub const LONGEST: usize = 16777215;
 }

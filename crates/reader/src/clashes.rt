@@ -22,7 +22,7 @@ ghost use Rattle.reader.specs.Namespaces.{uriOf, sameNamespace};
 ghost use Rattle.reader.specs.Stored.{spaceOf, isDeclaration, coded, clashes, twiceIn};
 
 // Is this the URI of what was found?
-fn has_uri(s: &[u8], own: &[u32; 64], outer: &[u32; 256], f: Found, uri: &[u8]) -> bool
+pub fn has_uri(s: &[u8], own: &[u32; 64], outer: &[u32; 256], f: Found, uri: &[u8]) -> bool
     ensures { λ r. ⌜ r ≡ sameList (uriOf (now (s .entry)) (spaceOf (now (own .entry)) (now (outer .entry)) f)) (now (uri .entry)) ⌝ }
 {
     match f {

@@ -11,8 +11,12 @@ use Rattle.table.specs.Table.{actionOf}
 use Rattle.table.specs.declared.Action.{Action}
 use Rattle.table.specs.declared.Action.the-variants.{Attach, Unwrap, Validate}
 use Rattle.model.specs.Theory.{Strand}
-use Rattle.dispatcher.specs.Sessions.{strandIn, packed, actionNumber, targetNumber, hereNumber}
-use Rattle.dispatcher.proofs.Sound.{Below}
+use Rattle.strands.specs.Packed.{strandIn, packed, actionNumber, targetNumber, hereNumber}
+
+-- a target below the count of units
+abbrev pub Below : ℕ → Option ℕ → Type 0
+Below units none = Unit {0}
+Below units (some u) = u < units
 
 -- what a number holds of a strand: five bits for its mode, sixteen for its target
 pub record Packable (r : Strand ℕ) : Type 0 where

@@ -1,0 +1,270 @@
+-- A text, an end and a refusal, as the code's parts make them: the records of the innermost level, 25 or the output with them, the session behind.
+--     inner-level, written-text, written-end     what the innermost level writes
+--     full-turn, room-turn                       25, and the records laid
+--     stop-step, closed-session                  a refusal; the numbers behind an end
+--     opens-inner, awaited-plan, ..              what the reader's rules plan
+use Prim.Native.Nat.{ℕ, zero, suc, _+_, _*_, _-_, _/_, _%_, _^_, _≤_, _<_}
+use mathlib.Core.Path.{_≡_, refl, sym, ap, ap₂, subst, _∙_}
+use mathlib.Core.Logic.{⊎-elim}
+use mathlib.Core.List.{List, _∷_, map}
+use mathlib.Core.Bool.{Bool, true, false, not}
+use native.Mathlib.Omega.{arith}
+use native.Mathlib.Nat.{add-zero, mod-eq-of-lt}
+use borrow.Author.Tests.{eq-eqb, ne-eqb, lt-ltb, le-ltb}
+use lib.ListN.{length, getD}
+use lib.Dec.{eqb}
+use Rattle.laws.specs.Lists.{tabulate, sameList}
+use Rattle.laws.specs.Tests.{untold, untold′}
+use Rattle.laws.specs.Reading.{le-or-lt}
+use Rattle.laws.specs.Over.{overwrite}
+use Rattle.laws.specs.Gather.{gather, total}
+use Rattle.table.specs.Table.{Table}
+use Rattle.lexer.specs.Stops.{numberOf, placeOf}
+use Rattle.lexer.specs.Values.{textEnd}
+use Rattle.lexer.specs.Tags.{endTagAt}
+use Rattle.lexer.specs.declared.Stop.{Stop}
+use Rattle.lexer.specs.declared.Stop.the-variants.{Bad, Long, Cut}
+use Rattle.lexer.specs.declared.Read.{Read}
+use Rattle.lexer.specs.declared.Read.the-variants as read
+use Rattle.lexer.specs.declared.EndTag.{EndTag}
+use Rattle.lexer.specs.declared.Ended.{Ended}
+use Rattle.lexer.specs.declared.Ended.the-variants as ended
+use Rattle.lexer.proofs.ValueLaws.{ValueTo, value-inside}
+use Rattle.lexer.proofs.Inside.{ReadInside, within-read, EndedInside, endTag-inside}
+use Rattle.reader.specs.declared.Span.{Span}
+use Rattle.reader.specs.declared.Scope.{Scope}
+use Rattle.reader.specs.Spans.{span, between, bytesOf, wholeSpan, partSpan}
+use Rattle.reader.specs.Stored.{bindingIn}
+use Rattle.reader.specs.Scope.{countIn, closedOf, nameIn, opensIn, opensOf}
+use Rattle.reader.specs.Held.{SpanHeld}
+use Rattle.reader.specs.Events.{Open, isNil, partOf, colonEnd, textRead, endRead, nextBy, next}
+use Rattle.reader.proofs.Colons.{part-fits}
+use Rattle.model.specs.Theory.{Record}
+use Rattle.model.specs.Tree.{text, end}
+use Rattle.model.specs.Stream.{Level, written}
+use Rattle.model.specs.Records.{Body, spaced, textBody}
+use Rattle.model.specs.Dispatch as model
+use Rattle.model.specs.Dispatch.{dispatch}
+use Rattle.records.specs.Rows.{laid, laidRows, bodyOf}
+use Rattle.records.specs.declared.Row.{Row}
+use Rattle.records.proofs.Laid.{rows-end}
+use Rattle.strands.specs.Packed.{wordsAt}
+use Rattle.strands.specs.Writing.{rowFor, rowOf, eventRecords, eventCount}
+use Rattle.strands.proofs.Delivered.{events-length, texts-records, ends-records, rows-bytes, rows-length}
+use Rattle.dispatcher.specs.Sessions.{classIn, uriIn, strandCount, strandsIn, levelIn, levelsIn, sessionOf, readerOf, stateOf, withEnd}
+use Rattle.dispatcher.specs.Stepping.{Plan, event, refused, planBy, planOf, planned, Step, answered, refusedStep, eventStep}
+use Rattle.dispatcher.specs.Turns.{stopTurn, stepBy, closedHead, endRow}
+use Rattle.dispatcher.specs.declared.Session.{Session}
+use Rattle.dispatcher.specs.declared.Head.{Head}
+
+-- ---- what the innermost level writes
+module _ (t : Table) (s : List ℕ) (z : Session) (h : 1 ≤ z .scope .depth) where
+  pub inner-level : stateOf t s z .levels ≡ levelIn t s z (z .scope .depth - 1) ∷ levelsIn t s z (z .scope .depth - 1)
+  unfolding levelsIn
+  inner-level = let e : z .scope .depth ≡ suc (z .scope .depth - 1) = omega arith in ap (levelsIn t s z) e
+
+  -- the words of its strands
+  abbrev words : List ℕ
+  words = wordsAt (z .strands) (z .scope .depth - 1) (strandCount z (z .scope .depth - 1))
+
+  pub written-text : (w : Span) → written (dispatch t) (stateOf t s z) (text w) ≡ gather (eventRecords (textBody w) false) (wordsAt (z .strands) (z .scope .depth - 1) (strandCount z (z .scope .depth - 1)))
+  unfolding written levelIn strandsIn
+  written-text w =
+      ap (λ (ls : List (Level (dispatch t))). written (dispatch t) (record { levels = ls; units = z .units }) (text w)) inner-level ∙ sym (texts-records t w words)
+
+  pub written-end : (part : Span) → written (dispatch t) (stateOf t s z) (end part)
+      ≡ gather (eventRecords (spaced 5 part (classIn z (z .scope .depth - 1)) (uriIn z (z .scope .depth - 1))) true) (wordsAt (z .strands) (z .scope .depth - 1) (strandCount z (z .scope .depth - 1)))
+  unfolding written levelIn strandsIn
+  written-end part =
+      ap (λ (ls : List (Level (dispatch t))). written (dispatch t) (record { levels = ls; units = z .units }) (end part)) inner-level
+      ∙ sym (ends-records t (levelIn t s z (z .scope .depth - 1) .at) part words)
+
+-- ---- 25, or the records
+module _ (at n : ℕ) (rs : List (Record Body ℕ)) (next′ z : Session) (out : List ℕ) (e : n ≡ length rs) where
+  pub full-turn : length out < 16 * n → refusedStep 25 at z out ≡ eventStep at rs next′ z out
+  full-turn h = rw (lt-ltb (length out) (16 * length rs) (omega arith))
+
+  pub room-turn : (used : ℕ) (out′ : List ℕ) → 16 * n ≤ length out → laid out′ used ≡ laidRows (laid out 0) (map rowOf rs)
+      → _≡_ {A = Step} (record { answer = answered 0 (next′ .place) 1 n; session = next′; output = out′ }) (eventStep at rs next′ z out)
+  room-turn used out′ h l =
+      let m : 0 + 16 * length (map rowOf rs) ≤ length out = omega (arith, rows-length rs) in
+      let o : out′ ≡ overwrite out 0 (gather model.bytesOf rs) = rows-end (map rowOf rs) out 0 out′ used m l .1 ∙ ap (overwrite out 0) (rows-bytes rs) in
+      rw (le-ltb (length out) (16 * length rs) (omega arith), e, o)
+
+-- an event of the innermost level by what was counted and laid
+module _ (b : Body) (closes : Bool) (strands : List ℕ) (level n count records : ℕ) (rs : List (Record Body ℕ)) (w : rs ≡ gather (eventRecords b closes) (wordsAt strands level count)) (e : n ≡ count) (c : records ≡ total (eventCount closes) (wordsAt strands level n)) where
+  all-counted : records ≡ length rs
+  all-counted =
+      c ∙ sym (events-length b closes (wordsAt strands level n)) ∙ ap (λ (k : ℕ). length (gather (eventRecords b closes) (wordsAt strands level k))) e ∙ sym (ap length w)
+
+  module _ (at : ℕ) (next′ z : Session) (out : List ℕ) where
+    pub event-full : length out / 16 < records → refusedStep 25 at z out ≡ eventStep at rs next′ z out
+    event-full h = full-turn at records rs next′ z out all-counted (omega arith)
+
+    pub event-room : (row : Row) (used : ℕ) (out′ : List ℕ) → records ≤ length out / 16 → bodyOf row ≡ b
+        → laid out′ used ≡ laidRows (laid out 0) (map rowOf (gather (eventRecords (bodyOf row) closes) (wordsAt strands level n)))
+        → _≡_ {A = Step} (record { answer = answered 0 (next′ .place) 1 records; session = next′; output = out′ }) (eventStep at rs next′ z out)
+    event-room row used out′ h r l =
+        room-turn at records rs next′ z out all-counted used out′ (omega arith)
+        (l
+        ∙ ap (λ (rs′ : List (Record Body ℕ)). laidRows (laid out 0) (map rowOf rs′))
+        (ap₂ (λ (x : Body) (k : ℕ). gather (eventRecords x closes) (wordsAt strands level k)) r e ∙ sym w))
+
+-- the row of an end, for numbers that are small enough
+pub end-body : (part : Span) (spaces : List ℕ) (level : ℕ) → getD spaces (4 * level) 0 < 256 → part .at < 4294967296 → part .len < 4294967296
+    → bodyOf (endRow part spaces level) ≡ spaced 5 part (getD spaces (4 * level) 0) (span (getD spaces (4 * level + 1) 0) (getD spaces (4 * level + 2) 0))
+end-body part spaces level c a l =
+    rw (
+      mod-eq-of-lt {n = getD spaces (4 * level) 0} {m = 256} c,
+      mod-eq-of-lt {n = part .at} {m = 4294967296} a,
+      mod-eq-of-lt {n = part .len} {m = 4294967296} l,
+    )
+
+-- and by the numbers that were read of the level
+pub end-row-is : (part : Span) (spaces : List ℕ) (level class at len uriAt uriLen : ℕ) → class ≡ getD spaces (4 * level + 0) 0 → at ≡ part .at % 2 ^ 32 → len ≡ part .len % 2 ^ 32
+    → uriAt ≡ getD spaces (4 * level + 1) 0 → uriLen ≡ getD spaces (4 * level + 2) 0
+    → _≡_ {A = Row} (record { unit = 0; kind = 5; class = class % 256; at = at; len = len; «uri_at» = uriAt; «uri_len» = uriLen }) (endRow part spaces level)
+end-row-is part spaces level class at len uriAt uriLen c a l u v =
+    rw (c ∙ ap (λ (i : ℕ). getD spaces i 0) (add-zero (4 * level)), a, l, u, v)
+
+-- of a text
+pub text-row-is : (at end′ : ℕ) → at < 4294967296 → end′ < 4294967296 → (x y : ℕ) → x ≡ at % 2 ^ 32 → y ≡ (end′ - at) % 2 ^ 32
+    → _≡_ {A = Row} (record { unit = 0; kind = 4; class = 0; at = x; len = y; «uri_at» = 0; «uri_len» = 0 }) (rowFor 0 (textBody (between at end′)))
+text-row-is at end′ a b x y p q =
+    let m : end′ - at < 4294967296 = omega arith in
+    rw (p ∙ mod-eq-of-lt {n = at} {m = 4294967296} a, q ∙ mod-eq-of-lt {n = end′ - at} {m = 4294967296} m)
+
+-- ---- a refusal, and the numbers behind an end
+pub stop-step : (n p : ℕ) (head : Head) (levels bindings spaces strands out : List ℕ) → (n ≡ 0 → ⊥)
+    → stepBy (stopTurn n p head) levels bindings spaces strands out ≡ refusedStep n p (sessionOf head levels bindings spaces strands) out
+stop-step n p head levels bindings spaces strands out h = rw (ne-eqb n 0 h)
+
+pub stopped-step : (s : List ℕ) (x : Stop) (head : Head) (levels bindings spaces strands out : List ℕ)
+    → stepBy (stopTurn (numberOf x) (placeOf s x) head) levels bindings spaces strands out ≡ refusedStep (numberOf x) (placeOf s x) (sessionOf head levels bindings spaces strands) out
+stopped-step s (Bad p) head levels bindings spaces strands out = refl
+stopped-step s (Long p) head levels bindings spaces strands out = refl
+stopped-step s Cut head levels bindings spaces strands out = refl
+
+-- only the root's end leaves nothing open
+pub last-open : (d : ℕ) → 1 ≤ d → eqb (d - 1) 0 ≡ eqb d 1
+last-open d h = ⊎-elim (λ (l : d ≤ 1). rw (eq-eqb (d - 1) 0 (omega arith), eq-eqb d 1 (omega arith))) (λ (l : 1 < d). rw (ne-eqb (d - 1) 0 (λ e. omega arith), ne-eqb d 1 (λ e. omega arith))) (le-or-lt d 1)
+
+module _ (head : Head) (place : ℕ) (levels bindings spaces strands : List ℕ) (h : 1 ≤ head .depth) (k : head .depth ≤ 64) where
+  pub closed-session : sessionOf (closedHead head place levels) levels bindings spaces strands ≡ withEnd (sessionOf head levels bindings spaces strands) place (eqb (head .depth) 1)
+  unfolding closedOf
+  closed-session = rw (ne-eqb (head .depth) 0 (λ e. omega arith), le-ltb 64 (head .depth) k, last-open (head .depth) h)
+
+-- ---- what the reader's rules plan
+abbrev restOf : Scope → List Open
+restOf sc = opensIn (sc .levels) (sc .bindings) (sc .depth - 1) (sc .bound - countIn sc (sc .depth - 1))
+
+abbrev innerOf : Scope → Open
+innerOf sc =
+    record {
+      name = nameIn (sc .levels) (sc .depth - 1);
+      declarations = tabulate (bindingIn (sc .bindings)) (sc .bound - countIn sc (sc .depth - 1)) (countIn sc (sc .depth - 1));
+    }
+
+pub opens-inner : (sc : Scope) → 1 ≤ sc .depth → opensOf sc ≡ innerOf sc ∷ restOf sc
+unfolding opensIn
+opens-inner sc h =
+    let e : sc .depth ≡ suc (sc .depth - 1) = omega arith in
+    ap (λ (k : ℕ). opensIn (sc .levels) (sc .bindings) k (sc .bound)) e
+
+opens-nil : (levels bindings : List ℕ) (depth bound : ℕ) → isNil (opensIn levels bindings depth bound) ≡ eqb depth 0
+unfolding opensIn
+opens-nil levels bindings zero bound = refl
+opens-nil levels bindings (suc k) bound = sym (ne-eqb (suc k) 0 (λ e. omega arith))
+
+pub rest-nil : (sc : Scope) → 1 ≤ sc .depth → isNil (restOf sc) ≡ eqb (sc .depth) 1
+rest-nil sc h = opens-nil (sc .levels) (sc .bindings) (sc .depth - 1) (sc .bound - countIn sc (sc .depth - 1)) ∙ last-open (sc .depth) h
+
+module _ (t : Table) (s : List ℕ) (z : Session) (h : 1 ≤ z .scope .depth) where
+  abbrev endPlan : Span → ℕ → ℕ → Plan
+  endPlan part at place = event at (written (dispatch t) (stateOf t s z) (end part)) (withEnd z place (eqb (z .scope .depth) 1))
+
+  abbrev innerName : Span
+  innerName = nameIn (z .scope .levels) (z .scope .depth - 1)
+
+  pub awaited-plan : z .awaited ≡ true → planOf t s z ≡ endPlan (partOf s innerName) (innerName .at - 1) (z .place)
+  unfolding planOf next
+  awaited-plan a =
+      ap₂ (λ (b : Bool) (os : List Open). planBy t s z (nextBy s (readerOf z) b os)) a (opens-inner (z .scope) h)
+      ∙ ap (λ (b : Bool). event (innerName .at - 1) (written (dispatch t) (stateOf t s z) (end (partOf s innerName))) (withEnd z (z .place) b)) (rest-nil (z .scope) h)
+
+  pub stopped-plan : (at : ℕ) (x : Stop) → planBy t s z (endRead s at (opensOf (z .scope)) (ended.Stopped x)) ≡ refused (numberOf x) (placeOf s x)
+  stopped-plan at x = ap (λ (os : List Open). planBy t s z (endRead s at os (ended.Stopped x))) (opens-inner (z .scope) h)
+
+  module _ (at : ℕ) (tag : EndTag) where
+    pub unlike-plan : sameList (bytesOf s (wholeSpan (tag .name))) (bytesOf s innerName) ≡ false → planBy t s z (endRead s at (opensOf (z .scope)) (ended.Got tag)) ≡ refused 4 at
+    unlike-plan e = ap (λ (os : List Open). planBy t s z (endRead s at os (ended.Got tag))) (opens-inner (z .scope) h) ∙ rw e
+
+    pub end-plan : sameList (bytesOf s (wholeSpan (tag .name))) (bytesOf s innerName) ≡ true
+        → planBy t s z (endRead s at (opensOf (z .scope)) (ended.Got tag)) ≡ endPlan (partSpan (tag .name)) at (tag .next)
+    end-plan e =
+        ap (λ (os : List Open). planBy t s z (endRead s at os (ended.Got tag))) (opens-inner (z .scope) h)
+        ∙ rw (e, rest-nil (z .scope) h)
+
+-- ---- places inside the scene
+pub text-inside : (s : List ℕ) (at j : ℕ) (r : Read) → r ≡ textEnd s at → r ≡ read.End j → j ≤ length s
+text-inside s at j r p q = let i : ValueTo s 0x3C at j = subst (ReadInside (ValueTo s 0x3C at) s at) (sym p ∙ q) (within-read (ValueTo s 0x3C at) s at (textEnd s at) (value-inside s at 0x3C)) in omega arith
+
+pub tag-inside : (s : List ℕ) (at : ℕ) (tag : EndTag) (r : Ended) → r ≡ endTagAt s at → r ≡ ended.Got tag → (tag .name .end ≤ length s) × (tag .name .part ≤ length s)
+tag-inside s at tag r p q =
+    let i = subst (EndedInside s at) (sym p ∙ q) (endTag-inside s at) in
+    let n = i .name in
+    (omega (arith, n .inside), omega (arith, n .inside, n .some))
+
+pub part-inside : (s : List ℕ) (name : Span) → SpanHeld s name → (partOf s name .at ≤ length s) × (partOf s name .len ≤ length s)
+unfolding partOf
+part-inside s name h =
+    let f = part-fits s name (bytesOf s name) (colonEnd 0 (bytesOf s name)) refl refl in
+    (omega (arith, f .0, f .1), omega (arith, f .0))
+
+pub part-small : (s levels : List ℕ) (k : ℕ) (name part : Span) → length s ≤ 16777215 → SpanHeld s (nameIn levels k) → name ≡ nameIn levels k → part ≡ partOf s name → (part .at < 4294967296) × (part .len < 4294967296)
+part-small s levels k name part l h e p =
+    let i = part-inside s (nameIn levels k) h in
+    let q : part ≡ partOf s (nameIn levels k) = p ∙ ap (partOf s) e in
+    (omega (arith, i .0, ap (λ (w : Span). w .at) q), omega (arith, i .1, ap (λ (w : Span). w .len) q))
+
+pub span-small : (from to : ℕ) (w : Span) → from < 4294967296 → to < 4294967296 → w ≡ between from to → (w .at < 4294967296) × (w .len < 4294967296)
+span-small from to w f t e = (omega (arith, ap (λ (v : Span). v .at) e), omega (arith, ap (λ (v : Span). v .len) e))
+
+-- ---- the turns, by what the code's parts gave
+module _ (t : Table) (s : List ℕ) (z : Session) (out : List ℕ) (r : Step) where
+  pub text-step : (at : ℕ) (v m : Read) → v ≡ textEnd s at → v ≡ m → r ≡ planned (planBy t s z (textRead s (readerOf z) at m)) z out → r ≡ planned (planBy t s z (textRead s (readerOf z) at (textEnd s at))) z out
+  text-step at v m p q e = e ∙ ap (λ (x : Read). planned (planBy t s z (textRead s (readerOf z) at x)) z out) (sym q ∙ p)
+
+  pub end-read-step : (at : ℕ) (v m : Ended) → v ≡ endTagAt s (at + 2) → v ≡ m → r ≡ planned (planBy t s z (endRead s at (opensOf (z .scope)) m)) z out
+      → r ≡ planned (planBy t s z (endRead s at (opensOf (z .scope)) (endTagAt s (at + 2)))) z out
+  end-read-step at v m p q e = e ∙ ap (λ (x : Ended). planned (planBy t s z (endRead s at (opensOf (z .scope)) x)) z out) (sym q ∙ p)
+
+  module _ (h : 1 ≤ z .scope .depth) where
+    abbrev endStep : Span → ℕ → ℕ → Step
+    endStep part at place = planned (endPlan t s z h part at place) z out
+
+    pub awaited-step : z .awaited ≡ true → (name part : Span) (at : ℕ) → name ≡ nameIn (z .scope .levels) (z .scope .depth - 1) → part ≡ partOf s name → at ≡ name .at - 1
+        → r ≡ eventStep at (written (dispatch t) (stateOf t s z) (end part)) (withEnd z (z .place) (eqb (z .scope .depth) 1)) z out → r ≡ planned (planOf t s z) z out
+    awaited-step a name part at n p k e =
+        e
+        ∙ ap₂ (λ (w : Span) (i : ℕ). endStep w i (z .place)) (p ∙ ap (partOf s) n) (k ∙ ap (λ (w : Span). w .at - 1) n)
+        ∙ sym (ap (λ (x : Plan). planned x z out) (awaited-plan t s z h a))
+
+    pub stopped-end : (at : ℕ) (x : Stop) → r ≡ refusedStep (numberOf x) (placeOf s x) z out → r ≡ planned (planBy t s z (endRead s at (opensOf (z .scope)) (ended.Stopped x))) z out
+    stopped-end at x e = e ∙ sym (ap (λ (y : Plan). planned y z out) (stopped-plan t s z h at x))
+
+    module _ (at : ℕ) (tag : EndTag) (whole name : Span) (same : Bool) (w : whole ≡ wholeSpan (tag .name)) (n : name ≡ nameIn (z .scope .levels) (z .scope .depth - 1)) (q : same ≡ sameList (bytesOf s whole) (bytesOf s name)) where
+      same-is : same ≡ sameList (bytesOf s (wholeSpan (tag .name))) (bytesOf s (nameIn (z .scope .levels) (z .scope .depth - 1)))
+      same-is = q ∙ ap₂ (λ (v x : Span). sameList (bytesOf s v) (bytesOf s x)) w n
+
+      pub unlike-step : not same ≡ true → r ≡ refusedStep 4 at z out → r ≡ planned (planBy t s z (endRead s at (opensOf (z .scope)) (ended.Got tag))) z out
+      unlike-step u e =
+          e ∙ sym (ap (λ (y : Plan). planned y z out) (unlike-plan t s z h at tag (untold same (sameList (bytesOf s (wholeSpan (tag .name))) (bytesOf s (nameIn (z .scope .levels) (z .scope .depth - 1)))) same-is u)))
+
+      pub end-step : not same ≡ false → (part : Span) → part ≡ partSpan (tag .name)
+          → r ≡ eventStep at (written (dispatch t) (stateOf t s z) (end part)) (withEnd z (tag .next) (eqb (z .scope .depth) 1)) z out
+          → r ≡ planned (planBy t s z (endRead s at (opensOf (z .scope)) (ended.Got tag))) z out
+      end-step u part p e =
+          e
+          ∙ ap (λ (v : Span). endStep v at (tag .next)) p
+          ∙ sym (ap (λ (y : Plan). planned y z out) (end-plan t s z h at tag (untold′ same (sameList (bytesOf s (wholeSpan (tag .name))) (bytesOf s (nameIn (z .scope .levels) (z .scope .depth - 1)))) same-is u)))

@@ -1,0 +1,97 @@
+-- `ends::end_event` meets its contract: 25, or the end's records and one level less.
+use Prim.Native.Nat.{ℕ, _+_, _*_, _-_}
+use mathlib.Core.Path.{ap, _∙_}
+use mathlib.Core.Bool.{true}
+use mathlib.Core.List.{List}
+use native.Mathlib.Omega.{arith}
+use borrow.Author.Needs.{needs}
+use lib.ListN.{getD}
+use lib.Dec.{eqb}
+use Rattle.table.specs.Table.{Table}
+use Rattle.model.specs.Tree.{end}
+use Rattle.model.specs.Stream.{written}
+use Rattle.model.specs.Records.{spaced}
+use Rattle.model.specs.Dispatch.{dispatch}
+use Rattle.records.specs.Rows.{bodyOf}
+use Rattle.dispatcher.specs.Sessions.{classIn, uriIn, sessionOf, stateOf, withEnd}
+use Rattle.dispatcher.specs.Stepping.{answered}
+use Rattle.dispatcher.specs.Turns.{stepBy}
+use Rattle.dispatcher.specs.declared.Session.{Session}
+use Rattle.dispatcher.specs.declared.Head.{Head}
+use Rattle.dispatcher.specs.declared.Turn.{Turn}
+use Rattle.dispatcher.proofs.EventTurns.{written-end, event-full, event-room, end-body, closed-session}
+use Rattle.dispatcher.proofs.ends.end_event.Statement.{statement}
+use Rattle.dispatcher.proofs.ends.end_event.Tie as tie
+
+sub-level : tie.Need-sub-level
+sub-level c = search needs
+
+count-at-requires : tie.Need-count-at-requires
+count-at-requires c κs = search needs
+
+event-count-requires : tie.Need-event-count-requires
+event-count-requires c κs = (omega arith, omega (arith, c .count-at .ensures))
+
+stop-requires : tie.Need-stop-requires
+stop-requires c κs = search needs
+
+returns : tie.Need-returns
+returns c = λ (t : Table) (s bindings : List ℕ).
+    let b = c .before .before .before .before .before .before in
+    let a = b .args in
+    let z = sessionOf (a .head) (a .levels .now) bindings (a .spaces .now) (a .strands .now) in
+    let level = a .head .depth - 1 in
+    ap (λ (r : Turn). stepBy r (a .levels .now) bindings (a .spaces .now) (a .strands .now) (a .out .now)) (c .stop .ensures)
+    ∙ event-full (spaced 5 (a .part) (classIn z level) (uriIn z level)) true (a .strands .now) level _ (getD (a .spaces .now) (4 * level + 3) 0) _
+    (written (dispatch t) (stateOf t s z) (end (a .part)))
+    (written-end t s z (b .pre .0) (a .part))
+    (c .before .before .before .count-at .ensures)
+    (c .before .before .event-count .ensures .0)
+    (a .at) (withEnd z (a .place) (eqb (a .head .depth) 1)) z (a .out .now) (c .before .if1 .taken)
+
+end-row-requires : tie.Need-end-row-requires
+end-row-requires c κs = search needs
+
+write-event-requires : tie.Need-write-event-requires
+write-event-requires c κs = (omega arith, omega (arith, c .before .before .before .before .count-at .ensures))
+
+closed-head-requires : tie.Need-closed-head-requires
+closed-head-requires c κs = search needs
+
+same-length : tie.Need-same-length
+same-length c = search needs
+
+returns-2 : tie.Need-returns-2
+returns-2 c = λ (t : Table) (s bindings : List ℕ).
+    let b = c .before .before .before .before .before .before .before .before .before .before .before in
+    let a = b .args in
+    let p = b .pre in
+    let z = sessionOf (a .head) (a .levels .now) bindings (a .spaces .now) (a .strands .now) in
+    let level = a .head .depth - 1 in
+    let out = c .before .before .before .write-event .last .1 .1 .1 .1 .1 .0 in
+    ap (λ (h : Head). record { answer = answered 0 (a .place) 1 (c .before .before .before .before .before .before .before .event-count .result); session = sessionOf h (a .levels .now) bindings (a .spaces .now) (a .strands .now); output = out }) (c .closed-head .ensures)
+    ∙ ap (λ (y : Session). record { answer = answered 0 (a .place) 1 (c .before .before .before .before .before .before .before .event-count .result); session = y; output = out })
+    (closed-session (a .head) (a .place) (a .levels .now) bindings (a .spaces .now) (a .strands .now) (p .0) (p .1))
+    ∙ event-room (spaced 5 (a .part) (classIn z level) (uriIn z level)) true (a .strands .now) level _ (getD (a .spaces .now) (4 * level + 3) 0) _
+    (written (dispatch t) (stateOf t s z) (end (a .part)))
+    (written-end t s z (p .0) (a .part))
+    (c .before .before .before .before .before .before .before .before .count-at .ensures)
+    (c .before .before .before .before .before .before .before .event-count .ensures .0)
+    (a .at) (withEnd z (a .place) (eqb (a .head .depth) 1)) z (a .out .now) (c .before .before .before .before .before .end-row .result) _ _ (c .before .before .before .before .before .before .if1 .left)
+    (ap bodyOf (c .before .before .before .before .before .end-row .ensures) ∙ end-body (a .part) (a .spaces .now) level (p .3) (p .4) (p .5))
+    (c .before .before .before .write-event .ensures)
+
+pub end-event-spec : {M : Type 1} → statement M
+end-event-spec =
+    tie.close
+    (tie.spec
+    sub-level
+    count-at-requires
+    event-count-requires
+    stop-requires
+    returns
+    end-row-requires
+    write-event-requires
+    closed-head-requires
+    same-length
+    returns-2)

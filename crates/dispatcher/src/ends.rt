@@ -1,0 +1,290 @@
+// A text and an end.
+use crate::Head;
+use crate::Turn;
+use crate::turns::stop;
+use crate::turns::stopped;
+use lexer::EndTag;
+use lexer::Ended;
+use lexer::Read;
+use lexer::tags::end_tag;
+use lexer::values::text_end;
+use reader::Span;
+use reader::kinds::minus;
+use reader::scopes::name_in;
+use reader::scopes::part_in;
+use reader::scopes::same_name;
+use records::Row;
+use strands::attributes::narrow;
+use strands::events::event_count;
+use strands::events::write_event;
+ghost use mathlib.Core.Path.{_≡_};
+ghost use mathlib.Core.List.{List};
+ghost use mathlib.Core.Bool.{true};
+ghost use Prim.Native.Nat.{ℕ, _+_, _*_, _-_, _≤_, _<_};
+ghost use lib.ListN.{length, getD};
+ghost use lib.Dec.{eqb};
+ghost use Rattle.table.specs.Table.{Table};
+ghost use Rattle.reader.specs.Spans.{between};
+ghost use Rattle.reader.specs.Scope.{opensOf};
+ghost use Rattle.reader.specs.Events.{textRead, endRead};
+ghost use Rattle.lexer.specs.Values.{textEnd};
+ghost use Rattle.lexer.specs.Tags.{endTagAt};
+ghost use Rattle.lexer.specs.declared.Ended.the-variants as ended;
+ghost use Rattle.model.specs.Tree.{text, end};
+ghost use Rattle.model.specs.Stream.{written};
+ghost use Rattle.model.specs.Records.{textBody};
+ghost use Rattle.model.specs.Dispatch.{dispatch};
+ghost use Rattle.strands.specs.Writing.{rowFor};
+ghost use Rattle.dispatcher.specs.Sessions.{sessionOf, readerOf, stateOf, withPlace, withEnd};
+ghost use Rattle.dispatcher.specs.Stepping.{planBy, planOf, planned, eventStep};
+ghost use Rattle.dispatcher.specs.Turns.{Innermost, endRow, closedHead, stepBy};
+
+// A number of a level's space: 0 its class, 1 and 2 its URI's place and length, 3 how many strands it has.
+pub fn space_at(spaces: &[u32; 256], level: usize, k: usize) -> u32
+    requires { ⌜ (level < 64) × (k < 4) ⌝ }
+    ensures { λ r. ⌜ r ≡ getD (now (spaces .entry)) (4 * level + k) 0 ⌝ }
+{
+    spaces[4 * level + k]
+}
+
+// How many strands a level has.
+pub fn count_at(spaces: &[u32; 256], level: usize) -> usize
+    requires { ⌜ level < 64 ⌝ }
+    ensures { λ r. ⌜ r ≡ getD (now (spaces .entry)) (4 * level + 3) 0 ⌝ }
+{
+    space_at(spaces, level, 3) as usize
+}
+
+fn text_row(at: usize, end: usize) -> Row
+    requires { ⌜ (at < 4294967296) × (end < 4294967296) ⌝ }
+    ensures { λ r. ⌜ r ≡ rowFor 0 (textBody (between at end)) ⌝ }
+{
+    Row {
+        unit: 0,
+        kind: 4,
+        class: 0,
+        at: narrow(at),
+        len: narrow(minus(end, at)),
+        uri_at: 0,
+        uri_len: 0,
+    }
+}
+
+// A text that was read: 25, or its records.
+fn text_event(
+    at: usize,
+    end: usize,
+    head: Head,
+    spaces: &[u32; 256],
+    strands: &[u32; 1024],
+    out: &mut [u8],
+) -> Turn
+    requires { ⌜ (1 ≤ head .depth) × (head .depth ≤ 64) × (getD (now spaces) (4 * (head .depth - 1) + 3) 0 ≤ 16) × (at < 4294967296) × (end < 4294967296) ⌝ }
+    ensures { λ r. ⌜ ((t : Table) (s levels bindings : List ℕ) → (
+        let z = sessionOf head levels bindings (now (spaces .entry)) (now (strands .entry)) in
+        stepBy r levels bindings (now (spaces .entry)) (now (strands .entry)) (now (out .exit))
+        ≡ eventStep at (written (dispatch t) (stateOf t s z) (text (between at end))) (withPlace z end) z (now (out .entry))
+        )) ⌝ }
+{
+    let level = head.depth - 1;
+    let n = count_at(spaces, level);
+    let records = event_count(strands, level, n, false);
+    if out.len() / 16 < records {
+        return stop(25, at, head);
+    }
+    write_event(strands, level, n, text_row(at, end), false, out);
+    let next = Head {
+        place: end,
+        units: head.units,
+        closed: head.closed,
+        awaited: head.awaited,
+        depth: head.depth,
+        bound: head.bound,
+    };
+    Turn {
+        number: 0,
+        place: end,
+        records,
+        head: next,
+    }
+}
+
+// The text whose first byte stands at a place.
+pub fn text_turn(
+    scene: &[u8],
+    at: usize,
+    head: Head,
+    spaces: &[u32; 256],
+    strands: &[u32; 1024],
+    out: &mut [u8],
+) -> Turn
+    requires { ⌜ (length (now scene) ≤ 16777215) × (1 ≤ head .depth) × (head .depth ≤ 64) × (getD (now spaces) (4 * (head .depth - 1) + 3) 0 ≤ 16) × (at ≤ length (now scene)) ⌝ }
+    ensures { λ r. ⌜ ((t : Table) (levels bindings : List ℕ) → (
+        let s = now (scene .entry) in
+        let z = sessionOf head levels bindings (now (spaces .entry)) (now (strands .entry)) in
+        stepBy r levels bindings (now (spaces .entry)) (now (strands .entry)) (now (out .exit))
+        ≡ planned (planBy t s z (textRead s (readerOf z) at (textEnd s at))) z (now (out .entry))
+        )) ⌝ }
+{
+    match text_end(scene, at) {
+        Read::End(end) => text_event(at, end, head, spaces, strands, out),
+        Read::Stopped(x) => stopped(scene, x, head),
+    }
+}
+
+fn end_row(part: Span, spaces: &[u32; 256], level: usize) -> Row
+    requires { ⌜ level < 64 ⌝ }
+    ensures { λ r. ⌜ r ≡ endRow part (now (spaces .entry)) level ⌝ }
+{
+    Row {
+        unit: 0,
+        kind: 5,
+        class: (space_at(spaces, level, 0) % 256) as u8,
+        at: narrow(part.at),
+        len: narrow(part.len),
+        uri_at: space_at(spaces, level, 1),
+        uri_len: space_at(spaces, level, 2),
+    }
+}
+
+// The session's numbers behind the end of the innermost level.
+fn closed_head(head: Head, place: usize, levels: &[u32; 192]) -> Head
+    requires { ⌜ (1 ≤ head .depth) × (head .depth ≤ 64) ⌝ }
+    ensures { λ r. ⌜ r ≡ closedHead head place (now (levels .entry)) ⌝ }
+{
+    let all: &[u32] = levels;
+    let level = head.depth - 1;
+    Head {
+        place,
+        units: head.units,
+        closed: level == 0,
+        awaited: false,
+        depth: level,
+        bound: minus(head.bound, all[3 * level + 2] as usize),
+    }
+}
+
+// The end of the innermost level, its name's part, its tag's < and the place behind it: 25, or its records.
+fn end_event(
+    part: Span,
+    at: usize,
+    place: usize,
+    head: Head,
+    levels: &[u32; 192],
+    spaces: &[u32; 256],
+    strands: &[u32; 1024],
+    out: &mut [u8],
+) -> Turn
+    requires { ⌜ (1 ≤ head .depth) × (head .depth ≤ 64) × (getD (now spaces) (4 * (head .depth - 1) + 3) 0 ≤ 16) × (getD (now spaces) (4 * (head .depth - 1)) 0 < 256) × (part .at < 4294967296) × (part .len < 4294967296) ⌝ }
+    ensures { λ r. ⌜ ((t : Table) (s bindings : List ℕ) → (
+        let z = sessionOf head (now (levels .entry)) bindings (now (spaces .entry)) (now (strands .entry)) in
+        stepBy r (now (levels .entry)) bindings (now (spaces .entry)) (now (strands .entry)) (now (out .exit))
+        ≡ eventStep at (written (dispatch t) (stateOf t s z) (end part)) (withEnd z place (eqb (head .depth) 1)) z (now (out .entry))
+        )) ⌝ }
+{
+    let level = head.depth - 1;
+    let n = count_at(spaces, level);
+    let records = event_count(strands, level, n, true);
+    if out.len() / 16 < records {
+        return stop(25, at, head);
+    }
+    write_event(strands, level, n, end_row(part, spaces, level), true, out);
+    Turn {
+        number: 0,
+        place,
+        records,
+        head: closed_head(head, place, levels),
+    }
+}
+
+// The end of a tag />, which no byte makes.
+pub fn awaited_turn(
+    scene: &[u8],
+    head: Head,
+    levels: &[u32; 192],
+    spaces: &[u32; 256],
+    strands: &[u32; 1024],
+    out: &mut [u8],
+) -> Turn
+    requires { ⌜ Innermost (now scene) head (now levels) (now spaces) × (head .awaited ≡ true) ⌝ }
+    ensures { λ r. ⌜ ((t : Table) (bindings : List ℕ) → (
+        let s = now (scene .entry) in
+        let z = sessionOf head (now (levels .entry)) bindings (now (spaces .entry)) (now (strands .entry)) in
+        stepBy r (now (levels .entry)) bindings (now (spaces .entry)) (now (strands .entry)) (now (out .exit))
+        ≡ planned (planOf t s z) z (now (out .entry))
+        )) ⌝ }
+{
+    let name = name_in(levels, head.depth - 1);
+    let part = part_in(scene, name);
+    end_event(
+        part,
+        minus(name.at, 1),
+        head.place,
+        head,
+        levels,
+        spaces,
+        strands,
+        out,
+    )
+}
+
+fn span_between(from: usize, to: usize) -> Span
+    ensures { λ r. ⌜ r ≡ between from to ⌝ }
+{
+    Span {
+        at: from,
+        len: minus(to, from),
+    }
+}
+
+// An end tag that was read: 4, or its end.
+fn named_end(
+    scene: &[u8],
+    at: usize,
+    tag: EndTag,
+    head: Head,
+    levels: &[u32; 192],
+    spaces: &[u32; 256],
+    strands: &[u32; 1024],
+    out: &mut [u8],
+) -> Turn
+    requires { ⌜ Innermost (now scene) head (now levels) (now spaces) × (tag .name .end < 4294967296) × (tag .name .part < 4294967296) ⌝ }
+    ensures { λ r. ⌜ ((t : Table) (bindings : List ℕ) → (
+        let s = now (scene .entry) in
+        let z = sessionOf head (now (levels .entry)) bindings (now (spaces .entry)) (now (strands .entry)) in
+        stepBy r (now (levels .entry)) bindings (now (spaces .entry)) (now (strands .entry)) (now (out .exit))
+        ≡ planned (planBy t s z (endRead s at (opensOf (z .scope)) (ended.Got tag))) z (now (out .entry))
+        )) ⌝ }
+{
+    let name = tag.name;
+    let whole = span_between(name.at, name.end);
+    if !same_name(scene, whole, name_in(levels, head.depth - 1)) {
+        return stop(4, at, head);
+    }
+    let part = span_between(name.part, name.end);
+    end_event(part, at, tag.next, head, levels, spaces, strands, out)
+}
+
+// The end tag whose < stands at a place.
+pub fn end_turn(
+    scene: &[u8],
+    at: usize,
+    head: Head,
+    levels: &[u32; 192],
+    spaces: &[u32; 256],
+    strands: &[u32; 1024],
+    out: &mut [u8],
+) -> Turn
+    requires { ⌜ Innermost (now scene) head (now levels) (now spaces) × (at + 2 ≤ length (now scene)) ⌝ }
+    ensures { λ r. ⌜ ((t : Table) (bindings : List ℕ) → (
+        let s = now (scene .entry) in
+        let z = sessionOf head (now (levels .entry)) bindings (now (spaces .entry)) (now (strands .entry)) in
+        stepBy r (now (levels .entry)) bindings (now (spaces .entry)) (now (strands .entry)) (now (out .exit))
+        ≡ planned (planBy t s z (endRead s at (opensOf (z .scope)) (endTagAt s (at + 2)))) z (now (out .entry))
+        )) ⌝ }
+{
+    match end_tag(scene, at + 2) {
+        Ended::Got(tag) => named_end(scene, at, tag, head, levels, spaces, strands, out),
+        Ended::Stopped(x) => stopped(scene, x, head),
+    }
+}

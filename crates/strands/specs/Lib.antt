@@ -1,0 +1,5 @@
+pub mod Packed
+pub mod Rules
+pub mod Entries
+pub mod Attributes
+pub mod Writing

@@ -1,0 +1,204 @@
+// How many records and units a start makes, counted before one is written.
+use crate::Load;
+use crate::packed::delivers;
+use crate::packed::is_here;
+use crate::packed::mode_of;
+use crate::rules::keeps_class;
+use crate::rules::units_for;
+ghost use mathlib.Core.Path.{_≡_};
+ghost use mathlib.Core.List.{List};
+ghost use Prim.Native.Nat.{ℕ, _*_, _≤_, _<_};
+ghost use lib.ListN.{length, getD};
+ghost use Rattle.laws.specs.Lists.{tabulate, keep};
+ghost use Rattle.laws.specs.Gather.{total};
+ghost use Rattle.model.specs.Stream.{Entry};
+ghost use Rattle.strands.specs.Packed.{strandIn};
+ghost use Rattle.strands.specs.Rules.{unitsFor};
+ghost use Rattle.strands.specs.Entries.{entriesIn};
+ghost use Rattle.strands.specs.Attributes.{Sorted, sortedIn, allSorted};
+ghost use Rattle.strands.specs.Writing.{members, headClass, keeps, sectionCount, elementCount};
+
+// The class of the k-th attribute's namespace.
+pub fn class_at(attributes: &[u32; 128], k: usize) -> u8
+    requires { ⌜ k < 16 ⌝ }
+    ensures { λ r. ⌜ ((sections : List ℕ) → r ≡ sortedIn (now (attributes .entry)) sections k .class) ⌝ }
+{
+    (attributes[8 * k + 4] % 256) as u8
+}
+
+// How many of the n attributes are of the j-th section.
+pub fn members_of(sections: &[usize; 16], n: usize, j: usize) -> usize
+    requires { ⌜ n ≤ 16 ⌝ }
+    ensures { λ r. ⌜ ((attributes : List ℕ) → r ≡ length (members (allSorted attributes (now (sections .entry)) n) j)) × (r ≤ 16) ⌝ }
+{
+    let mut m = 0;
+    let mut k = 0;
+    while k < n {
+        if sections[k] == j {
+            m += 1;
+        }
+        k += 1;
+    }
+    m
+}
+
+// The class of the j-th section: that of its first attribute; 0 where it has none.
+pub fn section_class(attributes: &[u32; 128], sections: &[usize; 16], n: usize, j: usize) -> u8
+    requires { ⌜ n ≤ 16 ⌝ }
+    ensures { λ r. ⌜ r ≡ headClass (members (allSorted (now (attributes .entry)) (now (sections .entry)) n) j) ⌝ }
+{
+    let mut k = 0;
+    while k < n {
+        if sections[k] == j {
+            return class_at(attributes, k);
+        }
+        k += 1;
+    }
+    0
+}
+
+// The attribute units of a strand in this mode, of the first m sections.
+pub fn load_of(
+    index: &[u32; 256],
+    attributes: &[u32; 128],
+    sections: &[usize; 16],
+    n: usize,
+    m: usize,
+    mode: u8,
+) -> Load
+    requires { ⌜ (n ≤ 16) × (m ≤ 16) ⌝ }
+    ensures { λ r. ⌜ (
+        let l = allSorted (now (attributes .entry)) (now (sections .entry)) n in
+        let js = tabulate (λ (j : ℕ). j) 1 m in
+        (r .units ≡ total (λ (j : ℕ). unitsFor (now (index .entry)) mode (headClass (members l j))) js)
+        × (r .records ≡ total (sectionCount (now (index .entry)) mode l) js)
+        × (r .units ≤ 2048)
+        × (r .records ≤ 73728)
+        ) ⌝ }
+{
+    let mut units = 0;
+    let mut records = 0;
+    let mut j = 1;
+    while j <= m {
+        let class = section_class(attributes, sections, n, j);
+        let v = units_for(index, mode, class);
+        units += v;
+        records += v * (4 + 2 * members_of(sections, n, j));
+        j += 1;
+    }
+    Load { units, records }
+}
+
+// The attribute units of all strands.
+pub fn load_all(
+    index: &[u32; 256],
+    attributes: &[u32; 128],
+    sections: &[usize; 16],
+    n: usize,
+    m: usize,
+    words: &[u32; 16],
+    count: usize,
+) -> Load
+    requires { ⌜ (n ≤ 16) × (m ≤ 16) × (count ≤ 16) ⌝ }
+    ensures { λ r. ⌜ (
+        let l = allSorted (now (attributes .entry)) (now (sections .entry)) n in
+        let js = tabulate (λ (j : ℕ). j) 1 m in
+        let ws = tabulate (λ (k : ℕ). getD (now (words .entry)) k 0) 0 count in
+        (r .units ≡ total (λ (w : ℕ). total (λ (j : ℕ). unitsFor (now (index .entry)) (strandIn w .mode) (headClass (members l j))) js) ws)
+        × (r .records ≡ total (λ (w : ℕ). total (sectionCount (now (index .entry)) (strandIn w .mode) l) js) ws)
+        × (r .units ≤ 32768)
+        × (r .records ≤ 1179648)
+        ) ⌝ }
+{
+    let mut units = 0;
+    let mut records = 0;
+    let mut k = 0;
+    while k < count {
+        let one = load_of(index, attributes, sections, n, m, mode_of(words[k]));
+        units += one.units;
+        records += one.records;
+        k += 1;
+    }
+    Load { units, records }
+}
+
+// Is the k-th attribute kept with the element along a strand of this mode?
+pub fn is_kept(
+    index: &[u32; 256],
+    mode: u8,
+    attributes: &[u32; 128],
+    sections: &[usize; 16],
+    k: usize,
+) -> bool
+    requires { ⌜ k < 16 ⌝ }
+    ensures { λ r. ⌜ r ≡ keeps (now (index .entry)) mode (sortedIn (now (attributes .entry)) (now (sections .entry)) k) ⌝ }
+{
+    if sections[k] == 0 {
+        return true;
+    }
+    keeps_class(index, mode, class_at(attributes, k))
+}
+
+// How many of the n attributes are kept.
+pub fn kept_count(
+    index: &[u32; 256],
+    mode: u8,
+    attributes: &[u32; 128],
+    sections: &[usize; 16],
+    n: usize,
+) -> usize
+    requires { ⌜ n ≤ 16 ⌝ }
+    ensures { λ r. ⌜ (r ≡ length (keep (keeps (now (index .entry)) mode) (allSorted (now (attributes .entry)) (now (sections .entry)) n))) × (r ≤ 16) ⌝ }
+{
+    let mut m = 0;
+    let mut k = 0;
+    while k < n {
+        if is_kept(index, mode, attributes, sections, k) {
+            m += 1;
+        }
+        k += 1;
+    }
+    m
+}
+
+// How many records the element makes along a strand.
+fn element_count(
+    index: &[u32; 256],
+    w: u32,
+    attributes: &[u32; 128],
+    sections: &[usize; 16],
+    n: usize,
+) -> usize
+    requires { ⌜ n ≤ 16 ⌝ }
+    ensures { λ r. ⌜ ((schema : ℕ) → r ≡ elementCount (now (index .entry)) (allSorted (now (attributes .entry)) (now (sections .entry)) n) (record { strand = strandIn w; schema = schema })) × (r ≤ 34) ⌝ }
+{
+    if !delivers(w) {
+        return 0;
+    }
+    let kept = kept_count(index, mode_of(w), attributes, sections, n);
+    if is_here(w) {
+        return 2 + 2 * kept;
+    }
+    1 + 2 * kept
+}
+
+// How many records the element makes along all strands.
+pub fn elements_count(
+    index: &[u32; 256],
+    words: &[u32; 16],
+    count: usize,
+    attributes: &[u32; 128],
+    sections: &[usize; 16],
+    n: usize,
+) -> usize
+    requires { ⌜ (n ≤ 16) × (count ≤ 16) ⌝ }
+    ensures { λ r. ⌜ ((schemas : List ℕ) → r ≡ total (elementCount (now (index .entry)) (allSorted (now (attributes .entry)) (now (sections .entry)) n)) (entriesIn (now (words .entry)) schemas count)) × (r ≤ 544) ⌝ }
+{
+    let mut m = 0;
+    let mut k = 0;
+    while k < count {
+        m += element_count(index, words[k], attributes, sections, n);
+        k += 1;
+    }
+    m
+}

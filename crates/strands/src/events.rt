@@ -1,0 +1,98 @@
+// A text and an end: what each strand of the innermost level writes.
+use crate::entries::strand_at;
+use crate::packed::delivers;
+use crate::packed::is_here;
+use crate::packed::target_of;
+use records::Row;
+use records::put_row_if;
+ghost use mathlib.Core.Path.{_≡_};
+ghost use mathlib.Core.List.{map};
+ghost use Prim.Native.Nat.{_*_, _≤_, _<_};
+ghost use Rattle.laws.specs.Gather.{gather, total};
+ghost use Rattle.reader.specs.Spans.{span};
+ghost use Rattle.model.specs.Records.{plain};
+ghost use Rattle.records.specs.Rows.{laid, laidRows, bodyOf};
+ghost use Rattle.strands.specs.Packed.{wordsAt};
+ghost use Rattle.strands.specs.Writing.{rowFor, rowOf, eventCount, eventRecords};
+
+// How many records a strand writes.
+fn records_of(w: u32, closes: bool) -> usize
+    ensures { λ r. ⌜ (r ≡ eventCount closes w) × (r ≤ 2) ⌝ }
+{
+    if !delivers(w) {
+        return 0;
+    }
+    if closes & is_here(w) {
+        return 2;
+    }
+    1
+}
+
+// How many records n strands of a level write.
+pub fn event_count(strands: &[u32; 1024], level: usize, n: usize, closes: bool) -> usize
+    requires { ⌜ (level < 64) × (n ≤ 16) ⌝ }
+    ensures { λ r. ⌜ (r ≡ total (eventCount closes) (wordsAt (now (strands .entry)) level n)) × (r ≤ 32) ⌝ }
+{
+    let mut k = 0;
+    let mut j = 0;
+    while j < n {
+        k += records_of(strand_at(strands, level, j), closes);
+        j += 1;
+    }
+    k
+}
+
+// A row with another unit.
+fn with_unit(row: Row, unit: u32) -> Row
+    ensures { λ r. ⌜ r ≡ rowFor unit (bodyOf row) ⌝ }
+{
+    Row {
+        unit,
+        kind: row.kind,
+        class: row.class,
+        at: row.at,
+        len: row.len,
+        uri_at: row.uri_at,
+        uri_len: row.uri_len,
+    }
+}
+
+// A row of this unit with kind and class alone.
+pub fn plain_row(unit: u32, kind: u8, class: u8) -> Row
+    ensures { λ r. ⌜ r ≡ rowFor unit (plain kind class (span 0 0)) ⌝ }
+{
+    Row {
+        unit,
+        kind,
+        class,
+        at: 0,
+        len: 0,
+        uri_at: 0,
+        uri_len: 0,
+    }
+}
+
+// The row, for each of n strands of a level that delivers, and a close if its unit opened at this element and the event closes.
+pub fn write_event(
+    strands: &[u32; 1024],
+    level: usize,
+    n: usize,
+    row: Row,
+    closes: bool,
+    out: &mut [u8],
+) -> usize
+    requires { ⌜ (level < 64) × (n ≤ 16) ⌝ }
+    ensures { λ r. ⌜ laid (now (out .exit)) r ≡ laidRows (laid (now (out .entry)) 0) (map rowOf (gather (eventRecords (bodyOf row) closes) (wordsAt (now (strands .entry)) level n))) ⌝ }
+{
+    let mut used = 0;
+    let mut j = 0;
+    while j < n {
+        let w = strand_at(strands, level, j);
+        let due = delivers(w);
+        let unit = target_of(w);
+        let next = put_row_if(out, used, due, with_unit(row, unit));
+        used = put_row_if(out, next, due & closes & is_here(w), plain_row(unit, 6, 0));
+        j += 1;
+    }
+    used
+}
