@@ -16,8 +16,13 @@ pub mod Spaces
 pub mod Followed
 pub mod Behind
 pub mod SoundStep
-pub mod UriSpans
 pub mod UriNamed
 pub mod TagMeant
 pub mod EventTurns
 pub mod RunTurns
+pub mod Deciding
+pub mod Joined
+pub mod Sorting
+pub mod StartCounts
+pub mod DecidedStart
+pub mod DecideWays

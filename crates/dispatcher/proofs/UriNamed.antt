@@ -26,12 +26,12 @@ use Rattle.reader.specs.declared.Span.{Span}
 use Rattle.reader.proofs.TagMeaning.{NamespaceHeld}
 use Rattle.model.specs.Elements.{spaceOf}
 use Rattle.dispatcher.specs.Sessions.{levelUri}
-use Rattle.dispatcher.specs.Uris.{stands, uriSpanOf, partBy, uriOf}
-use Rattle.dispatcher.specs.declared.UriSpan.{UriSpan}
-use Rattle.dispatcher.specs.declared.Source.{Source}
-use Rattle.dispatcher.specs.declared.Source.the-variants.{Table, Scene}
+use Rattle.uris.specs.Uris.{stands, uriSpanOf, partBy, uriOf}
+use Rattle.uris.specs.declared.UriSpan.{UriSpan}
+use Rattle.uris.specs.declared.Source.{Source}
+use Rattle.uris.specs.declared.Source.the-variants.{Table, Scene}
 use Rattle.dispatcher.proofs.Spaces.{class-bounds, uri-back, uri-held}
-use Rattle.dispatcher.proofs.UriSpans.{listed-class, in-scene, nowhere}
+use Rattle.uris.proofs.UriSpans.{listed-class, in-scene, nowhere}
 
 -- ---- inside
 abbrev pub StandsIn : List ℕ → List ℕ → Source → ℕ → ℕ → Type 0

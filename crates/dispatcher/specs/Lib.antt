@@ -3,6 +3,5 @@ pub mod Coherence
 pub mod Checks
 pub mod Stepping
 pub mod Turns
-pub mod Uris
 pub mod CoherenceExamples
 pub mod StepExamples

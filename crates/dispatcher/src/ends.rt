@@ -1,5 +1,6 @@
 // A text and an end.
 use crate::Head;
+use crate::Session;
 use crate::Turn;
 use crate::turns::stop;
 use crate::turns::stopped;
@@ -40,7 +41,7 @@ ghost use Rattle.dispatcher.specs.Stepping.{planBy, planOf, planned, eve
 ghost use Rattle.dispatcher.specs.Turns.{Innermost, endRow, closedHead, stepBy};
 
 // A number of a level's space: 0 its class, 1 and 2 its URI's place and length, 3 how many strands it has.
-pub fn space_at(spaces: &[u32; 256], level: usize, k: usize) -> u32
+pub fn space_at(spaces: &[u32; 4 * Session::DEPTH], level: usize, k: usize) -> u32
     requires { ⌜ (level < 64) × (k < 4) ⌝ }
     ensures { λ r. ⌜ r ≡ getD (now (spaces .entry)) (4 * level + k) 0 ⌝ }
 {
@@ -48,7 +49,7 @@ pub fn space_at(spaces: &[u32; 256], level: usize, k: usize) -> u32
 }
 
 // How many strands a level has.
-pub fn count_at(spaces: &[u32; 256], level: usize) -> usize
+pub fn count_at(spaces: &[u32; 4 * Session::DEPTH], level: usize) -> usize
     requires { ⌜ level < 64 ⌝ }
     ensures { λ r. ⌜ r ≡ getD (now (spaces .entry)) (4 * level + 3) 0 ⌝ }
 {
@@ -75,8 +76,8 @@ fn text_event(
     at: usize,
     end: usize,
     head: Head,
-    spaces: &[u32; 256],
-    strands: &[u32; 1024],
+    spaces: &[u32; 4 * Session::DEPTH],
+    strands: &[u32; Session::STRANDS * Session::DEPTH],
     out: &mut [u8],
 ) -> Turn
     requires { ⌜ (1 ≤ head .depth) × (head .depth ≤ 64) × (getD (now spaces) (4 * (head .depth - 1) + 3) 0 ≤ 16) × (at < 4294967296) × (end < 4294967296) ⌝ }
@@ -114,8 +115,8 @@ pub fn text_turn(
     scene: &[u8],
     at: usize,
     head: Head,
-    spaces: &[u32; 256],
-    strands: &[u32; 1024],
+    spaces: &[u32; 4 * Session::DEPTH],
+    strands: &[u32; Session::STRANDS * Session::DEPTH],
     out: &mut [u8],
 ) -> Turn
     requires { ⌜ (length (now scene) ≤ 16777215) × (1 ≤ head .depth) × (head .depth ≤ 64) × (getD (now spaces) (4 * (head .depth - 1) + 3) 0 ≤ 16) × (at ≤ length (now scene)) ⌝ }
@@ -132,7 +133,7 @@ pub fn text_turn(
     }
 }
 
-fn end_row(part: Span, spaces: &[u32; 256], level: usize) -> Row
+fn end_row(part: Span, spaces: &[u32; 4 * Session::DEPTH], level: usize) -> Row
     requires { ⌜ level < 64 ⌝ }
     ensures { λ r. ⌜ r ≡ endRow part (now (spaces .entry)) level ⌝ }
 {
@@ -148,7 +149,7 @@ fn end_row(part: Span, spaces: &[u32; 256], level: usize) -> Row
 }
 
 // The session's numbers behind the end of the innermost level.
-fn closed_head(head: Head, place: usize, levels: &[u32; 192]) -> Head
+fn closed_head(head: Head, place: usize, levels: &[u32; 3 * Session::DEPTH]) -> Head
     requires { ⌜ (1 ≤ head .depth) × (head .depth ≤ 64) ⌝ }
     ensures { λ r. ⌜ r ≡ closedHead head place (now (levels .entry)) ⌝ }
 {
@@ -170,9 +171,9 @@ fn end_event(
     at: usize,
     place: usize,
     head: Head,
-    levels: &[u32; 192],
-    spaces: &[u32; 256],
-    strands: &[u32; 1024],
+    levels: &[u32; 3 * Session::DEPTH],
+    spaces: &[u32; 4 * Session::DEPTH],
+    strands: &[u32; Session::STRANDS * Session::DEPTH],
     out: &mut [u8],
 ) -> Turn
     requires { ⌜ (1 ≤ head .depth) × (head .depth ≤ 64) × (getD (now spaces) (4 * (head .depth - 1) + 3) 0 ≤ 16) × (getD (now spaces) (4 * (head .depth - 1)) 0 < 256) × (part .at < 4294967296) × (part .len < 4294967296) ⌝ }
@@ -201,9 +202,9 @@ fn end_event(
 pub fn awaited_turn(
     scene: &[u8],
     head: Head,
-    levels: &[u32; 192],
-    spaces: &[u32; 256],
-    strands: &[u32; 1024],
+    levels: &[u32; 3 * Session::DEPTH],
+    spaces: &[u32; 4 * Session::DEPTH],
+    strands: &[u32; Session::STRANDS * Session::DEPTH],
     out: &mut [u8],
 ) -> Turn
     requires { ⌜ Innermost (now scene) head (now levels) (now spaces) × (head .awaited ≡ true) ⌝ }
@@ -243,9 +244,9 @@ fn named_end(
     at: usize,
     tag: EndTag,
     head: Head,
-    levels: &[u32; 192],
-    spaces: &[u32; 256],
-    strands: &[u32; 1024],
+    levels: &[u32; 3 * Session::DEPTH],
+    spaces: &[u32; 4 * Session::DEPTH],
+    strands: &[u32; Session::STRANDS * Session::DEPTH],
     out: &mut [u8],
 ) -> Turn
     requires { ⌜ Innermost (now scene) head (now levels) (now spaces) × (tag .name .end < 4294967296) × (tag .name .part < 4294967296) ⌝ }
@@ -270,9 +271,9 @@ pub fn end_turn(
     scene: &[u8],
     at: usize,
     head: Head,
-    levels: &[u32; 192],
-    spaces: &[u32; 256],
-    strands: &[u32; 1024],
+    levels: &[u32; 3 * Session::DEPTH],
+    spaces: &[u32; 4 * Session::DEPTH],
+    strands: &[u32; Session::STRANDS * Session::DEPTH],
     out: &mut [u8],
 ) -> Turn
     requires { ⌜ Innermost (now scene) head (now levels) (now spaces) × (at + 2 ≤ length (now scene)) ⌝ }

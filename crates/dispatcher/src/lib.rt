@@ -1,8 +1,8 @@
 // The dispatcher: a session, its steps, a run, and the URI of a record.
-pub mod coherence;
+mod coherence;
+mod decisions;
 mod ends;
 mod turns;
-pub mod uris;
 
 use reader::Scope;
 use table::Answer;
@@ -56,18 +56,6 @@ pub struct Decided {
 pub struct Stepped {
     pub answer: Answer,
     pub session: Session,
-}
-
-// Where a URI stands: in the table or in the scene, its place and its length.
-pub struct UriSpan {
-    pub source: Source,
-    pub at: usize,
-    pub len: usize,
-}
-
-pub enum Source {
-    Table,
-    Scene,
 }
 
 impl Session {

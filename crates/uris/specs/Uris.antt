@@ -8,9 +8,9 @@ use Rattle.compare.specs.Compare.{spanOf}
 use Rattle.table.specs.Table.{headerOf}
 use Rattle.table.specs.Judge.{judged}
 use Rattle.table.specs.Places.{placeOf}
-use Rattle.dispatcher.specs.declared.UriSpan.{UriSpan}
-use Rattle.dispatcher.specs.declared.Source.{Source}
-use Rattle.dispatcher.specs.declared.Source.the-variants.{Table, Scene}
+use Rattle.uris.specs.declared.UriSpan.{UriSpan}
+use Rattle.uris.specs.declared.Source.{Source}
+use Rattle.uris.specs.declared.Source.the-variants.{Table, Scene}
 
 abbrev pub stands : Source → ℕ → ℕ → UriSpan
 stands source at len = record { source = source; at = at; len = len }

@@ -1,8 +1,8 @@
 -- `uris::uri` meets its contract: it gives the part that `uri_span` names.
 use borrow.Author.Needs.{needs}
-use Rattle.dispatcher.proofs.UriSpans.{table-part, scene-part}
-use Rattle.dispatcher.proofs.uris.uri.Statement.{statement}
-use Rattle.dispatcher.proofs.uris.uri.Tie as tie
+use Rattle.uris.proofs.UriSpans.{table-part, scene-part}
+use Rattle.uris.proofs.uri.Statement.{statement}
+use Rattle.uris.proofs.uri.Tie as tie
 
 uri-span-requires : tie.Need-uri-span-requires
 uri-span-requires c κs = search needs

@@ -16,10 +16,10 @@ use Rattle.table.specs.Places.{placeOf}
 use Rattle.table.specs.declared.Answer.{Answer}
 use Rattle.table.specs.declared.Header.{Header}
 use Rattle.table.specs.declared.Listed.{Listed}
-use Rattle.dispatcher.specs.Uris.{stands, uriSpanOf, partBy, uriOf}
-use Rattle.dispatcher.specs.declared.UriSpan.{UriSpan}
-use Rattle.dispatcher.specs.declared.Source.{Source}
-use Rattle.dispatcher.specs.declared.Source.the-variants.{Table, Scene}
+use Rattle.uris.specs.Uris.{stands, uriSpanOf, partBy, uriOf}
+use Rattle.uris.specs.declared.UriSpan.{UriSpan}
+use Rattle.uris.specs.declared.Source.{Source}
+use Rattle.uris.specs.declared.Source.the-variants.{Table, Scene}
 
 -- ---- a span inside, by differences
 pub too-long : (s : List ℕ) (at len : ℕ) → length s < len → false ≡ leb (at + len) (length s)

@@ -1,6 +1,4 @@
 // The URI of a record's class and span: where it stands, and its bytes.
-use crate::Source;
-use crate::UriSpan;
 use compare::part_of;
 use table::judge;
 use table::uris::place_of;
@@ -9,7 +7,19 @@ ghost use mathlib.Core.Path.{_≡_};
 ghost use Prim.Native.Nat.{_+_};
 ghost use lib.ListN.{length};
 ghost use lib.Dec.{leb};
-ghost use Rattle.dispatcher.specs.Uris.{uriSpanOf, uriOf};
+ghost use Rattle.uris.specs.Uris.{uriSpanOf, uriOf};
+
+// Where a URI stands: in the table or in the scene, its place and its length.
+pub struct UriSpan {
+    pub source: Source,
+    pub at: usize,
+    pub len: usize,
+}
+
+pub enum Source {
+    Table,
+    Scene,
+}
 
 // Does the span lie inside the slice?
 fn lies_in(s: &[u8], at: usize, len: usize) -> bool

@@ -1,8 +1,8 @@
 -- `uris::uri_span` meets its contract: the tests on the way to each `return` say which case of `uriSpanOf` it is.
 use borrow.Author.Needs.{needs}
-use Rattle.dispatcher.proofs.UriSpans.{refused-table, listed-class, in-scene, nowhere}
-use Rattle.dispatcher.proofs.uris.uri_span.Statement.{statement}
-use Rattle.dispatcher.proofs.uris.uri_span.Tie as tie
+use Rattle.uris.proofs.UriSpans.{refused-table, listed-class, in-scene, nowhere}
+use Rattle.uris.proofs.uri_span.Statement.{statement}
+use Rattle.uris.proofs.uri_span.Tie as tie
 
 judge-requires : tie.Need-judge-requires
 judge-requires c κs = search needs

@@ -1,8 +1,8 @@
 -- `uris::lies_in` meets its contract.
 use borrow.Author.Needs.{needs}
-use Rattle.dispatcher.proofs.UriSpans.{too-long, by-difference}
-use Rattle.dispatcher.proofs.uris.lies_in.Statement.{statement}
-use Rattle.dispatcher.proofs.uris.lies_in.Tie as tie
+use Rattle.uris.proofs.UriSpans.{too-long, by-difference}
+use Rattle.uris.proofs.lies_in.Statement.{statement}
+use Rattle.uris.proofs.lies_in.Tie as tie
 
 returns : tie.Need-returns
 returns c = search too-long
