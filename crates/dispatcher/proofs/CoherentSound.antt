@@ -1,7 +1,7 @@
 -- A coherent session is sound: what number 20 leaves is all that the proofs ask of a session.
 --     each-tested, each-tabulated, tested-at     tests of lists, read back
 --     levels-each, opens-each                    what holds of each open level
---     coherent-sound
+--     coherent-levels, coherent-sound
 use Prim.Native.Nat.{ℕ, zero, suc, _+_, _-_, _*_, _≤_, _<_}
 use mathlib.Core.Path.{_≡_, refl, sym, ap, ap₂, subst, _∙_}
 use mathlib.Core.List.{List, [], _∷_}
@@ -36,7 +36,7 @@ use Rattle.model.specs.Theory.{Strand}
 use Rattle.model.specs.Stream.{Level}
 use Rattle.model.specs.Dispatch.{dispatch}
 use Rattle.strands.proofs.Packing.{Below}
-use Rattle.dispatcher.specs.Sessions.{classIn, uriIn, strandCount, strandsIn, levelIn, levelsIn}
+use Rattle.dispatcher.specs.Sessions.{classIn, uriIn, strandCount, strandsIn, levelIn, levelsIn, stateOf}
 use Rattle.dispatcher.specs.Coherence.{levelNumbers, openBindings, spanInside, prefixFits, targetFits, aims, coherent}
 use Rattle.dispatcher.specs.declared.Session.{Session}
 use Rattle.dispatcher.proofs.Sound.{Aims, StrandSound, LevelSound, Sound}
@@ -65,7 +65,7 @@ tested-at p f i (suc n) e k lo hi =
 
 -- ---- each open level
 module _ (t : Table) (s : List ℕ) (z : Session) (P : Level (dispatch t) → Type 0) where
-  levels-each : (depth : ℕ) → ((k : ℕ) → k < depth → P (levelIn t s z k)) → All P (levelsIn t s z depth)
+  pub levels-each : (depth : ℕ) → ((k : ℕ) → k < depth → P (levelIn t s z k)) → All P (levelsIn t s z depth)
   unfolding levelsIn
   levels-each zero h = tt
   levels-each (suc d) h = (h d (omega arith), levels-each d (λ k l. h k (omega arith)))
@@ -125,7 +125,7 @@ strand-says : (t : Table) (units : ℕ) (r : Strand ℕ) → ltb (r .mode) (t .m
 strand-says t units r e f g =
     record { mode-in = ltb-true (r .mode) (t .modes) e; below = below-fits units (r .target) f; aims = aims-fits (r .action) (r .target) g }
 
-abbrev NameHeld : List ℕ → Span → Type 0
+abbrev pub NameHeld : List ℕ → Span → Type 0
 NameHeld s w = (0 < w .at) × SpanHeld s w × (isWholeName (bytesOf s w) ≡ true)
 
 open-held : (s : List ℕ) (o : Open) → NameHeld s (o .name) × All (BindingHeld s) (o .declarations) → OpenHeld s o
@@ -135,10 +135,10 @@ module _ (t : Table) (s : List ℕ) (z : Session) (c : Clauses t s z) where
   at-level : (p : ℕ → Bool) → all p (levelNumbers z) ≡ true → (k : ℕ) → k < z .scope .depth → p k ≡ true
   at-level p e k l = tested-at p (λ (i : ℕ). i) 0 (z .scope .depth) e k (omega arith) (omega arith)
 
-  counted : CountedScope (z .scope)
+  pub counted : CountedScope (z .scope)
   counted = sym (total-numbers (z .scope .levels) (z .scope .depth)) ∙ eqb-true (total (countIn (z .scope)) (levelNumbers z)) (z .scope .bound) (c .sum)
 
-  name-held : (k : ℕ) → k < z .scope .depth → NameHeld s (nameIn (z .scope .levels) k)
+  pub name-held : (k : ℕ) → k < z .scope .depth → NameHeld s (nameIn (z .scope .levels) k)
   name-held k l =
       let w = nameIn (z .scope .levels) k in
       let e = at-level _ (c .level-spans) k l in
@@ -156,12 +156,12 @@ module _ (t : Table) (s : List ℕ) (z : Session) (c : Clauses t s z) where
   binding-held k l =
       binding-says s (bindingIn (z .scope .bindings) k) (at-binding _ (c .binding-spans) k l) (at-binding _ (c .allowed) k l) (at-binding _ (c .prefixes) k l)
 
-  opened : All (OpenHeld s) (opensOf (z .scope))
+  pub opened : All (OpenHeld s) (opensOf (z .scope))
   opened =
       each-map (λ (o : Open). NameHeld s (o .name) × All (BindingHeld s) (o .declarations)) (OpenHeld s) (open-held s) (opensOf (z .scope))
       (opens-each (z .scope .levels) (z .scope .bindings) (BindingHeld s) (NameHeld s) (z .scope .depth) (z .scope .bound) counted name-held binding-held)
 
-  level-sound : (k : ℕ) → k < z .scope .depth → LevelSound t s (z .units) (levelIn t s z k)
+  pub level-sound : (k : ℕ) → k < z .scope .depth → LevelSound t s (z .units) (levelIn t s z k)
   unfolding levelIn
   level-sound k l =
       let n = at-level _ (c .strand-counts) k l in
@@ -174,7 +174,7 @@ module _ (t : Table) (s : List ℕ) (z : Session) (c : Clauses t s z) where
         strands = each-tested (StrandSound t (z .units)) _ _ _ (strand-says t (z .units)) (strandsIn z k) (at-level _ (c .modes) k l) (at-level _ (c .targets) k l) (at-level _ (c .aims) k l);
       }
 
-  awaited-open : (a : Bool) → (not a || not (eqb (z .scope .depth) 0)) ≡ true → a ≡ true → opensOf (z .scope) ≡ [] → ⊥
+  pub awaited-open : (a : Bool) → (not a || not (eqb (z .scope .depth) 0)) ≡ true → a ≡ true → opensOf (z .scope) ≡ [] → ⊥
   awaited-open true e h o = differ (sym (sym (opens-nil (z .scope)) ∙ ap isNil o) ∙ not-true (eqb (z .scope .depth) 0) e)
   awaited-open false e h o = differ (sym h)
 
@@ -182,6 +182,9 @@ module _ (t : Table) (s : List ℕ) (z : Session) (c : Clauses t s z) where
   unfolding opensIn
   closed-none true e h = ap (λ (d : ℕ). opensIn (z .scope .levels) (z .scope .bindings) d (z .scope .bound)) (eqb-true (z .scope .depth) 0 e)
   closed-none false e h = absurd (differ (sym h))
+
+pub coherent-levels : (t : Table) (s : List ℕ) (z : Session) → coherent t s z ≡ true → All (LevelSound t s (z .units)) (stateOf t s z .levels)
+coherent-levels t s z e = levels-each t s z (LevelSound t s (z .units)) (z .scope .depth) (level-sound t s z (clauses t s z e))
 
 pub coherent-sound : (t : Table) (s : List ℕ) (z : Session) → length (z .scope .levels) ≡ 192 → length (z .scope .bindings) ≡ 256 → length (z .spaces) ≡ 256 → length (z .strands) ≡ 1024
     → coherent t s z ≡ true → Sound t s z
@@ -205,6 +208,6 @@ coherent-sound t s z ll lb ls lt e =
             awaited = awaited-open t s z c (z .awaited) (c .awaited);
             closed = closed-none t s z c (z .closed) (c .closed);
           };
-      levels = levels-each t s z (LevelSound t s (z .units)) (z .scope .depth) (level-sound t s z c);
+      levels = coherent-levels t s z e;
       few-units = leb-true (z .units) 65536 (c .units);
     }

@@ -26,3 +26,9 @@ pub mod Sorting
 pub mod StartCounts
 pub mod DecidedStart
 pub mod DecideWays
+pub mod StartTurns
+pub mod Stores
+pub mod StartWritten
+pub mod StartSession
+pub mod OpeningTurns
+pub mod Openings

@@ -84,7 +84,7 @@ fn next_strands(
     words: &mut [u32; Session::STRANDS],
     schemas: &mut [u32; Session::STRANDS],
 ) -> usize
-    requires { ⌜ (depth ≤ 64) × (getD (now spaces) (4 * (depth - 1) + 3) 0 ≤ 16) ⌝ }
+    requires { ⌜ (depth ≤ 64) × (1 ≤ depth → getD (now spaces) (4 * (depth - 1) + 3) 0 ≤ 16) ⌝ }
     ensures { λ r. ⌜ (
         let l = now (spaces .entry) in
         let level = depth - 1 in
@@ -188,7 +188,7 @@ pub fn decide(
     attributes: &mut [u32; 128],
     sections: &mut [usize; 16],
 ) -> Decided
-    requires { ⌜ (depth < 64) × (units ≤ 65536) × (getD (now spaces) (4 * (depth - 1) + 3) 0 ≤ 16) ⌝ }
+    requires { ⌜ (depth < 64) × (units ≤ 65536) × (1 ≤ depth → getD (now spaces) (4 * (depth - 1) + 3) 0 ≤ 16) ⌝ }
     ensures { λ r. ⌜ ((z : Session) (at : ℕ) (tag : Tag) (ds : List Binding) → (
         let s = now (scene .entry) in
         let t = decode (now (table .entry)) in

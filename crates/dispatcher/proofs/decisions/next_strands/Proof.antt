@@ -27,16 +27,16 @@ joins-requires : tie.Need-joins-requires
 joins-requires c κs = search needs
 
 stay-all-requires : tie.Need-stay-all-requires
-stay-all-requires c κs = search needs
+stay-all-requires c κs = let few = c .before .before .before .before .before .before .before .pre .1 (omega (arith, c .before .before .before .before .before .if1 .left)) in search (needs, few)
 
 returns-2 : tie.Need-returns-2
 returns-2 c =
     let a = c .before .before .before .before .before .before .before .before .args in
     at-same (now (a .index)) (now (a .scene)) (uriOf (now (a .scene)) (spaceOf (now (a .own)) (now (a .outer)) (a .found))) (now (a .spaces)) (now (a .strands)) (a .placing .class) (a .depth) _ _ _ _ _
-    (c .before .before .before .before .before .before .if1 .left) _ (c .before .before .before .before .joins .ensures) (c .before .before .before .if2 .taken) (c .before .before .before .before .before .count-at .ensures) (c .before .before .before .before .before .before .before .before .pre .1) (c .stay-all .ensures)
+    (c .before .before .before .before .before .before .if1 .left) _ (c .before .before .before .before .joins .ensures) (c .before .before .before .if2 .taken) (c .before .before .before .before .before .count-at .ensures) (c .before .before .before .before .before .before .before .before .pre .1 (omega (arith, c .before .before .before .before .before .before .if1 .left))) (c .stay-all .ensures)
 
 take-all-requires : tie.Need-take-all-requires
-take-all-requires c κs = search needs
+take-all-requires c κs = let few = c .before .before .before .before .before .before .before .pre .1 (omega (arith, c .before .before .before .before .before .if1 .left)) in search (needs, few)
 
 returns-3 : tie.Need-returns-3
 returns-3 c =

@@ -1,0 +1,199 @@
+-- A start that was decided, as the code's parts make it: 23 or 24, 25, or its records and what it opens.
+--     start-plan               what is left where 21 and 22 are passed
+--     begun-body, begun-at     what the starts along the strands have in common
+--     refused-start, full-start, room-start
+use Prim.Native.Nat.{ℕ, _+_, _*_, _-_, _/_, _≤_, _<_}
+use mathlib.Core.Path.{_≡_, refl, sym, ap, subst, _∙_}
+use mathlib.Core.List.{List, [], _∷_, _++_, map, map-map}
+use mathlib.Core.Bool.{Bool, true, false, cond}
+use native.Mathlib.Omega.{arith}
+use native.Mathlib.Nat.{mod-eq-of-lt}
+use borrow.Author.Tests.{lt-leb, le-ltb}
+use lib.ListN.{length, take}
+use lib.Dec.{eqb, ltb}
+use Rattle.laws.specs.Over.{overwrite}
+use Rattle.laws.proofs.Holds.{holds-cond}
+use Rattle.table.specs.Table.{Table, decode, classOf}
+use Rattle.table.specs.Index.{indexOf}
+use Rattle.table.specs.declared.Header.{Header}
+use Rattle.lexer.specs.declared.Tag.{Tag}
+use Rattle.reader.specs.declared.Binding.{Binding}
+use Rattle.reader.specs.declared.Found.{Found}
+use Rattle.reader.specs.Spans.{wholeSpan, partSpan}
+use Rattle.reader.specs.Namespaces.{Namespace, uriOf}
+use Rattle.reader.specs.Stored as stored
+use Rattle.reader.specs.Stored.{narrowed}
+use Rattle.reader.specs.Scope.{levelNumbers}
+use Rattle.reader.specs.Events.{Start, Open}
+use Rattle.reader.specs.Held.{SpanHeld}
+use Rattle.model.specs.Theory.{Record}
+use Rattle.model.specs.Tree.{start}
+use Rattle.model.specs.Elements.{Space, Element, elementOf, spaceOf, uriSpan}
+use Rattle.model.specs.Records.{Body, startBody}
+use Rattle.model.specs.Stream.{Entry, enter, entered, written, after}
+use Rattle.model.specs.Dispatch.{dispatch}
+use Rattle.records.specs.Rows.{laid, laidRows}
+use Rattle.strands.specs.declared.Placing.{Placing}
+use Rattle.strands.specs.declared.Begun.{Begun}
+use Rattle.strands.specs.Packed.{packed}
+use Rattle.strands.specs.Attributes.{placingOf}
+use Rattle.strands.specs.Writing.{rowOf, begunBody}
+use Rattle.dispatcher.specs.Sessions.{sessionOf, stateOf, withStart}
+use Rattle.dispatcher.specs.Stepping.{Plan, refused, event, startPlan, planned, Step, answered, eventStep}
+use Rattle.dispatcher.specs.Turns.{Ready, Told, Made, DecidedAs, Roomy, begunOf, startOf, stopTurn, stepBy, openedHead, decidedNumber}
+use Rattle.dispatcher.specs.declared.Session.{Session}
+use Rattle.dispatcher.specs.declared.Head.{Head}
+use Rattle.dispatcher.specs.declared.Decided.{Decided}
+use Rattle.dispatcher.proofs.Spaces.{class-few}
+use Rattle.dispatcher.proofs.CoherentSound.{coherent-levels}
+use Rattle.dispatcher.proofs.EventTurns.{full-turn, room-turn, stop-step}
+use Rattle.dispatcher.proofs.StartWritten.{unitRecords, strandRecords, written-is}
+use Rattle.dispatcher.proofs.StartSession.{new-count, opened-session}
+
+-- ---- the plan
+number-plan : (x y : Bool) (n at : ℕ) (p : Plan) → n ≡ cond x 23 (cond y 24 0) → (n ≡ 0 → ⊥) → cond x (refused 23 at) (cond y (refused 24 at) p) ≡ refused n at
+number-plan true y n at p e h = ap (λ (k : ℕ). refused k at) (sym e)
+number-plan false true n at p e h = ap (λ (k : ℕ). refused k at) (sym e)
+number-plan false false n at p e h = absurd (h e)
+
+passed-plan : (x y : Bool) (n at : ℕ) (p : Plan) → n ≡ cond x 23 (cond y 24 0) → n ≡ 0 → cond x (refused 23 at) (cond y (refused 24 at) p) ≡ p
+passed-plan true y n at p e h = absurd (omega arith)
+passed-plan false true n at p e h = absurd (omega arith)
+passed-plan false false n at p e h = refl
+
+module _ (t : Table) (s : List ℕ) (z : Session) (e : Start) (o : Open) (place : ℕ) where
+  abbrev σ : Element
+  σ = elementOf t s e
+
+  abbrev nextOf : Session
+  nextOf = withStart z place (e .empty) (after (dispatch t) (stateOf t s z) (start σ) .units) (e .name) (o .declarations) (σ .space) (map (λ (x : Entry). x .strand) (entered (dispatch t) (stateOf t s z) σ))
+
+  abbrev eventOf : Plan
+  eventOf = event (e .at) (written (dispatch t) (stateOf t s z) (start σ)) nextOf
+
+  abbrev many : Bool
+  many = ltb 16 (length (enter (dispatch t) (stateOf t s z .levels) σ))
+
+  abbrev far : Bool
+  far = ltb 65536 (after (dispatch t) (stateOf t s z) (start σ) .units)
+
+  module _ (shallow : z .scope .depth < 64) (few : z .scope .bound + length (o .declarations) ≤ 64) (n : ℕ) (number-is : n ≡ decidedNumber t s z (elementOf t s e)) where
+    start-plan : startPlan t s z e o place
+        ≡ cond many (refused 23 (e .at)) (cond far (refused 24 (e .at)) eventOf)
+    unfolding startPlan
+    start-plan = rw (lt-leb 64 (z .scope .depth) shallow, le-ltb 64 (z .scope .bound + length (o .declarations)) few)
+
+    plan-refused : (n ≡ 0 → ⊥) → startPlan t s z e o place ≡ refused n (e .at)
+    plan-refused h = start-plan ∙ number-plan many far n (e .at) eventOf number-is h
+
+    plan-passed : n ≡ 0 → startPlan t s z e o place ≡ eventOf
+    plan-passed h = start-plan ∙ passed-plan many far n (e .at) eventOf number-is h
+
+-- ---- what the starts along the strands have in common
+as-held : (n : ℕ) → n ≤ 16777215 → narrowed n ≡ n
+as-held n h = mod-eq-of-lt {n = n} {m = 4294967296} (omega arith)
+
+uri-in : (t : Table) (s : List ℕ) (n : Namespace) → SpanHeld s (uriSpan n) → SpanHeld s (spaceOf t s n .uri)
+unfolding spaceOf
+uri-in t s n h = holds-cond (SpanHeld s) (eqb (classOf t (uriOf s n)) 255) (λ e. h) (λ e. omega arith)
+
+module _ (t : Table) (s : List ℕ) (at : ℕ) (tag : Tag) (placing : Placing) (e : Start) (short : length s ≤ 16777215) (inside : at < length s) (at-is : e .at ≡ at) where
+  begun-at : begunOf at tag placing .tag ≡ elementOf t s e .at
+  unfolding elementOf
+  begun-at = as-held at (omega arith) ∙ sym at-is
+
+  begun-body : e .part ≡ partSpan (tag .name) → SpanHeld s (partSpan (tag .name)) → placing ≡ placingOf (spaceOf t s (e .namespace)) → SpanHeld s (uriSpan (e .namespace))
+      → begunBody (begunOf at tag placing) ≡ startBody (elementOf t s e)
+  unfolding elementOf
+  begun-body p i q u =
+      let held : SpanHeld s (spaceOf t s (e .namespace) .uri) = uri-in t s (e .namespace) u in
+      rw (p, q, as-held (tag .name .part) (omega arith), as-held (tag .name .end - tag .name .part) (omega arith), as-held (spaceOf t s (e .namespace) .uri .at) (omega arith), as-held (spaceOf t s (e .namespace) .uri .len) (omega arith))
+
+element-space : (t : Table) (s : List ℕ) (e : Start) → elementOf t s e .space ≡ spaceOf t s (e .namespace)
+unfolding elementOf
+element-space t s e = refl
+
+-- ---- the three ways out
+abbrev openOf : Tag → List Binding → Open
+openOf tag ds = record { name = wholeSpan (tag .name); declarations = ds }
+
+module _ (table s attrs codes : List ℕ) (header : Header) (found : Found) (ds : List Binding) (index own words schemas attributes sections : List ℕ) (at : ℕ) (tag : Tag) (placing : Placing) (owned : ℕ) (decided : Decided) (head : Head) (levels bindings spaces strands out : List ℕ) where
+  abbrev z : Session
+  z = sessionOf head levels bindings spaces strands
+
+  abbrev e : Start
+  e = startOf s bindings own attrs codes at tag found
+
+  abbrev element : Element
+  element = elementOf (decode table) s e
+
+  abbrev wanted : Step
+  wanted = planned (startPlan (decode table) s z e (openOf tag ds) (tag .next)) z out
+
+  module _ (roomy : Roomy head owned) (ready : Ready table header index s z) (told : Told s bindings own attrs codes at tag found owned ds) (placing-is : placing ≡ placingOf (spaceOf (decode table) s (stored.spaceOf own bindings found))) (as-decided : DecidedAs (decode table) s z element decided words schemas attributes sections) where
+    few : head .bound + length ds ≤ 64
+    few = omega (arith, roomy .few-bound, told .owned-is)
+
+    pub refused-start : (decided .number ≡ 0 → ⊥) → stepBy (stopTurn (decided .number) at head) levels bindings spaces strands out ≡ wanted
+    refused-start h =
+        stop-step (decided .number) at head levels bindings spaces strands out h
+        ∙ sym (ap (λ (p : Plan). planned p z out) (plan-refused (decode table) s z e (openOf tag ds) (tag .next) (roomy .shallow) few (decided .number) (as-decided .number-is) h))
+
+    module _ (h : decided .number ≡ 0) where
+      abbrev next : Session
+      next = nextOf (decode table) s z e (openOf tag ds) (tag .next)
+
+      abbrev es : List Entry
+      es = entered (dispatch (decode table)) (stateOf (decode table) s z) element
+
+      abbrev rs : List (Record Body ℕ)
+      rs = written (dispatch (decode table)) (stateOf (decode table) s z) (start element)
+
+      made : Made (decode table) s z element decided words schemas attributes sections
+      made = as-decided .made h
+
+      passed : eventStep at rs next z out ≡ wanted
+      passed = sym (ap (λ (p : Plan). planned p z out) (plan-passed (decode table) s z e (openOf tag ds) (tag .next) (roomy .shallow) few (decided .number) (as-decided .number-is) h))
+
+      pub full-start : length out / 16 < decided .records → stepBy (stopTurn 25 at head) levels bindings spaces strands out ≡ wanted
+      full-start l =
+          stop-step 25 at head levels bindings spaces strands out (λ q. omega arith)
+          ∙ full-turn at (decided .records) rs next z out (made .records-are) (omega arith)
+          ∙ passed
+
+      session-is : (levels′ bindings′ spaces′ strands′ : List ℕ)
+          → levels′ ≡ overwrite levels (3 * head .depth) (levelNumbers (wholeSpan (tag .name)) owned)
+          → bindings′ ≡ overwrite bindings (4 * head .bound) (take (4 * owned) own)
+          → spaces′ ≡ overwrite spaces (4 * head .depth) (placing .class ∷ narrowed (placing .at) ∷ narrowed (placing .len) ∷ decided .strands ∷ [])
+          → strands′ ≡ overwrite strands (16 * head .depth) (take (decided .strands) words)
+          → sessionOf (openedHead head (tag .next) (tag .empty) (decided .units) owned) levels′ bindings′ spaces′ strands′ ≡ next
+      session-is levels′ bindings′ spaces′ strands′ l b p q =
+          let space-is : element .space ≡ spaceOf (decode table) s (e .namespace) = element-space (decode table) s e in
+          opened-session head levels bindings spaces strands (tag .next) (tag .empty) (wholeSpan (tag .name)) ds (element .space) (map (λ (x : Entry). x .strand) es)
+          levels′ bindings′ spaces′ strands′ own words (decided .units) (after (dispatch (decode table)) (stateOf (decode table) s z) (start element) .units) owned (decided .strands) placing
+          l b p q (made .units-are) (told .owned-is) (told .own-laid) (placing-is ∙ ap placingOf (sym space-is))
+          (subst (λ (w : Space). w .class ≤ 255) (sym space-is) (class-few table (ready .accepted) s (e .namespace)))
+          (new-count words schemas (decided .strands) es (made .entries-are))
+          (made .strands-are ∙ sym (map-map packed (λ (x : Entry). x .strand) es))
+
+      module _ (b : Begun) (b-is : b ≡ begunOf at tag placing) where
+        records-are : unitRecords index attributes sections words (b .tag) (head .units) decided ++ strandRecords index attributes sections words schemas b decided ≡ rs
+        records-are =
+            written-is table s z e (ready .accepted) (coherent-levels (decode table) s z (ready .coherent′)) index attributes sections words schemas b decided made
+            (ready .index-is ∙ ap (indexOf table) (ready .header-is))
+            (ap (λ (x : Begun). x .tag) b-is ∙ begun-at (decode table) s at tag placing e (ready .short) (told .at-inside) refl)
+            (ap begunBody b-is ∙ begun-body (decode table) s at tag placing e (ready .short) (told .at-inside) refl refl (told .part-inside) placing-is (told .uri-inside))
+
+        pub room-start : (head′ : Head) (levels′ bindings′ spaces′ strands′ out′ : List ℕ) (used : ℕ) → decided .records ≤ length out / 16
+            → laid out′ used ≡ laidRows (laid out 0) (map rowOf (unitRecords index attributes sections words (b .tag) (head .units) decided ++ strandRecords index attributes sections words schemas b decided))
+            → head′ ≡ openedHead head (tag .next) (tag .empty) (decided .units) owned
+            → levels′ ≡ overwrite levels (3 * head .depth) (levelNumbers (wholeSpan (tag .name)) owned)
+            → bindings′ ≡ overwrite bindings (4 * head .bound) (take (4 * owned) own)
+            → spaces′ ≡ overwrite spaces (4 * head .depth) (placing .class ∷ narrowed (placing .at) ∷ narrowed (placing .len) ∷ decided .strands ∷ [])
+            → strands′ ≡ overwrite strands (16 * head .depth) (take (decided .strands) words)
+            → stepBy (record { number = 0; place = tag .next; records = decided .records; head = head′ }) levels′ bindings′ spaces′ strands′ out′ ≡ wanted
+        room-start head′ levels′ bindings′ spaces′ strands′ out′ used r l hd lv bi sp st =
+            ap (λ (x : Session). record { answer = answered 0 (tag .next) 1 (decided .records); session = x; output = out′ })
+            (ap (λ (x : Head). sessionOf x levels′ bindings′ spaces′ strands′) hd ∙ session-is levels′ bindings′ spaces′ strands′ lv bi sp st)
+            ∙ room-turn at (decided .records) rs next z out (made .records-are) used out′ (omega arith) (l ∙ ap (λ (xs : List (Record Body ℕ)). laidRows (laid out 0) (map rowOf xs)) records-are)
+            ∙ passed

@@ -1,0 +1,25 @@
+use mathlib.Core.Path.{ap}
+use mathlib.Core.Bool.{false}
+use lib.ListN.{replicate}
+use Rattle.reader.specs.declared.Scope.{Scope}
+use Rattle.dispatcher.specs.declared.Session.{Session}
+use borrow.Author.Needs.{needs}
+use Rattle.dispatcher.proofs.Session.fresh.Statement.{statement}
+use Rattle.dispatcher.proofs.Session.fresh.Tie as tie
+use Rattle.dispatcher.proofs.Session.fresh.Reads as reads
+use Rattle.dispatcher.proofs.Session.fresh.Lts as lts
+use Rattle.reader.proofs.Scope.fresh.Reads as fresh-reads
+
+-- src/lib.rt:107:20
+fresh-requires : tie.Need-fresh-requires
+fresh-requires c κs = search needs
+
+-- src/lib.rt:99:5
+returns : tie.Need-returns
+returns c =
+    ap
+    (λ (x : Scope). record { place = 0; units = 0; closed = false; awaited = false; scope = x; spaces = replicate 256 0; strands = replicate 1024 0 })
+    (c .fresh .ensures)
+
+pub fresh-spec : {M : Type 1} → statement M
+fresh-spec = tie.close (tie.spec fresh-requires returns)

@@ -1,0 +1,436 @@
+-- A start and one event, as the code's parts make them: what each part asks of the session and the arrays, and what the answers say together.
+--     innermost, awaited-innermost, decidable, few-bound     of a session that number 20 accepts
+--     deep-turn, bound-turn                                  21 and 22
+--     made-openable                                          what is decided can be written
+--     told-again, roomy, placing-is                          what a start's parts are told
+--     tag-gives, tag-plan, undeclared-plan, twice-plan       a tag that was read, by what it means
+--     start-read-step                                        a tag, by what reading it answers
+--     begun-step, start-begins, end-begins, text-begins      one event, by how it begins
+use Prim.Native.Nat.{ℕ, zero, suc, _+_, _-_, _*_, _%_, _^_, _≤_, _<_}
+use mathlib.Core.Path.{_≡_, refl, sym, ap, ap₂, subst, _∙_}
+use mathlib.Core.List.{List, [], _∷_, _++_, map}
+use mathlib.Core.Bool.{Bool, true, false, cond, not}
+use mathlib.Core.Option.{Option}
+use mathlib.Core.Logic.{⊎-elim}
+use native.Mathlib.Omega.{arith}
+use native.Mathlib.Nat.{mod-eq-of-lt}
+use borrow.Author.Tests.{eqb-false, leb-true, le-leb, lt-leb, lt-ltb, not-true}
+use lib.ListN.{length, getD, take, drop, replicate}
+use lib.Dec.{eqb}
+use Rattle.laws.specs.Reading.{le-or-lt}
+use Rattle.laws.specs.Lists.{any, keep, tabulate}
+use Rattle.laws.specs.Gather.{gather}
+use Rattle.laws.specs.Members.{All}
+use Rattle.laws.proofs.Holds.{holds-cond}
+use Rattle.laws.proofs.Elementwise.{each-map, each-append}
+use Rattle.table.specs.Table.{Table, decode, tableOf, headerOf}
+use Rattle.table.specs.Index.{indexOf}
+use Rattle.table.specs.Judge.{Accepted}
+use Rattle.table.specs.declared.Action.{Action}
+use Rattle.table.specs.declared.Header.{Header}
+use Rattle.table.proofs.Accepted.{header-in, all-listed}
+use Rattle.lexer.specs.Attrs.{attrsIn, laid}
+use Rattle.lexer.specs.Tags.{tagAt, beginAt}
+use Rattle.lexer.specs.declared.Name.{Name}
+use Rattle.lexer.specs.declared.Attr.{Attr}
+use Rattle.lexer.specs.declared.Tag.{Tag}
+use Rattle.lexer.specs.declared.Tagged.{Tagged}
+use Rattle.lexer.specs.declared.Tagged.the-variants as tagged
+use Rattle.lexer.specs.declared.Begin.{Begin}
+use Rattle.lexer.specs.declared.Begin.the-variants as begin
+use Rattle.lexer.proofs.Inside.{TagInside, TaggedInside, TagReadInside, tag-inside, BeginInside, begin-inside}
+use Rattle.reader.specs.declared.Binding.{Binding}
+use Rattle.reader.specs.declared.Found.{Found}
+use Rattle.reader.specs.declared.Found.the-variants as found
+use Rattle.reader.specs.declared.Meant.{Meant}
+use Rattle.reader.specs.declared.Meant.the-variants as told
+use Rattle.reader.specs.Spans.{wholeSpan, partSpan, kindOf}
+use Rattle.reader.specs.Namespaces.{Namespace, nothing, xml, declared, Attribute, attribute, declarationsOf, refusedBinding, meant, meaningOf}
+use Rattle.reader.specs.Stored.{narrowed, Coded, coded, codesOf, codeThen, codesAfter, foundIn, foundElement, foundAttribute, isDeclaration, isUnbound, spaceOf, laidBindings, fitting}
+use Rattle.reader.specs.Events.{Start, Open, bindingsOf, begun, startRead, startMeant}
+use Rattle.reader.specs.Scope.{opensIn, opensOf}
+use Rattle.reader.specs.Held.{SpanHeld}
+use Rattle.reader.proofs.Numbers.{InRange, attribute-in-range}
+use Rattle.reader.proofs.LaidBack.{small-declared}
+use Rattle.reader.proofs.Pairs.{keptOf}
+use Rattle.reader.proofs.AgreeWhole.{attributesIn, asMeaning, meaning-agrees}
+use Rattle.reader.proofs.TagMeaning.{NamespaceHeld, AttributeHeld, MeaningHeld, meaning-held}
+use Rattle.reader.proofs.Held.{bindings-in}
+use Rattle.reader.proofs.Opens.{opens-nil}
+use Rattle.model.specs.Tree.{start}
+use Rattle.model.specs.Stream.{Entry, allot, enter, unitsOf, entered, after}
+use Rattle.model.specs.Elements.{Element, uriSpan, elementOf, sectionsOf}
+use Rattle.model.specs.Elements as elements
+use Rattle.model.specs.Dispatch.{dispatch}
+use Rattle.strands.specs.declared.Placing.{Placing}
+use Rattle.strands.specs.Packed.{strandIn}
+use Rattle.strands.specs.Entries.{entryIn, entriesIn}
+use Rattle.strands.specs.Attributes.{Sorted, namespaceOf, delivered, placingOf}
+use Rattle.strands.specs.Writing.{strandUnits, tagUnits}
+use Rattle.strands.proofs.Numbered.{allOf, element-classed}
+use Rattle.strands.proofs.StartRecords.{tag-units-are}
+use Rattle.dispatcher.specs.Sessions.{classIn, strandCount, levelIn, sessionOf, readerOf, stateOf}
+use Rattle.dispatcher.specs.Stepping as plan
+use Rattle.dispatcher.specs.Stepping.{Step, planBy, planOf, planned, startPlan}
+use Rattle.dispatcher.specs.Turns.{Innermost, Ready, startOf, Told, Made, Roomy, arrayUnits, Openable, stopTurn, stepBy}
+use Rattle.dispatcher.specs.declared.Session.{Session}
+use Rattle.dispatcher.specs.declared.Head.{Head}
+use Rattle.dispatcher.specs.declared.Decided.{Decided}
+use Rattle.dispatcher.proofs.Sound.{StrandSound, LevelSound}
+use Rattle.dispatcher.proofs.SoundCoherent.{strands-counted}
+use Rattle.dispatcher.proofs.Clauses.{Clauses, clauses}
+use Rattle.dispatcher.proofs.CoherentSound.{levels-each, counted, name-held, opened, level-sound, awaited-open}
+use Rattle.dispatcher.proofs.NewStrands.{new-strands}
+use Rattle.dispatcher.proofs.TagMeant.{TagTold, tag-told, attrs-back, bindings-open, next-begun, Given, element-given, own-few, own-laid}
+
+-- ---- a session that number 20 accepts
+module _ (t : Table) (s : List ℕ) (z : Session) (c : Clauses t s z) where
+  level-few : (k : ℕ) → k < z .scope .depth → strandCount z k ≤ 16
+  unfolding levelIn
+  level-few k l = subst (λ (n : ℕ). n ≤ 16) (strands-counted z k) (level-sound t s z c k l .few-strands)
+
+  level-class : length (t .uris) ≤ 30 → (k : ℕ) → k < z .scope .depth → classIn z k < 256
+  unfolding levelIn
+  level-class few k l = ⊎-elim (λ e. omega arith) (⊎-elim (λ e. omega arith) (λ e. omega arith)) (level-sound t s z c k l .class-in)
+
+  awaited-deep : z .awaited ≡ true → 1 ≤ z .scope .depth
+  unfolding opensIn
+  awaited-deep a = ⊎-elim none-open (λ l. l) (le-or-lt (z .scope .depth) 0)
+    where
+      none-open : z .scope .depth ≤ 0 → 1 ≤ z .scope .depth
+      none-open l =
+          let e : z .scope .depth ≡ 0 = omega arith in
+          absurd (awaited-open t s z c (z .awaited) (c .awaited) a (ap (λ (d : ℕ). opensIn (z .scope .levels) (z .scope .bindings) d (z .scope .bound)) e))
+
+  levels-sound : All (LevelSound t s (z .units)) (stateOf t s z .levels)
+  levels-sound = levels-each t s z (LevelSound t s (z .units)) (z .scope .depth) (level-sound t s z c)
+
+  bound-few : z .scope .bound ≤ 64
+  bound-few = leb-true (z .scope .bound) 64 (c .bound)
+
+uris-few : (table : List ℕ) → Accepted table ≡ true → length (decode table .uris) ≤ 30
+uris-few table a = omega (arith, all-listed table a, header-in table a .few-namespaces)
+
+-- its innermost level
+module _ (table : List ℕ) (header : Header) (index s : List ℕ) (head : Head) (levels bindings spaces strands : List ℕ) (r : Ready table header index s (sessionOf head levels bindings spaces strands)) where
+  abbrev z : Session
+  z = sessionOf head levels bindings spaces strands
+
+  clear : Clauses (decode table) s z
+  clear = clauses (decode table) s z (r .coherent′)
+
+  pub innermost : 1 ≤ head .depth → Innermost s head levels spaces
+  innermost l =
+      record {
+        short = r .short;
+        some-open = l;
+        shallow = leb-true (head .depth) 64 (clear .depth);
+        few-strands = level-few (decode table) s z clear (head .depth - 1) (omega arith);
+        class = level-class (decode table) s z clear (uris-few table (r .accepted)) (head .depth - 1) (omega arith);
+        name = name-held (decode table) s z clear (head .depth - 1) (omega arith) .1;
+      }
+
+  pub awaited-innermost : head .awaited ≡ true → Innermost s head levels spaces
+  awaited-innermost a = innermost (awaited-deep (decode table) s z clear a)
+
+  -- what deciding asks
+  pub decidable : head .depth < 64 → (head .depth < 64) × (head .units ≤ 65536) × (1 ≤ head .depth → getD spaces (4 * (head .depth - 1) + 3) 0 ≤ 16)
+  decidable l = (l, leb-true (head .units) 65536 (clear .units), λ k. level-few (decode table) s z clear (head .depth - 1) (omega arith))
+
+  pub few-bound : head .bound ≤ 64
+  few-bound = bound-few (decode table) s z clear
+
+-- ---- 21 and 22
+module _ (t : Table) (s : List ℕ) (head : Head) (levels bindings spaces strands : List ℕ) (e : Start) (o : Open) (place : ℕ) (out : List ℕ) where
+  abbrev z₁ : Session
+  z₁ = sessionOf head levels bindings spaces strands
+
+  pub deep-turn : 64 ≤ head .depth → stepBy (stopTurn 21 (e .at) head) levels bindings spaces strands out ≡ planned (startPlan t s z₁ e o place) z₁ out
+  unfolding startPlan
+  deep-turn h = rw (le-leb 64 (head .depth) h)
+
+  pub bound-turn : head .depth < 64 → 64 < head .bound + length (o .declarations) → stepBy (stopTurn 22 (e .at) head) levels bindings spaces strands out ≡ planned (startPlan t s z₁ e o place) z₁ out
+  unfolding startPlan
+  bound-turn h k = rw (lt-leb 64 (head .depth) h, lt-ltb 64 (head .bound + length (o .declarations)) k)
+
+-- ---- what is decided can be written
+map-each : {A B : Type 0} (P : B → Type 0) (f : A → B) (l : List A) → All P (map f l) → All (λ (x : A). P (f x)) l
+map-each P f [] h = tt
+map-each P f (x ∷ l) h = (h .0, map-each P f l (h .1))
+
+-- the strands of words are those of entries
+words-entries : {B : Type 0} (f : ℕ → List B) (words schemas : List ℕ) (k n : ℕ)
+    → gather (λ (w : ℕ). f (strandIn w .mode)) (tabulate (λ (i : ℕ). getD words i 0) k n) ≡ gather (λ (e : Entry). f (e .strand .mode)) (tabulate (entryIn words schemas) k n)
+unfolding tabulate gather
+words-entries f words schemas k zero = refl
+words-entries f words schemas k (suc n) = ap (λ (l : List _). f (strandIn (getD words k 0) .mode) ++ l) (words-entries f words schemas (suc k) n)
+
+-- numbering units changes no mode
+allot-gather : {B : Type 0} (f : ℕ → List B) (u : ℕ) (es : List Entry) → gather (λ (e : Entry). f (e .strand .mode)) (allot u es) ≡ gather (λ (e : Entry). f (e .strand .mode)) es
+unfolding gather
+allot-gather f u [] = refl
+allot-gather {B} f u (e ∷ es) = by (e .strand .mode) (e .strand .action) (e .strand .target) (e .strand .here) (e .schema) (λ v. allot-gather f v es)
+  where
+    g : Entry → List B
+    g x = f (x .strand .mode)
+
+    by : (m : ℕ) (c : Action) (t : Option ℕ) (b : Bool) (n : ℕ) → ((v : ℕ) → gather g (allot v es) ≡ gather g es)
+        → gather g (allot u (record { strand = record { mode = m; action = c; target = t; here = b }; schema = n } ∷ es)) ≡ f m ++ gather g es
+    by m c t false n ih = ap (λ (l : List B). f m ++ l) (ih u)
+    by m c t true n ih = ap (λ (l : List B). f m ++ l) (ih (suc u))
+
+module _ (table : List ℕ) (header : Header) (index s : List ℕ) (z : Session) (r : Ready table header index s z) (e : Start) (d : Decided) (words schemas attributes sections : List ℕ)
+    (m : Made (decode table) s z (elementOf (decode table) s e) d words schemas attributes sections) where
+  abbrev t : Table
+  t = decode table
+
+  abbrev σ : Element
+  σ = elementOf t s e
+
+  abbrev es : List Entry
+  es = entered (dispatch t) (stateOf t s z) σ
+
+  modes-few : All (λ (x : Entry). x .strand .mode < 32) es
+  modes-few =
+      each-map (λ (x : Entry). StrandSound t (after (dispatch t) (stateOf t s z) (start σ) .units) (x .strand)) (λ (x : Entry). x .strand .mode < 32)
+      (λ x k. omega (arith, k .mode-in, header-in table (r .accepted) .few-modes)) es
+      (map-each (StrandSound t (after (dispatch t) (stateOf t s z) (start σ) .units)) (λ (x : Entry). x .strand) es (new-strands table (r .accepted) s (stateOf t s z) σ (levels-sound t s z (clauses t s z (r .coherent′)))))
+
+  units-are : arrayUnits index attributes sections words (σ .at) d ≡ unitsOf (dispatch t) σ (enter (dispatch t) (stateOf t s z .levels) σ)
+  unfolding entriesIn
+  units-are =
+      words-entries (strandUnits index (σ .at) _ (d .sections)) words schemas 0 (d .strands)
+      ∙ ap (tagUnits index (σ .at) _ (d .sections)) (m .entries-are)
+      ∙ ap₂ (λ (l : List Sorted) (n : ℕ). tagUnits index (σ .at) l n es) (m .attributes-are) (m .sections-are)
+      ∙ ap (λ (i : List ℕ). tagUnits i (σ .at) (allOf σ) (length (sectionsOf σ)) es) (r .index-is ∙ ap (indexOf table) (r .header-is))
+      ∙ tag-units-are table (headerOf table) (header-in table (r .accepted) .few-rules) σ (element-classed table (r .accepted) s e) es modes-few
+      ∙ allot-gather (λ (k : ℕ). dispatch t .attributeUnits k σ) _ (enter (dispatch t) (stateOf t s z .levels) σ)
+
+  units-fit : z .units + length (arrayUnits index attributes sections words (σ .at) d) ≤ 65536
+  unfolding after
+  units-fit = omega (arith, ap length units-are, m .units-are, m .few-units)
+
+  pub made-openable : (at : ℕ) → e .at ≡ at → at < length s → Openable index attributes sections words schemas (narrowed at) (z .units) d
+  unfolding elementOf
+  made-openable at q l =
+      let small : at % 2 ^ 32 ≡ at = mod-eq-of-lt {n = at} {m = 4294967296} (omega (arith, r .short)) in
+      record {
+        few-strands = m .few-strands;
+        few-attributes = m .few-attributes;
+        few-sections = m .few-sections;
+        schemas-small = m .schemas-small;
+        few-units = subst (λ (i : ℕ). z .units + length (arrayUnits index attributes sections words i d) ≤ 65536) (q ∙ sym small) units-fit;
+      }
+
+-- ---- what a start's parts are told
+module _ (s outer own attrs codes : List ℕ) (at : ℕ) (tag : Tag) (f : Found) (owned : ℕ) (ds : List Binding) (h : Told s outer own attrs codes at tag f owned ds) where
+  pub told-again : Told s outer own attrs codes at tag f (length ds) ds
+  told-again =
+      record {
+        owned-is = refl;
+        few-own = h .few-own;
+        own-laid = h .own-laid;
+        at-inside = h .at-inside;
+        name-inside = h .name-inside;
+        part-inside = h .part-inside;
+        uri-inside = h .uri-inside;
+        attributes-inside = h .attributes-inside;
+        few-codes = h .few-codes;
+      }
+
+  pub roomy : (head : Head) → head .depth < 64 → head .bound + owned ≤ 64 → Roomy head owned
+  roomy head l k = record { shallow = l; few-own = omega (arith, h .owned-is, h .few-own); few-bound = k }
+
+pub placing-is : (table : List ℕ) (header : Header) (index s : List ℕ) (z : Session) → Ready table header index s z → (n : Namespace) (w : Placing)
+    → w ≡ placingOf (elements.spaceOf (tableOf table header) s n) → w ≡ placingOf (elements.spaceOf (decode table) s n)
+placing-is table header index s z r n w e = e ∙ ap (λ (x : Header). placingOf (elements.spaceOf (tableOf table x) s n)) (r .header-is)
+
+-- ---- a tag that was read
+-- the attributes that are no declarations
+kept-those : {A B : Type 0} (d : A → Bool) (g : A → B) (l : List A) → gather (keptOf d g) l ≡ map g (keep (λ (x : A). not (d x)) l)
+unfolding gather keep
+kept-those d g [] = refl
+kept-those {A} {B} d g (x ∷ l) = by (d x) (kept-those d g l)
+  where
+    by : (b : Bool) → gather (keptOf d g) l ≡ map g (keep (λ (y : A). not (d y)) l)
+        → cond b [] (g x ∷ []) ++ gather (keptOf d g) l ≡ map g (cond (not b) (x ∷ keep (λ (y : A). not (d y)) l) (keep (λ (y : A). not (d y)) l))
+    by true e = e
+    by false e = ap (λ (r : List B). g x ∷ r) e
+
+pub attributes-told : (s own outer : List ℕ) (l : List Coded) → attributesIn s own outer l ≡ map (λ (c : Coded). attribute s (c .attr) (namespaceOf own outer (c .code))) (keep (delivered s) l)
+attributes-told s own outer l = kept-those (λ (c : Coded). isDeclaration (kindOf s (c .attr .name))) (λ (c : Coded). attribute s (c .attr) (spaceOf own outer (foundIn (c .code)))) l
+
+-- their codes are small
+all-drop : {A : Type 0} (P : A → Type 0) (n : ℕ) (l : List A) → All P l → All P (drop n l)
+all-drop P zero l h = h
+all-drop P (suc n) [] h = tt
+all-drop P (suc n) (x ∷ l) h = all-drop P n l (h .1)
+
+small-codes : (l : List Attr) (cs : List ℕ) → All (λ (c : ℕ). c < 82) cs → All (λ (c : Coded). c .code < 82) (coded l cs)
+small-codes [] cs h = tt
+small-codes (a ∷ l) [] h = (omega arith, small-codes l [] tt)
+small-codes (a ∷ l) (c ∷ cs) h = (h .0, small-codes l cs (h .1))
+
+then-small : (f : Found) (l : List ℕ) → InRange f → All (λ (c : ℕ). c < 82) l → All (λ (c : ℕ). c < 82) (codeThen f l)
+then-small found.Nothing l r h = (omega arith, h)
+then-small found.Xml l r h = (omega arith, h)
+then-small (found.Own k) l r h = (omega arith, h)
+then-small (found.Open k) l r h = (omega arith, h)
+then-small found.Unbound l r h = tt
+
+codes-small : (s own : List ℕ) (owned : ℕ) (outer : List ℕ) (bound : ℕ) (l : List Attr) → All (λ (c : ℕ). c < 82) (codesOf s own owned outer bound l)
+unfolding codesOf
+codes-small s own owned outer bound [] = tt
+codes-small s own owned outer bound (a ∷ l) =
+    then-small (foundAttribute s own owned outer bound (a .name)) (codesOf s own owned outer bound l) (attribute-in-range s own owned outer bound (a .name)) (codes-small s own owned outer bound l)
+
+after-small : (s own : List ℕ) (owned : ℕ) (outer : List ℕ) (bound : ℕ) (n : Name) (l : List Attr) (codes : List ℕ) → All (λ (c : ℕ). c < 82) codes
+    → All (λ (c : ℕ). c < 82) (codesAfter s own owned outer bound n l codes)
+unfolding codesAfter
+after-small s own owned outer bound n l codes h =
+    holds-cond (All (λ (c : ℕ). c < 82)) (isUnbound (foundElement s own owned outer bound n)) (λ e. h) (λ e.
+    each-append (λ (c : ℕ). c < 82) (codesOf s own owned outer bound l) (drop (length (codesOf s own owned outer bound l)) codes) (codes-small s own owned outer bound l)
+    (all-drop (λ (c : ℕ). c < 82) (length (codesOf s own owned outer bound l)) codes h))
+
+zeros-small : (n : ℕ) → All (λ (c : ℕ). c < 82) (replicate n 0)
+zeros-small zero = tt
+zeros-small (suc n) = (omega arith, zeros-small n)
+
+space-inside : (s : List ℕ) (n : Namespace) → NamespaceHeld s n → SpanHeld s (uriSpan n)
+space-inside s nothing h = omega arith
+space-inside s xml h = omega arith
+space-inside s (declared w) h = h
+
+-- what `meaning` answers and leaves in its arrays, of the tag whose < stands at a place
+module _ (table : List ℕ) (header : Header) (index s : List ℕ) (head : Head) (levels bindings spaces strands : List ℕ)
+    (r : Ready table header index s (sessionOf head levels bindings spaces strands))
+    (at : ℕ) (tag : Tag) (attrs : List ℕ) (lt : at + 1 ≤ length s) (e : tagAt s (at + 1) .answer ≡ tagged.Got tag) (p : attrs ≡ laid (tagAt s (at + 1) .attrs) (replicate 80 0))
+    (m : Meant) (own codes : List ℕ) (g : Given s (tag .name) (attrsIn attrs (tag .count)) (replicate 64 0) bindings (head .bound) (replicate 16 0) m own codes) where
+  abbrev t₂ : Table
+  t₂ = decode table
+
+  abbrev z₂ : Session
+  z₂ = sessionOf head levels bindings spaces strands
+
+  abbrev all : List Attr
+  all = attrsIn attrs (tag .count)
+
+  abbrev ds : List Binding
+  ds = declarationsOf s all
+
+  clear₂ : Clauses t₂ s z₂
+  clear₂ = clauses t₂ s z₂ (r .coherent′)
+
+  back : all ≡ tagAt s (at + 1) .attrs
+  back = ap (λ (a : List ℕ). attrsIn a (tag .count)) p ∙ attrs-back s (r .short) (at + 1) tag e (replicate 80 0)
+
+  tag-is : TagTold s tag all
+  tag-is = subst (TagTold s tag) (sym back) (tag-told s (r .short) (at + 1) tag e)
+
+  means : meaningOf s (bindingsOf (opensOf (z₂ .scope))) (tag .name) (tagAt s (at + 1) .attrs) ≡ asMeaning own bindings (attributesIn s own bindings (coded all codes)) ds m
+  means =
+      ap₂ (λ (bs : List Binding) (l : List Attr). meaningOf s bs (tag .name) l) (bindings-open (z₂ .scope) (counted t₂ s z₂ clear₂)) (sym back)
+      ∙ meaning-agrees s (replicate 64 0) bindings (replicate 16 0) (head .bound) (tag .name) all (tag-is .few) (bound-few t₂ s z₂ clear₂) (small-declared s all (tag-is .small)) (tag-is .name) (tag-is .names)
+      ∙ rw (g .0, g .1, g .2)
+
+  inside : TagReadInside s (at + 1) (tagAt s (at + 1))
+  inside = tag-inside s (at + 1)
+
+  tag-in : TagInside s (at + 1) (tagAt s (at + 1) .attrs) tag
+  tag-in = subst (TaggedInside s (at + 1) (tagAt s (at + 1) .attrs)) e (inside .answer)
+
+  meaning-in : MeaningHeld s (asMeaning own bindings (attributesIn s own bindings (coded all codes)) ds m)
+  meaning-in =
+      subst (MeaningHeld s) means
+      (meaning-held s (bindingsOf (opensOf (z₂ .scope))) (bindings-in s (opensOf (z₂ .scope)) (opened t₂ s z₂ clear₂)) (tag .name) (at + 1) (tagAt s (at + 1) .attrs) (inside .each))
+
+  codes-few : All (λ (c : ℕ). c < 82) codes
+  codes-few =
+      subst (All (λ (c : ℕ). c < 82)) (sym (g .2))
+      (holds-cond (All (λ (c : ℕ). c < 82)) (any (refusedBinding s) ds) (λ q. zeros-small 16) (λ q.
+      after-small s (laidBindings (fitting s ds) (replicate 64 0)) (length ds) bindings (head .bound) (tag .name) all (replicate 16 0) (zeros-small 16)))
+
+  read-as : startRead s at (opensOf (z₂ .scope)) (tagAt s (at + 1)) (tagged.Got tag) ≡ startMeant at (opensOf (z₂ .scope)) tag (asMeaning own bindings (attributesIn s own bindings (coded all codes)) ds m)
+  read-as = ap (startMeant at (opensOf (z₂ .scope)) tag) means
+
+  module _ (f : Found) (owned : ℕ) (q : m ≡ told.Element f owned) where
+    given : Given s (tag .name) all (replicate 64 0) bindings (head .bound) (replicate 16 0) (told.Element f owned) own codes
+    given = (sym q ∙ g .0, g .1, g .2)
+
+    element-in : NamespaceHeld s (spaceOf own bindings f) × All (AttributeHeld s) (attributesIn s own bindings (coded all codes))
+    element-in =
+        let k : MeaningHeld s (meant (spaceOf own bindings f) (attributesIn s own bindings (coded all codes)) ds) = subst (λ (x : Meant). MeaningHeld s (asMeaning own bindings (attributesIn s own bindings (coded all codes)) ds x)) q meaning-in in
+        (k .0, k .1)
+
+    pub tag-gives : Told s bindings own attrs codes at tag f owned (declarationsOf s (attrsIn attrs (tag .count)))
+    tag-gives =
+        let k = element-given s (tag .name) all (replicate 64 0) bindings (head .bound) (replicate 16 0) f owned own codes given in
+        let n = tag-in .name in
+        record {
+          owned-is = k .1;
+          few-own = own-few s tag all tag-is;
+          own-laid = ap (take (4 * length ds)) (g .1) ∙ own-laid s ds (replicate 64 0) (k .0);
+          at-inside = omega arith;
+          name-inside = omega (arith, n .inside, n .some, n .onward, n .begins);
+          part-inside = omega (arith, n .inside, n .some);
+          uri-inside = space-inside s (spaceOf own bindings f) (element-in .0);
+          attributes-inside = subst (All (λ (a : Attribute). SpanHeld s (a .part) × SpanHeld s (a .value) × SpanHeld s (uriSpan (a .namespace)))) (attributes-told s own bindings (coded all codes)) (each-map (AttributeHeld s) _ (λ a x. (x .part, x .value, space-inside s (a .namespace) (x .namespace))) (attributesIn s own bindings (coded all codes)) (element-in .1));
+          few-codes = small-codes all codes codes-few;
+        }
+
+    pub tag-plan : planBy t₂ s z₂ (startRead s at (opensOf (z₂ .scope)) (tagAt s (at + 1)) (tagged.Got tag))
+        ≡ startPlan t₂ s z₂ (startOf s bindings own attrs codes at tag f) (record { name = wholeSpan (tag .name); declarations = declarationsOf s (attrsIn attrs (tag .count)) }) (tag .next)
+    tag-plan =
+        ap (planBy t₂ s z₂) (read-as ∙ ap (λ (x : Meant). startMeant at (opensOf (z₂ .scope)) tag (asMeaning own bindings (attributesIn s own bindings (coded all codes)) ds x)) q)
+        ∙ ap (λ (as′ : List Attribute). startPlan t₂ s z₂ (record { at = at; name = wholeSpan (tag .name); part = partSpan (tag .name); namespace = spaceOf own bindings f; attributes = as′; empty = tag .empty }) (record { name = wholeSpan (tag .name); declarations = ds }) (tag .next))
+        (attributes-told s own bindings (coded all codes))
+
+  -- 5 and 6
+  pub undeclared-plan : m ≡ told.Undeclared → planBy t₂ s z₂ (startRead s at (opensOf (z₂ .scope)) (tagAt s (at + 1)) (tagged.Got tag)) ≡ plan.refused 5 at
+  undeclared-plan q =
+      ap (planBy t₂ s z₂) (read-as ∙ ap (λ (x : Meant). startMeant at (opensOf (z₂ .scope)) tag (asMeaning own bindings (attributesIn s own bindings (coded all codes)) ds x)) q)
+
+  pub twice-plan : m ≡ told.Twice → planBy t₂ s z₂ (startRead s at (opensOf (z₂ .scope)) (tagAt s (at + 1)) (tagged.Got tag)) ≡ plan.refused 6 at
+  twice-plan q =
+      ap (planBy t₂ s z₂) (read-as ∙ ap (λ (x : Meant). startMeant at (opensOf (z₂ .scope)) tag (asMeaning own bindings (attributesIn s own bindings (coded all codes)) ds x)) q)
+
+-- by what reading the tag answers
+pub start-read-step : (t : Table) (s : List ℕ) (z : Session) (out : List ℕ) (step : Step) (at : ℕ) (r x : Tagged) → r ≡ tagAt s (at + 1) .answer → r ≡ x
+    → step ≡ planned (planBy t s z (startRead s at (opensOf (z .scope)) (tagAt s (at + 1)) x)) z out
+    → step ≡ planned (planBy t s z (startRead s at (opensOf (z .scope)) (tagAt s (at + 1)) (tagAt s (at + 1) .answer))) z out
+start-read-step t s z out step at r x p q e =
+    e ∙ ap (λ (y : Tagged). planned (planBy t s z (startRead s at (opensOf (z .scope)) (tagAt s (at + 1)) y)) z out) (sym q ∙ p)
+
+-- ---- one event
+module _ (t : Table) (s : List ℕ) (head : Head) (levels bindings spaces strands : List ℕ) (a : head .awaited ≡ false)
+    (b r : Begin) (p : r ≡ beginAt s (head .place) (not (eqb (head .depth) 0)) (head .closed)) (q : r ≡ b) where
+  abbrev z₃ : Session
+  z₃ = sessionOf head levels bindings spaces strands
+
+  begin-plan : planOf t s z₃ ≡ planBy t s z₃ (begun s (readerOf z₃) b)
+  unfolding planOf
+  begin-plan =
+      ap (planBy t s z₃)
+      (next-begun s (readerOf z₃) a
+      ∙ ap (λ (o : Bool). begun s (readerOf z₃) (beginAt s (head .place) (not o) (head .closed))) (opens-nil (z₃ .scope))
+      ∙ ap (begun s (readerOf z₃)) (sym p ∙ q))
+
+  pub begun-step : (step : Step) (out : List ℕ) → step ≡ planned (planBy t s z₃ (begun s (readerOf z₃) b)) z₃ out → step ≡ planned (planOf t s z₃) z₃ out
+  begun-step step out e = e ∙ ap (λ (x : plan.Plan). planned x z₃ out) (sym begin-plan)
+
+begins : (s : List ℕ) (head : Head) (b r : Begin) → r ≡ beginAt s (head .place) (not (eqb (head .depth) 0)) (head .closed) → r ≡ b → BeginInside s (head .place) (not (eqb (head .depth) 0)) (head .closed) b
+begins s head b r p q =
+    subst (BeginInside s (head .place) (not (eqb (head .depth) 0)) (head .closed)) (sym p ∙ q) (begin-inside s (head .place) (not (eqb (head .depth) 0)) (head .closed))
+
+some-level : (d : ℕ) → not (eqb d 0) ≡ true → 1 ≤ d
+some-level d e = omega (arith, eqb-false d 0 (not-true (eqb d 0) e))
+
+module _ (s : List ℕ) (head : Head) (r : Begin) (p : r ≡ beginAt s (head .place) (not (eqb (head .depth) 0)) (head .closed)) (at : ℕ) where
+  pub start-begins : r ≡ begin.Start at → at + 1 ≤ length s
+  start-begins q = let k = begins s head (begin.Start at) r p q in omega (arith, k .1)
+
+  pub end-begins : r ≡ begin.End at → (1 ≤ head .depth) × (at + 2 ≤ length s)
+  end-begins q = let k = begins s head (begin.End at) r p q in (some-level (head .depth) (k .4), omega (arith, k .1))
+
+  pub text-begins : r ≡ begin.Text at → (1 ≤ head .depth) × (at ≤ length s)
+  text-begins q = let k = begins s head (begin.Text at) r p q in (some-level (head .depth) (k .3), omega (arith, k .1))
