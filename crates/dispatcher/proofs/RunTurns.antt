@@ -20,8 +20,8 @@ use Rattle.model.specs.Records.{Body}
 use Rattle.model.specs.Dispatch.{bytesOf}
 use Rattle.dispatcher.specs.Sessions.{freshOf, sessionOf}
 use Rattle.dispatcher.specs.Coherence.{coherent}
-use Rattle.dispatcher.specs.Stepping.{Plan, refused, finished, event, planOf, planned, Step, Run, answered, refusedStep, eventStep, longest, stepOf, runFrom, runOf}
-use Rattle.dispatcher.specs.Turns.{Ready, stepBy, handed, ran, turnAnswer}
+use Rattle.dispatcher.specs.Stepping.{Plan, refused, finished, event, planOf, planned, Step, Run, answered, refusedStep, eventStep, longest, stepOf, handed, runFrom, runOf, ran}
+use Rattle.dispatcher.specs.Turns.{Ready, stepBy, turnAnswer}
 use Rattle.dispatcher.specs.declared.Session.{Session}
 use Rattle.dispatcher.specs.declared.Turn.{Turn}
 use Rattle.dispatcher.proofs.Sound.{Sound}

@@ -20,6 +20,7 @@ use Rattle.model.specs.Dispatch.{dispatch, bytesOf}
 use Rattle.dispatcher.specs.Sessions.{readerOf, stateOf, freshOf, withPlace, withEnd, withStart}
 use Rattle.dispatcher.specs.Coherence.{coherent}
 use Rattle.dispatcher.specs.declared.Session.{Session}
+use Rattle.dispatcher.specs.declared.Stepped.{Stepped}
 
 -- an event's place, which 25 has: "< of the tag, or first text byte"
 abbrev pub eventPlace : scene.Event → ℕ
@@ -122,3 +123,10 @@ runFrom (suc n) table s z out used events records =
 -- each event reads a byte or ends an awaited end, so that many steps suffice
 unfoldable pub runOf : List ℕ → List ℕ → List ℕ → Run
 runOf table s out = runFrom (2 * length s + 2) table s freshOf out 0 0 0
+
+-- what the calls hand back, with the output that they were lent
+abbrev pub handed : Stepped → List ℕ → Step
+handed r out = record { answer = r .answer; session = r .session; output = out }
+
+abbrev pub ran : Answer → List ℕ → Run
+ran r out = record { answer = r; output = out }

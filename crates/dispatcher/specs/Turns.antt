@@ -39,8 +39,7 @@ use Rattle.strands.specs.Attributes.{namespaceOf, delivered, allSorted, sortedO
 use Rattle.dispatcher.specs.Sessions.{sessionOf, stateOf}
 use Rattle.dispatcher.specs.Coherence.{coherent}
 use Rattle.table.specs.declared.Answer.{Answer}
-use Rattle.dispatcher.specs.Stepping.{Step, Run, answered}
-use Rattle.dispatcher.specs.declared.Stepped.{Stepped}
+use Rattle.dispatcher.specs.Stepping.{Step, answered}
 use Rattle.dispatcher.specs.declared.Session.{Session}
 use Rattle.dispatcher.specs.declared.Head.{Head}
 use Rattle.dispatcher.specs.declared.Turn.{Turn}
@@ -50,11 +49,15 @@ use Rattle.dispatcher.specs.declared.Decided.{Decided}
 abbrev pub stopTurn : ℕ → ℕ → Head → Turn
 stopTurn number place head = record { number = number; place = place; records = 0; head = head }
 
+-- one event where a turn's number is 0
+abbrev pub turnAnswer : Turn → Answer
+turnAnswer r = answered (r .number) (r .place) (cond (eqb (r .number) 0) 1 0) (r .records)
+
 -- a turn and the arrays behind it, as what a step hands back
 abbrev pub stepBy : Turn → List ℕ → List ℕ → List ℕ → List ℕ → List ℕ → Step
 stepBy r levels bindings spaces strands out =
     record {
-      answer = answered (r .number) (r .place) (cond (eqb (r .number) 0) 1 0) (r .records);
+      answer = turnAnswer r;
       session = sessionOf (r .head) levels bindings spaces strands;
       output = out;
     }
@@ -192,14 +195,3 @@ begunOf at tag placing =
       «uri_at» = narrowed (placing .at);
       «uri_len» = narrowed (placing .len);
     }
-
--- what step and run hand back, with the output
-abbrev pub handed : Stepped → List ℕ → Step
-handed r out = record { answer = r .answer; session = r .session; output = out }
-
-abbrev pub ran : Answer → List ℕ → Run
-ran r out = record { answer = r; output = out }
-
--- one event where a turn's number is 0
-abbrev pub turnAnswer : Turn → Answer
-turnAnswer r = answered (r .number) (r .place) (cond (eqb (r .number) 0) 1 0) (r .records)

@@ -19,11 +19,11 @@ ghost use mathlib.Core.Path.{_≡_};
 ghost use mathlib.Core.Bool.{true};
 ghost use Prim.Native.Nat.{_+_, _*_, _≤_};
 ghost use lib.ListN.{length};
-ghost use Rattle.table.specs.Table.{decode, headerOf};
+ghost use Rattle.table.specs.Table.{headerOf};
 ghost use Rattle.table.specs.Judge.{Accepted};
 ghost use Rattle.dispatcher.specs.Sessions.{freshOf};
-ghost use Rattle.dispatcher.specs.Stepping.{answered, stepOf, runFrom, runOf};
-ghost use Rattle.dispatcher.specs.Turns.{handed, turnAnswer, ran};
+ghost use Rattle.dispatcher.specs.Stepping.{answered, stepOf, handed, runFrom, runOf, ran};
+ghost use Rattle.dispatcher.specs.Turns.{turnAnswer};
 
 // Where a run over a scene is. A caller may hand in any: number 20 judges it.
 pub struct Session {
@@ -43,7 +43,7 @@ pub struct Session {
 }
 
 // The numbers of a session.
-pub struct Head {
+pub(crate) struct Head {
     pub place: usize,
     pub units: usize,
     pub closed: bool,
@@ -53,7 +53,7 @@ pub struct Head {
 }
 
 // What one event's work gives: a number and its place, how many records were written, and the session's numbers behind it.
-pub struct Turn {
+pub(crate) struct Turn {
     pub number: u8,
     pub place: usize,
     pub records: usize,
@@ -61,7 +61,7 @@ pub struct Turn {
 }
 
 // What was decided: 0, or 23 or 24; how many strands, attributes and attribute sections; the units opened so far behind it; how many records.
-pub struct Decided {
+pub(crate) struct Decided {
     pub number: u8,
     pub strands: usize,
     pub attributes: usize,

@@ -19,7 +19,7 @@ ghost use Rattle.strands.specs.Attributes.{Sorted, sortedIn, allSorted};
 ghost use Rattle.strands.specs.Writing.{members, headClass, keeps, sectionCount, elementCount};
 
 // The class of the k-th attribute's namespace.
-pub fn class_at(attributes: &[u32; 128], k: usize) -> u8
+pub(crate) fn class_at(attributes: &[u32; 128], k: usize) -> u8
     requires { ⌜ k < 16 ⌝ }
     ensures { λ r. ⌜ ((sections : List ℕ) → r ≡ sortedIn (now (attributes .entry)) sections k .class) ⌝ }
 {
@@ -27,7 +27,7 @@ pub fn class_at(attributes: &[u32; 128], k: usize) -> u8
 }
 
 // How many of the n attributes are of the j-th section.
-pub fn members_of(sections: &[usize; 16], n: usize, j: usize) -> usize
+pub(crate) fn members_of(sections: &[usize; 16], n: usize, j: usize) -> usize
     requires { ⌜ n ≤ 16 ⌝ }
     ensures { λ r. ⌜ ((attributes : List ℕ) → r ≡ length (members (allSorted attributes (now (sections .entry)) n) j)) × (r ≤ 16) ⌝ }
 {
@@ -43,7 +43,12 @@ pub fn members_of(sections: &[usize; 16], n: usize, j: usize) -> usize
 }
 
 // The class of the j-th section: that of its first attribute; 0 where it has none.
-pub fn section_class(attributes: &[u32; 128], sections: &[usize; 16], n: usize, j: usize) -> u8
+pub(crate) fn section_class(
+    attributes: &[u32; 128],
+    sections: &[usize; 16],
+    n: usize,
+    j: usize,
+) -> u8
     requires { ⌜ n ≤ 16 ⌝ }
     ensures { λ r. ⌜ r ≡ headClass (members (allSorted (now (attributes .entry)) (now (sections .entry)) n) j) ⌝ }
 {
@@ -58,7 +63,7 @@ pub fn section_class(attributes: &[u32; 128], sections: &[usize; 16], n: usize, 
 }
 
 // The attribute units of a strand in this mode, of the first m sections.
-pub fn load_of(
+pub(crate) fn load_of(
     index: &[u32; 256],
     attributes: &[u32; 128],
     sections: &[usize; 16],
@@ -123,7 +128,7 @@ pub fn load_all(
 }
 
 // Is the k-th attribute kept with the element along a strand of this mode?
-pub fn is_kept(
+pub(crate) fn is_kept(
     index: &[u32; 256],
     mode: u8,
     attributes: &[u32; 128],
@@ -140,7 +145,7 @@ pub fn is_kept(
 }
 
 // How many of the n attributes are kept.
-pub fn kept_count(
+pub(crate) fn kept_count(
     index: &[u32; 256],
     mode: u8,
     attributes: &[u32; 128],

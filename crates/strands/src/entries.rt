@@ -21,7 +21,7 @@ ghost use Rattle.strands.specs.Packed.{strandIn, wordsAt};
 ghost use Rattle.strands.specs.Entries.{madeBy, entriesBy, entriesFrom, stayEntry, counted, strandWord, schemaWord, hereCount, Unnumbered};
 
 // The k-th strand of a level.
-pub fn strand_at(strands: &[u32; 1024], level: usize, k: usize) -> u32
+pub(crate) fn strand_at(strands: &[u32; 1024], level: usize, k: usize) -> u32
     requires { ⌜ (level < 64) × (k < 16) ⌝ }
     ensures { λ r. ⌜ r ≡ getD (now (strands .entry)) (16 * level + k) 0 ⌝ }
 {

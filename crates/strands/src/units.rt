@@ -24,7 +24,7 @@ ghost use Rattle.strands.specs.Attributes.{Sorted, sortedIn, allSorted};
 ghost use Rattle.strands.specs.Writing.{rowFor, rowOf, members, sortedBodies, unitFor, sectionUnits, strandUnits};
 
 // The two rows of the k-th attribute, if they are due.
-pub fn put_attribute_if(
+pub(crate) fn put_attribute_if(
     out: &mut [u8],
     used: usize,
     due: bool,
