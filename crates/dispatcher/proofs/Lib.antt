@@ -32,3 +32,4 @@ pub mod StartWritten
 pub mod StartSession
 pub mod OpeningTurns
 pub mod Openings
+pub mod Room

@@ -1,24 +1,17 @@
 -- `events::show` meets its contract: what was read is a part of the buffer.
-use mathlib.Core.Path.{sym}
 use borrow.Author.Needs.{needs}
-use lib.Seq.{length-take-le}
+use Rattle.printing.proofs.Read.{bytes-read}
 use Rattle.events.proofs.show.Statement.{statement}
 use Rattle.events.proofs.show.Tie as tie
 
-load-requires : tie.Need-load-requires
-load-requires c κs = search needs
+slice-aggregate-read-file : tie.Need-slice-aggregate-read-file
+slice-aggregate-read-file c = search needs
 
-enum-known-n : tie.Need-enum-known-n
-enum-known-n c = search needs
+read-file-requires : tie.Need-read-file-requires
+read-file-requires c κs = search needs
 
-slice-reshare-prefix-print-events : tie.Need-slice-reshare-prefix-print-events
-slice-reshare-prefix-print-events c = search needs
-
-slice-aggregate-print-events : tie.Need-slice-aggregate-print-events
-slice-aggregate-print-events c = sym (length-take-le _ _ (c .before .if1 .taken))
-
-print-events-requires : tie.Need-print-events-requires
-print-events-requires c κs = search needs
+enum-known-read : tie.Need-enum-known-read
+enum-known-read c = search needs
 
 enum-told : tie.Need-enum-told
 enum-told c = search needs
@@ -29,31 +22,33 @@ same-length c = search needs
 returns : tie.Need-returns
 returns c = search needs
 
+slice-reshare-prefix-print-events : tie.Need-slice-reshare-prefix-print-events
+slice-reshare-prefix-print-events c = bytes-read _ _ _ (c .before .before .before .before .before .read-file .ensures) (c .before .read .given .1) .0
+
+slice-aggregate-print-events : tie.Need-slice-aggregate-print-events
+slice-aggregate-print-events c = bytes-read _ _ _ (c .before .before .before .before .before .before .read-file .ensures) (c .before .before .read .given .1) .1
+
+print-events-requires : tie.Need-print-events-requires
+print-events-requires c κs = search needs
+
 same-length-2 : tie.Need-same-length-2
 same-length-2 c = search needs
 
 returns-2 : tie.Need-returns-2
 returns-2 c = search needs
 
-same-length-3 : tie.Need-same-length-3
-same-length-3 c = search needs
-
-returns-3 : tie.Need-returns-3
-returns-3 c = search needs
-
 pub show-spec : {M : Type 1} → statement M
 show-spec =
     tie.close
     (tie.spec
-    load-requires
-    enum-known-n
-    slice-reshare-prefix-print-events
-    slice-aggregate-print-events
-    print-events-requires
+    slice-aggregate-read-file
+    read-file-requires
+    enum-known-read
     enum-told
     same-length
     returns
+    slice-reshare-prefix-print-events
+    slice-aggregate-print-events
+    print-events-requires
     same-length-2
-    returns-2
-    same-length-3
-    returns-3)
+    returns-2)

@@ -1,0 +1,47 @@
+-- Every step's records have room in the output, and it is one event at most.
+use Prim.Native.Nat.{ℕ, _*_, _≤_}
+use mathlib.Core.Path.{_≡_, sym, subst}
+use mathlib.Core.List.{List}
+use mathlib.Core.Bool.{not}
+use native.Mathlib.Omega.{arith}
+use borrow.Author.Tests.{ltb-false}
+use lib.Dec.{eqb, ltb}
+use lib.ListN.{length}
+use Rattle.laws.proofs.Holds.{holds-cond}
+use Rattle.table.specs.Table.{decode}
+use Rattle.table.specs.Judge.{judged}
+use Rattle.dispatcher.specs.Coherence.{coherent}
+use Rattle.dispatcher.specs.Stepping.{Plan, refused, finished, event, planOf, planned, Step, refusedStep, longest, stepOf}
+use Rattle.dispatcher.specs.Stepping.{handed}
+use Rattle.dispatcher.specs.declared.Session.{Session}
+use Rattle.dispatcher.specs.declared.Stepped.{Stepped}
+
+record Roomed (out : List ℕ) (r : Step) : Type 0 where
+  pub room : 16 * r .answer .records ≤ length out
+  pub one : r .answer .events ≤ 1
+
+refused-roomed : (n p : ℕ) (z : Session) (out : List ℕ) → Roomed out (refusedStep n p z out)
+refused-roomed n p z out = record { room = omega arith; one = omega arith }
+
+planned-roomed : (p : Plan) (z : Session) (out : List ℕ) → Roomed out (planned p z out)
+planned-roomed (refused n p) z out = refused-roomed n p z out
+planned-roomed (finished p) z out = refused-roomed 9 p z out
+planned-roomed (event at rs next) z out =
+    holds-cond (Roomed out) (ltb (length out) (16 * length rs)) (λ _. refused-roomed 25 at z out)
+    (λ l. record { room = ltb-false (length out) (16 * length rs) l; one = omega arith })
+
+step-roomed : (table s : List ℕ) (z : Session) (out : List ℕ) → Roomed out (stepOf table s z out)
+unfolding stepOf
+step-roomed table s z out =
+    holds-cond (Roomed out) (not (eqb (judged table .number) 0)) (λ _. refused-roomed (judged table .number) (judged table .place) z out)
+    (λ _. holds-cond (Roomed out) (ltb longest (length s)) (λ _. refused-roomed 7 0 z out)
+    (λ _. holds-cond (Roomed out) (not (coherent (decode table) s z)) (λ _. refused-roomed 20 0 z out)
+    (λ _. planned-roomed (planOf (decode table) s z) z out)))
+
+-- the same of what a step hands back
+module _ (table s : List ℕ) (z : Session) (out : List ℕ) (r : Stepped) (out′ : List ℕ) (q : handed r out′ ≡ stepOf table s z out) where
+  pub step-room : 16 * r .answer .records ≤ length out
+  step-room = subst (Roomed out) (sym q) (step-roomed table s z out) .room
+
+  pub step-one : r .answer .events ≤ 1
+  step-one = subst (Roomed out) (sym q) (step-roomed table s z out) .one
