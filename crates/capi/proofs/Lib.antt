@@ -1,0 +1,12 @@
+pub mod Filled
+pub mod Stored
+pub mod Packs
+pub mod Holding
+pub mod ReadBytes
+pub mod Within
+pub mod RoundTrip
+pub mod Taken
+pub mod NextHeld
+pub mod NextStored
+pub mod Told
+pub mod ByteSteps

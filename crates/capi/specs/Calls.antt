@@ -1,0 +1,30 @@
+-- What the calls for hosts hand back, for all arguments. Definitions.
+use Prim.Native.Nat.{ℕ}
+use mathlib.Core.List.{List, [], _∷_}
+use mathlib.Core.Bool.{cond, not}
+use lib.ListN.{length}
+use lib.Dec.{eqb, ltb}
+use Rattle.laws.specs.Over.{overwrite}
+use Rattle.table.specs.Judge.{judged}
+use Rattle.table.specs.declared.Answer.{Answer}
+use Rattle.dispatcher.specs.Stepping.{Step, answered, refusedStep, longest, stepOf}
+use Rattle.capi.specs.Layout.{sessionSize, sessionIn, holdsSession, sessionBytes}
+
+-- number, place, events, records
+abbrev pub numbersOf : Answer → List ℕ
+numbersOf a = a .number ∷ a .place ∷ a .events ∷ a .records ∷ []
+
+-- a step from a session in bytes: bytes that hold none are answered 20, in 20's rank
+unfoldable pub byteStep : List ℕ → List ℕ → List ℕ → List ℕ → Step
+byteStep table s b out =
+    cond (holdsSession b) (stepOf table s (sessionIn b) out)
+    (cond (not (eqb (judged table .number) 0)) (refusedStep (judged table .number) (judged table .place) (sessionIn b) out)
+    (cond (ltb longest (length s)) (refusedStep 7 0 (sessionIn b) out) (refusedStep 20 0 (sessionIn b) out)))
+
+-- the bytes behind it: those of the next session where the step gives 0, further bytes as they were
+abbrev pub bytesBehind : List ℕ → Step → List ℕ
+bytesBehind b r = cond (eqb (r .answer .number) 0) (overwrite b 0 (sessionBytes (r .session))) b
+
+-- a session slice that is too short
+abbrev pub tooShort : ℕ
+tooShort = 255

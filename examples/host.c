@@ -1,0 +1,74 @@
+/* A host in C: sample A by one run, then the same scene as it comes in, five bytes at a time. */
+#include <stdio.h>
+#include <stdlib.h>
+#include "calcivorne.h"
+
+#define CHUNK 5
+
+static const unsigned char table[] = {0x01, 0x02, 0x01, 0x01, 0x00, 0x06, 0x00, 0x08, 0x01, 0x75};
+static const char text[] = "<r xmlns=\"u\">a<x/></r>";
+
+static unsigned char out[65536];
+
+/* A number of so many bytes, the most significant first. */
+static unsigned long field(const unsigned char *at, int bytes)
+{
+    unsigned long value = 0;
+    int i;
+    for (i = 0; i < bytes; i++)
+        value = value * 256 + at[i];
+    return value;
+}
+
+static void print_record(const unsigned char *r)
+{
+    printf("%lu %lu %lu %lu %lu %lu %lu\n",
+           field(r, 2), field(r + 2, 1), field(r + 3, 1), field(r + 4, 3), field(r + 7, 3), field(r + 10, 3), field(r + 13, 3));
+}
+
+static void whole(const unsigned char *scene, size_t len)
+{
+    calcivorne_number answer[4];
+    calcivorne_number i;
+    calcivorne_run(table, sizeof table, scene, len, out, sizeof out, answer);
+    for (i = 0; i < answer[3]; i++)
+        print_record(out + 16 * i);
+    printf("%lu %lu %lu %lu\n", answer[0], answer[1], answer[2], answer[3]);
+}
+
+/* The scene grows: on 1, or on 9 while bytes are still to come, the next ones are appended and the same session goes on. */
+static int in_chunks(const unsigned char *scene, size_t len)
+{
+    size_t size = (size_t)calcivorne_session_size();
+    unsigned char *session = malloc(size);
+    calcivorne_number answer[4];
+    calcivorne_number events = 0;
+    calcivorne_number records = 0;
+    size_t come = 0;
+    unsigned char number;
+    if (session == NULL)
+        return 1;
+    calcivorne_fresh(session, size);
+    for (;;) {
+        number = calcivorne_step(table, sizeof table, scene, come, session, size, out, sizeof out, answer);
+        if (number == 0) {
+            events += answer[2];
+            records += answer[3];
+        } else if ((number == 1 || number == 9) && come < len) {
+            come = len - come < CHUNK ? len : come + CHUNK;
+        } else {
+            break;
+        }
+    }
+    free(session);
+    printf("in chunks: %u, %lu events, %lu records\n", (unsigned)number, events, records);
+    return 0;
+}
+
+int main(void)
+{
+    const unsigned char *scene = (const unsigned char *)text;
+    size_t len = sizeof text - 1;
+    whole(scene, len);
+    return in_chunks(scene, len);
+}

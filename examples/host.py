@@ -1,0 +1,67 @@
+"""A host in Python: sample A by one run, then the same scene as it comes in, five bytes at a time.
+
+    python3 host.py SHARED_LIBRARY
+"""
+import ctypes
+import sys
+
+TABLE = bytes.fromhex("01020101000600080175")
+SCENE = b'<r xmlns="u">a<x/></r>'
+CHUNK = 5
+
+Bytes, Size, Number = ctypes.c_char_p, ctypes.c_size_t, ctypes.c_uint64
+Answer = Number * 4
+
+
+def load(path):
+    lib = ctypes.CDLL(path)
+    read, write = [Bytes, Size], [ctypes.POINTER(ctypes.c_char), Size]
+    lib.calcivorne_run.argtypes = read + read + write + [ctypes.POINTER(Number)]
+    lib.calcivorne_run.restype = ctypes.c_uint8
+    lib.calcivorne_session_size.argtypes = []
+    lib.calcivorne_session_size.restype = Number
+    lib.calcivorne_fresh.argtypes = write
+    lib.calcivorne_fresh.restype = ctypes.c_uint8
+    lib.calcivorne_step.argtypes = read + read + write + write + [ctypes.POINTER(Number)]
+    lib.calcivorne_step.restype = ctypes.c_uint8
+    return lib
+
+
+def fields(record):
+    """The seven fields of a record, the most significant byte of each first."""
+    ends = [0, 2, 3, 4, 7, 10, 13, 16]
+    return [int.from_bytes(record[a:e], "big") for a, e in zip(ends, ends[1:])]
+
+
+def whole(lib, out):
+    answer = Answer()
+    lib.calcivorne_run(TABLE, len(TABLE), SCENE, len(SCENE), out, len(out), answer)
+    for i in range(answer[3]):
+        print(*fields(out[16 * i:16 * i + 16]))
+    print(*answer)
+
+
+def in_chunks(lib, out):
+    """The scene grows: on 1, or on 9 while bytes are still to come, the next ones are appended and the same session goes on."""
+    session = ctypes.create_string_buffer(lib.calcivorne_session_size())
+    lib.calcivorne_fresh(session, len(session))
+    answer = Answer()
+    come = events = records = 0
+    while True:
+        scene = SCENE[:come]
+        number = lib.calcivorne_step(TABLE, len(TABLE), scene, len(scene), session, len(session), out, len(out), answer)
+        if number == 0:
+            events += answer[2]
+            records += answer[3]
+        elif number in (1, 9) and come < len(SCENE):
+            come += CHUNK
+        else:
+            break
+    print(f"in chunks: {number}, {events} events, {records} records")
+
+
+if __name__ == "__main__":
+    library = load(sys.argv[1])
+    output = ctypes.create_string_buffer(65536)
+    whole(library, output)
+    in_chunks(library, output)

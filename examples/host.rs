@@ -1,0 +1,110 @@
+// A host in Rust: sample A by one run, then the same scene as it comes in, five bytes at a time.
+#[link(name = "capi", kind = "static")]
+extern "C" {
+    fn calcivorne_run(
+        table: *const u8,
+        table_len: usize,
+        scene: *const u8,
+        scene_len: usize,
+        out: *mut u8,
+        out_len: usize,
+        answer: *mut [u64; 4],
+    ) -> u8;
+    fn calcivorne_session_size() -> u64;
+    fn calcivorne_fresh(session: *mut u8, session_len: usize) -> u8;
+    fn calcivorne_step(
+        table: *const u8,
+        table_len: usize,
+        scene: *const u8,
+        scene_len: usize,
+        session: *mut u8,
+        session_len: usize,
+        out: *mut u8,
+        out_len: usize,
+        answer: *mut [u64; 4],
+    ) -> u8;
+}
+
+const TABLE: [u8; 10] = [0x01, 0x02, 0x01, 0x01, 0x00, 0x06, 0x00, 0x08, 0x01, 0x75];
+const SCENE: &[u8] = b"<r xmlns=\"u\">a<x/></r>";
+const CHUNK: usize = 5;
+
+fn run(table: &[u8], scene: &[u8], out: &mut [u8]) -> [u64; 4] {
+    let mut answer = [0; 4];
+    unsafe {
+        calcivorne_run(
+            table.as_ptr(),
+            table.len(),
+            scene.as_ptr(),
+            scene.len(),
+            out.as_mut_ptr(),
+            out.len(),
+            &mut answer,
+        );
+    }
+    answer
+}
+
+fn fresh() -> Vec<u8> {
+    let mut session = vec![0; unsafe { calcivorne_session_size() } as usize];
+    unsafe { calcivorne_fresh(session.as_mut_ptr(), session.len()) };
+    session
+}
+
+fn step(table: &[u8], scene: &[u8], session: &mut [u8], out: &mut [u8]) -> [u64; 4] {
+    let mut answer = [255, 0, 0, 0];
+    unsafe {
+        calcivorne_step(
+            table.as_ptr(),
+            table.len(),
+            scene.as_ptr(),
+            scene.len(),
+            session.as_mut_ptr(),
+            session.len(),
+            out.as_mut_ptr(),
+            out.len(),
+            &mut answer,
+        );
+    }
+    answer
+}
+
+// A number, the most significant byte first.
+fn field(bytes: &[u8]) -> u64 {
+    bytes.iter().fold(0, |value, b| value * 256 + u64::from(*b))
+}
+
+fn print_record(r: &[u8]) {
+    let fields = [&r[0..2], &r[2..3], &r[3..4], &r[4..7], &r[7..10], &r[10..13], &r[13..16]];
+    let words: Vec<String> = fields.iter().map(|f| field(f).to_string()).collect();
+    println!("{}", words.join(" "));
+}
+
+// The scene grows: on 1, or on 9 while bytes are still to come, the next ones are appended and the same session goes on.
+fn in_chunks(scene: &[u8], out: &mut [u8]) {
+    let mut session = fresh();
+    let mut come = 0;
+    let (mut events, mut records) = (0, 0);
+    let number = loop {
+        let answer = step(&TABLE, &scene[..come], &mut session, out);
+        match answer[0] {
+            0 => {
+                events += answer[2];
+                records += answer[3];
+            }
+            1 | 9 if come < scene.len() => come = scene.len().min(come + CHUNK),
+            number => break number,
+        }
+    };
+    println!("in chunks: {number}, {events} events, {records} records");
+}
+
+fn main() {
+    let mut out = vec![0; 65536];
+    let answer = run(&TABLE, SCENE, &mut out);
+    for r in out.chunks(16).take(answer[3] as usize) {
+        print_record(r);
+    }
+    println!("{} {} {} {}", answer[0], answer[1], answer[2], answer[3]);
+    in_chunks(SCENE, &mut out);
+}

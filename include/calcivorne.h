@@ -1,0 +1,163 @@
+/*
+ * calcivorne.h: the dispatcher for hosts in C and C++. This file is the manual of the interface.
+ *
+ * The library is target/staticlib/libcapi.a, for Linux on x86-64; `rt staticlib capi` makes it. examples/ has hosts in C, Rust and Python.
+ *
+ * SLICES. A run of bytes is passed as a pointer and a length. A length may be 0; the pointer must then not be NULL all the same. All the bytes of
+ * a slice must be there to be read and, where the parameter is not const, to be written, and no two of a call's slices and arrays may overlap.
+ * Nothing else is asked of an argument: every table, scene, session and output, whatever its bytes, has an answer below.
+ *
+ * A call reads its slices and writes what is said of it here, and nothing else: it keeps no pointer, has no memory of earlier calls, allocates
+ * nothing and prints nothing. Calls on different buffers may run at the same time.
+ *
+ * THE ANSWER. judge, run and step write four numbers:
+ *
+ *     answer[0]  number    see below; the call returns it too
+ *     answer[1]  place     where in the scene, or for judge in the table
+ *     answer[2]  events    judge: 0. step: 1 with number 0, else 0. run: the steps that gave 0
+ *     answer[3]  records   how many records stand in the output, 16 bytes each, from its first byte on
+ *
+ *     number                                                                              place
+ *       0  step: an event. judge: the table is accepted                                   step: behind the event. judge: the table's length
+ *       1  the scene ends, and nothing else is wrong so far: go on with a longer one      the scene's length
+ *       2  a byte that cannot stand there                                                 that byte
+ *       3  the 65th byte of a name's part, or the first of a 17th attribute               that byte
+ *       4  an end tag's name is not that of the open element                              the tag's <
+ *       5  a prefix that is not bound, or a declaration that is not allowed               the tag's <
+ *       6  an attribute stands twice                                                      the tag's <
+ *       7  the scene is over 16,777,215 bytes                                             0
+ *       9  finished: the root has closed and only space follows                           the scene's length
+ *      10  the table is under 4 bytes, or not of the length that it needs                 0
+ *      11  a field of the table is out of range                                           0
+ *      12  the table repeats a URI or a rule, or two of its rules contradict              0
+ *      20  the bytes hold no session, or one that does not fit this table and scene       0
+ *      21  a 65th open element                                                            the tag's <
+ *      22  a 65th open declaration                                                        the tag's <
+ *      23  a 17th strand                                                                  the tag's <
+ *      24  a unit past 65,535                                                             the tag's <
+ *      25  the event's records exceed the output                                          the tag's <, or the text's first byte
+ *     255  the session's slice is shorter than calcivorne_session_size()                  the answer is not written
+ *
+ * 8 and 13 to 19 are not used. Where several hold, the first of this order is given: 255; 10 under 4 bytes, 11 of the first four, 10, 11, 12; 7; 20;
+ * 1, 2, 3 or 9; 4; 5, 6, 21, 22, 23, 24; 25. run never gives 0, 20 or 255, judge only 0 and 10 to 12.
+ *
+ * A RECORD. 16 bytes, the most significant byte of a field first; a field that a kind does not use is zero:
+ *
+ *     bytes  0,  1    unit, counted from 0 as opened
+ *     byte   2        kind: 0 open, 1 start, 2 attribute, 3 attribute value, 4 text, 5 end, 6 close
+ *     byte   3        class: 0 no namespace, 1 to 30 the table's, 254 that of the prefix xml, 255 any other, 253 the virtual element that holds the
+ *                     attributes of an attribute unit; of an open, the schema
+ *     bytes  4 to  6  offset in the scene: of the part behind the colon of a name, of a value, of a text; of an open, of the tag's <
+ *     bytes  7 to  9  length; of an open, 1 for an attribute unit
+ *     bytes 10 to 12  offset of the namespace's URI in the scene, for class 255
+ *     bytes 13 to 15  its length
+ *
+ * A SESSION is where a run over a scene is, in calcivorne_session_size() bytes: docs/SESSION.md says how to store one. Numbers have the least
+ * significant byte first:
+ *
+ *     byte      0        version: 1
+ *     byte      1        1 where the root has closed, else 0
+ *     byte      2        1 where the end of a /> is awaited, else 0
+ *     bytes     3 to  7  zero
+ *     bytes     8 to 15  place in the scene
+ *     bytes    16 to 23  units opened so far
+ *     bytes    24 to 31  depth: open elements, 0 to 64
+ *     bytes    32 to 39  open declarations, 0 to 64
+ *     bytes    40 on     64 declarations, the outermost first, 16 bytes each: offset and length of the prefix (both 0 for the default), offset and
+ *                        length of the URI; 4 bytes each
+ *     bytes  1064 on     64 levels, the root first, 96 bytes each:
+ *                  0     offset and length of the element's whole name; 4 bytes each
+ *                  8     how many declarations its tag has; 4 bytes
+ *                 12     its class; 4 bytes
+ *                 16     offset and length of its URI, for class 255, else 0; 4 bytes each
+ *                 24     how many strands it has, 1 to 16; 4 bytes
+ *                 28     zero; 4 bytes
+ *                 32     16 strands, 4 bytes each: bits 0 to 4 the mode, 5 and 6 the action (0 attach, 1 unwrap, 2 validate), 7 whether its unit
+ *                        opened at this element, 8 whether it has a target, 9 to 24 the target unit (0 without one), 25 to 31 zero
+ *     bytes  7208 on     of a longer slice: never read, never written
+ *
+ * What stands in declarations past their count, in levels past the depth and in strands past theirs is no part of the session, but its zero bytes
+ * and the form of its strands are asked for there too: bytes that calcivorne_fresh and calcivorne_step wrote always have them.
+ */
+#ifndef CALCIVORNE_H
+#define CALCIVORNE_H
+
+#include <stddef.h>
+
+#ifdef __cplusplus
+extern "C" {
+#endif
+
+/* A number of an answer or a span: 64 bits, as unsigned long has on Linux on x86-64. */
+typedef unsigned long calcivorne_number;
+typedef char calcivorne_number_has_64_bits[sizeof(calcivorne_number) == 8 ? 1 : -1];
+
+/*
+ * Judges a rule table: returns 0, 10, 11 or 12. Writes the four numbers of the answer.
+ */
+unsigned char calcivorne_judge(
+    const unsigned char *table, size_t table_len,
+    calcivorne_number answer[4]);
+
+/*
+ * Reads a whole scene: steps from a fresh session, until one does not give 0. Returns the number of that last step: 9 where the scene was read to
+ * its end. Writes the records of all steps to out, joined, from its first byte on, and the four numbers of the answer. The bytes of out behind the
+ * records keep their values. With another number than 9 the records of the steps before stand all the same, and answer[3] counts them.
+ */
+unsigned char calcivorne_run(
+    const unsigned char *table, size_t table_len,
+    const unsigned char *scene, size_t scene_len,
+    unsigned char *out, size_t out_len,
+    calcivorne_number answer[4]);
+
+/*
+ * How many bytes a session takes. This is the only size that a host may use.
+ */
+calcivorne_number calcivorne_session_size(void);
+
+/*
+ * Writes a fresh session, at the start of a scene, to the first bytes of session, and returns 0. Where session_len is below
+ * calcivorne_session_size() it writes nothing and returns 255.
+ */
+unsigned char calcivorne_fresh(
+    unsigned char *session, size_t session_len);
+
+/*
+ * One step: reads one event of the scene from where the session is.
+ *
+ * With number 0 it writes the event's records to out, from its first byte on, and the session behind the event over the one that was there. The
+ * bytes of out behind the records, and those of session behind the session, keep their values. With any other number session and out are as they
+ * were. The four numbers of the answer are written but with 255, with which nothing is.
+ *
+ * The scene is always the whole scene so far, from its first byte on; a later call may give a longer one that begins with the same bytes. Number 1
+ * says that the scene ends inside an event: append what comes next and call again with the same session. Number 9 says that the scene is whole as
+ * it stands; more space may still follow.
+ */
+unsigned char calcivorne_step(
+    const unsigned char *table, size_t table_len,
+    const unsigned char *scene, size_t scene_len,
+    unsigned char *session, size_t session_len,
+    unsigned char *out, size_t out_len,
+    calcivorne_number answer[4]);
+
+/*
+ * Where the namespace URI of a record stands, by the record's class, URI offset and URI length. Returns 0. Writes three numbers:
+ *
+ *     span[0]  0: in the table, 1: in the scene
+ *     span[1]  its offset there
+ *     span[2]  its length
+ *
+ * For a class that the table lists it is the table's own bytes; for 255 the scene's at uri_offset, if all uri_len bytes lie inside it. For any other
+ * class or span, and with a table that judge refuses, it is the empty part at the scene's start: 1, 0, 0.
+ */
+unsigned char calcivorne_uri(
+    const unsigned char *table, size_t table_len,
+    const unsigned char *scene, size_t scene_len,
+    unsigned char record_class, calcivorne_number uri_offset, calcivorne_number uri_len,
+    calcivorne_number span[3]);
+
+#ifdef __cplusplus
+}
+#endif
+
+#endif

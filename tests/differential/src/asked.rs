@@ -1,0 +1,97 @@
+//! The dispatcher asked with the reference's types. What a call must keep is looked at here; what it hands back is for the caller to compare.
+
+use crate::calls::{self, Four, Lent};
+use crate::layout;
+use reference::{Answer, Record, Session};
+
+/// An output for the records of any event of the vectors.
+const LARGE: usize = 1 << 20;
+
+pub fn judge(table: &[u8]) -> Answer {
+    answer(calls::judge(table))
+}
+
+/// The answer and the bytes of the records that it counts. The rest of the output has kept its values.
+pub fn run(table: &[u8], scene: &[u8], out_len: usize) -> (Answer, Vec<u8>) {
+    let mut out = Lent::patterned(out_len);
+    let answer = answer(calls::run(table, scene, &mut out));
+    let written = written(&answer, &out);
+    (answer, written)
+}
+
+/// One step from a session that has bytes; with another number than 0 they have kept their values.
+pub fn step(table: &[u8], scene: &[u8], session: &Session, out_len: usize) -> (Answer, Session, Vec<u8>) {
+    let bytes = layout::encode(session).expect("a session that has bytes");
+    let mut lent = Lent::new(&bytes);
+    let mut out = Lent::patterned(out_len);
+    let answer = answer(calls::step(table, scene, &mut lent, &mut out));
+    let written = written(&answer, &out);
+    if answer.number != 0 {
+        assert!(lent.content() == bytes, "a refused step changed the session");
+        return (answer, session.clone(), written);
+    }
+    let next = layout::decode(lent.content()).expect("the bytes hold a session");
+    (answer, next, written)
+}
+
+/// Whether a step with an accepted table does not answer 20.
+pub fn coherent(table: &[u8], scene: &[u8], session: &Session) -> bool {
+    judge(table).number == 0 && step(table, scene, session, 0).0.number != 20
+}
+
+/// The session behind the first so many events that steps from fresh accept.
+pub fn session_after(table: &[u8], scene: &[u8], events: usize) -> Session {
+    let mut session = Session::fresh();
+    for _ in 0..events {
+        session = step(table, scene, &session, LARGE).1;
+    }
+    session
+}
+
+/// What document 01's program prints, by steps with 65,536 bytes of output each.
+pub fn program(table: &[u8], scene: &[u8]) -> String {
+    let (mut session, mut printed, mut events, mut records) = (Session::fresh(), String::new(), 0, 0);
+    loop {
+        let (answer, next, written) = step(table, scene, &session, 65_536);
+        if answer.number != 0 {
+            return format!("{printed}{} {} {events} {records}\n", answer.number, answer.place);
+        }
+        for record in written.chunks(16) {
+            printed += &format!("{}\n", Record::read(record).line());
+        }
+        (session, events, records) = (next, events + 1, records + answer.records);
+    }
+}
+
+/// Which of the two (0 table, 1 scene), offset and length there.
+pub fn uri(table: &[u8], scene: &[u8], class: u8, at: u64, len: u64) -> (u8, u64, u64) {
+    let (number, [slice, offset, length]) = calls::uri(table, scene, class, at, len);
+    assert_eq!(number, 0, "what calcivorne_uri returns");
+    (u8::try_from(slice).expect("0 or 1"), offset, length)
+}
+
+/// A fresh session's bytes.
+pub fn fresh() -> Vec<u8> {
+    let mut session = Lent::patterned(calls::session_size());
+    assert_eq!(calls::fresh(&mut session), 0);
+    session.content().to_vec()
+}
+
+/// The four numbers; the first is the one that the call returned.
+pub fn answer((number, four): (u8, Four)) -> Answer {
+    assert_eq!(four[0], number as u64, "answer[0] and what the call returned");
+    Answer {
+        number,
+        place: four[1],
+        events: four[2],
+        records: four[3],
+    }
+}
+
+fn written(answer: &Answer, out: &Lent) -> Vec<u8> {
+    let out = out.content();
+    let len = 16 * answer.records as usize;
+    assert!(len <= out.len(), "{answer:?} counts more records than the output holds");
+    assert!(calls::keeps_pattern(out, len), "output behind the records was written");
+    out[..len].to_vec()
+}

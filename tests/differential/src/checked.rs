@@ -1,0 +1,97 @@
+//! Both asked, everything compared. Each function hands back what both said.
+
+use crate::asked;
+use crate::calls::{self, Lent};
+use crate::case::{session_text, Case};
+use crate::layout;
+use reference::limits;
+use reference::{Answer, Session};
+
+pub fn judge(case: &Case) -> Answer {
+    let answer = asked::judge(case.table);
+    case.same("judge", &reference::judge(case.table), &answer, String::new);
+    answer
+}
+
+pub fn run(case: &Case, out_len: usize) -> Answer {
+    let (expected, records) = reference::run(case.table, case.scene, out_len);
+    run_as(case, out_len, expected, &records);
+    expected
+}
+
+/// Run with an output that is a little longer than needed; the records too.
+pub fn ample_run(case: &Case) -> (Answer, Vec<u8>) {
+    let (expected, records) = reference::run(case.table, case.scene, usize::MAX);
+    run_as(case, records.len() + 37, expected, &records);
+    (expected, records)
+}
+
+/// The dispatcher's run against an answer and its records; every byte of the output is compared.
+pub fn run_as(case: &Case, out_len: usize, expected: Answer, records: &[u8]) {
+    let more = || format!("run with an output of {out_len} bytes");
+    let mut out = Lent::patterned(out_len);
+    let answer = asked::answer(calls::run(case.table, case.scene, &mut out));
+    case.same("number, place, events, records", &expected, &answer, more);
+    case.same_bytes("output", &filled(out_len, records), out.content(), more);
+}
+
+/// One step from bytes, which become those of the next session: what the reference's step says of the session that they hold.
+pub fn step(case: &Case, session: &mut Vec<u8>, out_len: usize) -> (Answer, Vec<u8>) {
+    let (expected, next, records) = expected_step(case, session, out_len);
+    step_as(case, session, out_len, expected, next.as_ref(), &records);
+    (expected, records)
+}
+
+/// The dispatcher's step against an answer, the next session (with number 0) and the records.
+pub fn step_as(case: &Case, session: &mut Vec<u8>, out_len: usize, expected: Answer, next: Option<&Session>, records: &[u8]) {
+    let before = session.clone();
+    let more = || format!("step with an output of {out_len} bytes, {}", session_text(&before));
+    let mut lent = Lent::new(session);
+    let mut out = Lent::patterned(out_len);
+    let answer = asked::answer(calls::step(case.table, case.scene, &mut lent, &mut out));
+    case.same("number, place, events, records", &expected, &answer, more);
+    case.same_bytes("output", &filled(out_len, records), out.content(), more);
+    let after = lent.content();
+    match answer.number {
+        0 => {
+            case.same("next session", &next.cloned(), &layout::decode(after), more);
+            case.same_bytes("bytes behind the session", &before[layout::SIZE..], &after[layout::SIZE..], more);
+        }
+        _ => case.same_bytes("session of a refused step", &before, after, more),
+    }
+    *session = after.to_vec();
+}
+
+/// Bytes that hold no session are answered 20, behind 10, 11, 12 and 7.
+fn expected_step(case: &Case, session: &[u8], out_len: usize) -> (Answer, Option<Session>, Vec<u8>) {
+    match layout::decode(session) {
+        Some(held) => {
+            let (answer, next, records) = reference::step(case.table, case.scene, &held, out_len);
+            (answer, Some(next), records)
+        }
+        None => (refused(case), None, Vec::new()),
+    }
+}
+
+fn refused(case: &Case) -> Answer {
+    let judged = reference::judge(case.table).number;
+    match judged {
+        0 if case.scene.len() > limits::SCENE => Answer::bare(limits::TOO_LONG, 0),
+        0 => Answer::bare(20, 0),
+        _ => Answer::bare(judged, 0),
+    }
+}
+
+pub fn uri(case: &Case, class: u8, at: u64, len: u64) -> (u8, u64, u64) {
+    let expected = reference::uri(case.table, case.scene, class, at, len);
+    let given = asked::uri(case.table, case.scene, class, at, len);
+    case.same("uri", &expected, &given, || format!("class {class}, offset {at}, length {len}"));
+    given
+}
+
+/// An output as it stands after a call.
+fn filled(out_len: usize, records: &[u8]) -> Vec<u8> {
+    let mut out = calls::pattern(out_len);
+    out[..records.len()].copy_from_slice(records);
+    out
+}

@@ -1,0 +1,21 @@
+//! The dispatcher's C calls beside the reference: what both say must be the same.
+//!
+//! `calls` has the calls as include/calcivorne.h gives them, `layout` the bytes of a session. `asked` asks the dispatcher with the reference's types,
+//! so that a vector reads the same for both. `checked` asks both and compares. `case` says what was asked when they differ, `pace` bounds the
+//! random loops.
+
+pub mod asked;
+pub mod calls;
+pub mod case;
+pub mod checked;
+pub mod layout;
+pub mod pace;
+pub mod shapes;
+
+pub use asked::{coherent, judge, program, run, session_after, step, uri};
+pub use case::Case;
+pub use pace::Pace;
+
+// The rest of a vector's words are the reference's: tests/rulings.rs asks the dispatcher the reference's own vectors.
+pub use reference::{accepted_events, events, prefix_records, records_by_event, records_of_event};
+pub use reference::{generate, table, Action, Answer, Binding, Event, Level, Reading, Record, Session, Span, Strand, What};

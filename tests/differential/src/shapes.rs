@@ -1,0 +1,137 @@
+//! Document 01's tables, and scenes of the shapes at the limits.
+
+use reference::generate::{pack, rule, scene_of, Plan, Profile, Random};
+use reference::table::{Rule, ANY, ELEMENT_SECTION};
+use reference::Action;
+
+pub const SAMPLE: &[u8] = b"<r xmlns=\"u\">a<x/></r>";
+
+/// Document 01's T.
+pub fn t() -> Vec<u8> {
+    vec![0x01, 0x02, 0x01, 0x01, 0x00, 0x06, 0x00, 0x08, 0x01, 0x75]
+}
+
+/// Document 01's T2, its words written out: validate 0 for u; validate 1 and attach for v; unwrap for any.
+pub fn t2() -> Vec<u8> {
+    let mut table = vec![2, 2, 2, 4];
+    table.extend([0x00, 0x06, 0x00, 0x08]);
+    table.extend([0x08, 0x0A, 0x01, 0x08]);
+    table.extend([0x08, 0x08, 0x00, 0x08]);
+    table.extend([0x0B, 0xFD, 0x00, 0x08]);
+    table.extend([1, b'u', 1, b'v']);
+    table
+}
+
+pub fn table(uris: &[&str], modes: u8, schemas: u8, rules: Vec<Rule>) -> Vec<u8> {
+    pack(&Plan {
+        namespaces: uris.iter().map(|uri| uri.as_bytes().to_vec()).collect(),
+        modes,
+        schemas,
+        rules,
+    })
+}
+
+/// So many validate rules for any element.
+pub fn validating(rules: u8) -> Vec<u8> {
+    let rules = (0..rules).map(|schema| rule(0, ELEMENT_SECTION, ANY, Action::Validate, schema, 0));
+    table(&[], 1, 64, rules.collect())
+}
+
+/// v and q alternating under a u root, with so many v.
+pub fn alternating(vs: usize) -> String {
+    let inside = "<x xmlns='v'><w xmlns='q'>".repeat(vs) + &"</w></x>".repeat(vs);
+    format!("<r xmlns='u'>{inside}</r>")
+}
+
+/// So many levels with so many declarations each, all open.
+pub fn bound(levels: usize, each: usize) -> String {
+    let names = |level: usize| (0..each).map(move |n| format!(" xmlns:p{level}x{n}='n'")).collect::<String>();
+    (0..levels).map(|level| format!("<r{}>", names(level))).collect()
+}
+
+const PLAIN: Profile = Profile {
+    elements: 40,
+    depth: 8,
+    deeper: 70,
+    children: 5,
+    attributes: 3,
+    prefixed: 60,
+    declarations: 1,
+    same: 45,
+    declared_anew: 25,
+    long: 1,
+    text: 40,
+};
+
+/// The shapes, one after the other by number: deep, wide, many bindings, many strands, many attributes and sections, long names, large.
+pub fn shaped(random: &mut Random, table: &[u8], number: u64) -> Vec<u8> {
+    let profile = match number % 8 {
+        0 => Profile {
+            elements: 140,
+            depth: random.between(62, 70),
+            deeper: 100,
+            children: random.between(1, 2),
+            attributes: 1,
+            declarations: 0,
+            same: 90,
+            declared_anew: 3,
+            ..PLAIN
+        },
+        1 => Profile {
+            elements: random.between(100, 400),
+            depth: 3,
+            deeper: 95,
+            children: 200,
+            ..PLAIN
+        },
+        2 => Profile {
+            depth: random.between(4, 20),
+            deeper: 100,
+            children: 2,
+            declarations: random.between(4, 24),
+            ..PLAIN
+        },
+        3 => Profile {
+            elements: 80,
+            depth: 16,
+            deeper: 98,
+            children: 2,
+            same: 5,
+            ..PLAIN
+        },
+        4 => Profile {
+            attributes: 16,
+            prefixed: 90,
+            declarations: 2,
+            ..PLAIN
+        },
+        5 => Profile {
+            attributes: 16,
+            prefixed: 100,
+            declarations: 0,
+            declared_anew: 2,
+            elements: 60,
+            ..PLAIN
+        },
+        6 => Profile { long: 60, ..PLAIN },
+        _ => Profile {
+            elements: random.between(200, 700),
+            depth: random.between(5, 30),
+            children: 12,
+            deeper: 90,
+            ..PLAIN
+        },
+    };
+    scene_of(random, table, &profile)
+}
+
+/// A scene of a few elements.
+pub fn small(random: &mut Random, table: &[u8]) -> Vec<u8> {
+    let profile = Profile {
+        elements: random.between(1, 5),
+        depth: 3,
+        attributes: 2,
+        ..PLAIN
+    };
+    scene_of(random, table, &profile)
+}

@@ -1,0 +1,33 @@
+//! Seeded random tables, scenes and sessions that fit each other.
+
+mod damage;
+mod random;
+mod scenes;
+mod sessions;
+mod tables;
+
+pub use damage::{damaged_scene, damaged_table};
+pub use random::Random;
+pub use scenes::{scene, scene_of, Profile};
+pub use sessions::odd_session;
+pub use tables::{many_units, pack, rule, table, Plan};
+
+/// A table and a scene that fit each other. Of sixteen, about twelve are whole, three have a
+/// damaged scene and one a damaged table; a whole scene may still meet 21 to 23.
+pub fn case(random: &mut Random) -> (Vec<u8>, Vec<u8>) {
+    let table = table(random);
+    let scene = scene(random, &table);
+    match random.below(16) {
+        0 => (damaged_table(random, &table), scene),
+        1..=3 => {
+            let damaged = damaged_scene(random, &scene);
+            (table, damaged)
+        }
+        _ => (table, scene),
+    }
+}
+
+/// A case by its number, the same on every machine.
+pub fn numbered_case(number: u64) -> (Vec<u8>, Vec<u8>) {
+    case(&mut Random::new(number))
+}

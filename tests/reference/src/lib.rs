@@ -1,0 +1,48 @@
+//! A tree-building implementation of document 01, the Rig scene section dispatcher.
+//!
+//! It was written from document 01 and its rulings alone, to be matched byte for byte with
+//! the dispatcher. The way a scene goes:
+//!
+//! 1. `lexical` and `reader`: the whole scene becomes a list of events;
+//! 2. `tree`: the events become a tree, closed at the cut;
+//! 3. `sections`: the tree is divided into sections and slots, an element's attributes likewise;
+//! 4. `strands`: rules are assigned along the strands of every section;
+//! 5. `model`: slots are filled along each unit's strand, units are validated;
+//! 6. `records`: the units' records are listed by event, numbered and packed;
+//! 7. `limits`: numbers 21 to 25, found on the tree and on the list.
+//!
+//! No session and no step takes part in that. `session` derives the session after some accepted
+//! steps from the tree's open path; `step` stands apart from the model and is there only for
+//! sessions that no scene leads to.
+
+pub mod answer;
+pub mod generate;
+pub mod lexical;
+pub mod limits;
+pub mod model;
+pub mod names;
+pub mod prefixes;
+pub mod program;
+pub mod reader;
+pub mod records;
+pub mod run;
+pub mod sections;
+pub mod session;
+pub mod span;
+pub mod step;
+pub mod strands;
+pub mod table;
+pub mod tree;
+pub mod uri;
+
+pub use answer::Answer;
+pub use prefixes::{accepted_events, prefix_records, records_by_event, records_of_event};
+pub use program::program;
+pub use reader::{events, Event, Reading, What};
+pub use records::Record;
+pub use run::run;
+pub use session::{coherent, session_after, Binding, Level, Session, Strand};
+pub use span::Span;
+pub use step::step;
+pub use table::{judge, Action};
+pub use uri::uri;

@@ -1,0 +1,400 @@
+//! Self-checks over random tables, scenes and sessions.
+
+mod common;
+
+use common::*;
+use reference::generate::{
+    case, damaged_scene, damaged_table, many_units, odd_session, scene, scene_of, table, Profile,
+    Random,
+};
+use reference::{
+    accepted_events, coherent, events, judge, prefix_records, records_by_event, records_of_event,
+    run, session_after, step, Record, Session,
+};
+use std::collections::BTreeMap;
+
+const CASES: u64 = 1500;
+
+fn cases(count: u64) -> impl Iterator<Item = (Random, Vec<u8>, Vec<u8>)> {
+    (0..count).map(|seed| {
+        let mut random = Random::new(seed);
+        let (table, scene) = case(&mut random);
+        (random, table, scene)
+    })
+}
+
+#[test]
+fn tables_are_accepted() {
+    for seed in 0..4000 {
+        let table = table(&mut Random::new(seed));
+        assert_eq!(judge(&table), answer(0, table.len() as u64, 0, 0), "{seed}");
+    }
+}
+
+#[test]
+fn damaged_tables_meet_every_number() {
+    let mut met = BTreeMap::new();
+    for seed in 0..4000 {
+        let mut random = Random::new(seed);
+        let table = table(&mut random);
+        let damaged = damaged_table(&mut random, &table);
+        *met.entry(judge(&damaged).number).or_insert(0) += 1;
+    }
+    assert!(met.keys().copied().eq([0, 10, 11, 12]), "{met:?}");
+    assert!(met.values().all(|&count| count > 200), "{met:?}");
+}
+
+#[test]
+fn scenes_are_read_whole() {
+    for seed in 0..4000 {
+        let mut random = Random::new(seed);
+        let table = table(&mut random);
+        let scene = scene(&mut random, &table);
+        let reading = events(&scene);
+        let end = (reading.number, reading.place);
+        assert_eq!(end, (9, scene.len() as u64), "{seed}");
+    }
+}
+
+#[test]
+fn every_number_of_a_scene_is_met() {
+    let mut met = BTreeMap::new();
+    for seed in 0..6000 {
+        let mut random = Random::new(seed);
+        let table = table(&mut random);
+        let whole = scene(&mut random, &table);
+        let damaged = damaged_scene(&mut random, &whole);
+        let output = random.below(4000);
+        for (scene, output) in [(&whole, AMPLE), (&whole, output), (&damaged, AMPLE)] {
+            *met.entry(run(&table, scene, output).0.number).or_insert(0) += 1;
+        }
+    }
+    let wanted = [1, 2, 3, 4, 5, 6, 9, 21, 22, 23, 25];
+    assert!(met.keys().copied().eq(wanted), "{met:?}");
+    assert!(met.values().all(|&count| count > 20), "{met:?}");
+}
+
+#[test]
+fn accepted_scenes_with_many_records_are_common() {
+    let (mut accepted, mut rich, mut units, mut attributes) = (0, 0, 0, 0);
+    for (_, table, scene) in cases(CASES) {
+        let (answer, bytes) = run(&table, &scene, AMPLE);
+        if answer.number == 9 {
+            accepted += 1;
+            rich += (answer.records >= 50) as u64;
+            units += bytes.chunks(16).any(|r| Record::read(r).unit >= 4) as u64;
+            attributes += bytes.chunks(16).any(|r| Record::read(r).class == 253) as u64;
+        }
+    }
+    assert!(accepted * 2 > CASES, "{accepted}");
+    assert!(rich * 4 > CASES, "{rich}");
+    assert!(units * 5 > CASES, "{units}");
+    assert!(attributes * 8 > CASES, "{attributes}");
+}
+
+#[test]
+fn prefixes_grow() {
+    for (_, table, scene) in cases(250) {
+        let each = records_by_event(&table, &scene);
+        let mut joined = Vec::new();
+        for (k, records) in each.iter().enumerate() {
+            assert_eq!(prefix_records(&table, &scene, k), joined);
+            assert_eq!(&records_of_event(&table, &scene, k), records);
+            joined.extend(records);
+        }
+        assert_eq!(prefix_records(&table, &scene, each.len()), joined);
+        if judge(&table).number == 0 {
+            assert_eq!(each.len(), accepted_events(&table, &scene));
+        }
+        assert_eq!(run(&table, &scene, AMPLE).1, joined);
+    }
+}
+
+#[test]
+fn units_are_numbered_as_they_open_and_close_once() {
+    for (_, table, scene) in cases(CASES) {
+        let (answer, bytes) = run(&table, &scene, AMPLE);
+        let mut open: Vec<bool> = Vec::new();
+        for record in bytes.chunks(16).map(Record::read) {
+            match record.kind {
+                0 => {
+                    assert_eq!(record.unit, open.len() as u64);
+                    open.push(true);
+                }
+                6 => assert!(std::mem::take(&mut open[record.unit as usize])),
+                _ => assert!(open[record.unit as usize]),
+            }
+        }
+        if answer.number == 9 {
+            assert!(open.iter().all(|open| !open));
+        }
+    }
+}
+
+#[test]
+fn units_are_well_formed() {
+    for (_, table, scene) in cases(CASES) {
+        let (_, bytes) = run(&table, &scene, AMPLE);
+        let mut names: BTreeMap<u64, Vec<Vec<u8>>> = BTreeMap::new();
+        for record in bytes.chunks(16).map(Record::read) {
+            let open = names.entry(record.unit).or_default();
+            let name = record.span.of(&scene).to_vec();
+            match record.kind {
+                1 => open.push(name),
+                5 => assert_eq!(open.pop(), Some(name)),
+                6 => assert!(open.is_empty()),
+                _ => (),
+            }
+        }
+    }
+}
+
+#[test]
+fn steps_agree_with_the_model() {
+    for (_, table, scene) in cases(CASES) {
+        let (whole, bytes) = run(&table, &scene, AMPLE);
+        let (mut session, mut joined, mut count) = (Session::fresh(), Vec::new(), 0);
+        let last = loop {
+            let (answer, next, written) = step(&table, &scene, &session, AMPLE);
+            if answer.number != 0 {
+                assert_eq!(next, session);
+                break answer;
+            }
+            count += 1;
+            assert_eq!(answer.place, next.place);
+            assert_eq!(answer.records as usize * 16, written.len());
+            joined.extend(written);
+            session = next;
+        };
+        let got = answer(last.number, last.place, count, joined.len() as u64 / 16);
+        assert_eq!((got, joined), (whole, bytes));
+    }
+}
+
+#[test]
+fn sessions_agree_with_the_open_path() {
+    for (_, table, scene) in cases(300) {
+        let mut session = Session::fresh();
+        for k in 0..accepted_events(&table, &scene) {
+            assert_eq!(session, session_after(&table, &scene, k));
+            assert!(coherent(&table, &scene, &session));
+            session = step(&table, &scene, &session, AMPLE).1;
+        }
+    }
+}
+
+#[test]
+fn outputs_of_any_length() {
+    for (mut random, table, scene) in cases(CASES) {
+        let (whole, bytes) = run(&table, &scene, AMPLE);
+        let output = random.below(bytes.len() + 20);
+        let (cut, written) = run(&table, &scene, output);
+        assert_eq!(written, bytes[..written.len()]);
+        assert_eq!(cut.records as usize * 16, written.len());
+        if output >= bytes.len() {
+            assert_eq!((cut, written), (whole, bytes));
+        } else {
+            assert_eq!(cut.number, 25);
+            let next = records_of_event(&table, &scene, cut.events as usize);
+            assert!(written.len() + next.len() > output && written.len() <= output);
+            assert_eq!(events(&scene).list[cut.events as usize].at, cut.place);
+        }
+    }
+}
+
+#[test]
+fn odd_sessions() {
+    let (mut asked, mut fine, mut went_on) = (0, 0, 0);
+    for (mut random, table, scene) in cases(CASES) {
+        let accepted = accepted_events(&table, &scene);
+        if judge(&table).number != 0 {
+            continue;
+        }
+        let session = session_after(&table, &scene, random.below(accepted + 1));
+        for _ in 0..8 {
+            let odd = odd_session(&mut random, &scene, &session);
+            let (answer, next, written) = step(&table, &scene, &odd, AMPLE);
+            let is_coherent = coherent(&table, &scene, &odd);
+            assert_eq!(answer.number == 20, !is_coherent);
+            asked += 1;
+            fine += is_coherent as u64;
+            if answer.number == 0 {
+                went_on += 1;
+                assert!(coherent(&table, &scene, &next));
+            } else {
+                assert!(next == odd && written.is_empty());
+            }
+        }
+    }
+    assert!(
+        fine * 3 > asked && fine * 10 < asked * 9,
+        "{fine} of {asked}"
+    );
+    assert!(went_on * 4 > asked, "{went_on} of {asked}");
+}
+
+#[test]
+fn many_units_meet_24() {
+    let mut random = Random::new(24);
+    for _ in 0..3 {
+        let children: Vec<usize> = (0..60).map(|_| random.below(17)).collect();
+        let (table, scene) = many_units(&children);
+        let mut units = 1;
+        let fits = children.iter().take_while(|&&count| {
+            units += if count == 0 { 1 } else { 127 * count };
+            units <= 65_536
+        });
+        let expected = 1 + 2 * fits.count() as u64;
+        let answer = run(&table, &scene, AMPLE).0;
+        if answer.number == 24 {
+            assert_eq!(answer.events, expected);
+        } else {
+            assert_eq!((answer.number, answer.events), (9, expected + 1));
+        }
+    }
+}
+
+/// What the scenes reach, below the limits and at them.
+#[derive(Default, Debug)]
+struct Reached {
+    sixteen_strands: u64,
+    depth_64: u64,
+    sixty_bindings: u64,
+    attribute_units: u64,
+    eight_attribute_sections: u64,
+    names_of_64: u64,
+    in_xml: u64,
+}
+
+impl Reached {
+    fn session(&mut self, session: &Session) {
+        let strands = session.levels.iter().any(|l| l.strands.len() == 16);
+        let long = session.levels.iter().any(|l| l.name.len >= 64);
+        self.sixteen_strands += strands as u64;
+        self.depth_64 += (session.levels.len() == 64) as u64;
+        self.sixty_bindings += (session.bindings.len() >= 60) as u64;
+        self.names_of_64 += long as u64;
+        self.in_xml += session.levels.iter().any(|l| l.class == 254) as u64;
+    }
+
+    fn event(&mut self, records: &[u8]) {
+        let opens = records.chunks(16).map(Record::read).filter(|r| r.kind == 0);
+        let attribute_units = opens.filter(|r| r.span.len == 1).count();
+        self.attribute_units += (attribute_units > 0) as u64;
+        self.eight_attribute_sections += (attribute_units >= 8) as u64;
+    }
+
+    fn least(&self) -> u64 {
+        let counts = [
+            self.sixteen_strands,
+            self.depth_64,
+            self.sixty_bindings,
+            self.attribute_units,
+            self.eight_attribute_sections,
+            self.names_of_64,
+            self.in_xml,
+        ];
+        counts.into_iter().min().unwrap()
+    }
+}
+
+#[test]
+fn scenes_reach_the_limits() {
+    let mut reached = Reached::default();
+    for (_, table, scene) in cases(CASES) {
+        let mut session = Session::fresh();
+        for records in records_by_event(&table, &scene) {
+            reached.event(&records);
+            session = step(&table, &scene, &session, AMPLE).1;
+            reached.session(&session);
+        }
+    }
+    assert!(reached.least() >= 50, "{reached:?}");
+}
+
+/// 2 and 3 are said of a byte whatever follows it; before it the scene only ends too early.
+#[test]
+fn the_refused_byte_is_the_first() {
+    for seed in 0..6000 {
+        let mut random = Random::new(seed);
+        let table = table(&mut random);
+        let whole = scene(&mut random, &table);
+        let scene = damaged_scene(&mut random, &whole);
+        let reading = events(&scene);
+        let place = reading.place as usize;
+        if matches!(reading.number, 2 | 3) {
+            let upto = events(&scene[..place + 1]);
+            assert_eq!((upto.number, upto.place), (reading.number, reading.place));
+            let before = events(&scene[..place]);
+            assert!(matches!(before.number, 1 | 9));
+            assert_eq!(before.list.len(), reading.list.len());
+        }
+        let cut = events(&scene[..random.below(place + 1)]);
+        assert!(matches!(cut.number, 1 | 9) && cut.list.len() <= reading.list.len());
+    }
+}
+
+/// Every scene of a few bytes: steps agree with the model, and reading always ends.
+#[test]
+fn all_short_scenes() {
+    let pieces: [&[u8]; 11] = [
+        b"<", b"/", b">", b"r", b":", b" ", b"=''", b"x", b"</r>", b"<r>", b"&lt;",
+    ];
+    let table = t();
+    let mut met = BTreeMap::new();
+    for number in 0..pieces.len().pow(5) {
+        let mut rest = number;
+        let mut scene = b"<r".to_vec();
+        for _ in 0..5 {
+            scene.extend(pieces[rest % pieces.len()]);
+            rest /= pieces.len();
+        }
+        let (whole, _) = run(&table, &scene, AMPLE);
+        let mut session = Session::fresh();
+        let mut count = 0;
+        let last = loop {
+            let (answer, next, _) = step(&table, &scene, &session, AMPLE);
+            if answer.number != 0 {
+                break answer;
+            }
+            session = next;
+            count += 1;
+        };
+        assert_eq!(
+            (last.number, last.place, count),
+            (whole.number, whole.place, whole.events)
+        );
+        *met.entry(whole.number).or_insert(0) += 1;
+    }
+    assert!(met.keys().copied().eq([1, 2, 4, 5, 9]), "{met:?}");
+}
+
+/// Not a check: `cargo test --release -- --ignored --nocapture time` prints times per run.
+#[test]
+#[ignore]
+fn time_per_run() {
+    let mut random = Random::new(1);
+    let (mut bytes, mut records, mut runs) = (0, 0, 0);
+    let mut spent = std::time::Duration::ZERO;
+    for _ in 0..2000 {
+        let table = table(&mut random);
+        let profile = Profile {
+            elements: 150,
+            children: 12,
+            ..Profile::some(&mut random)
+        };
+        let scene = scene_of(&mut random, &table, &profile);
+        let start = std::time::Instant::now();
+        let answer = run(&table, &scene, AMPLE).0;
+        spent += start.elapsed();
+        bytes += scene.len();
+        records += answer.records;
+        runs += 1;
+    }
+    println!(
+        "{runs} runs, {} bytes and {} records each, {:?} per run",
+        bytes / runs,
+        records / runs as u64,
+        spent / runs as u32
+    );
+}

@@ -1,0 +1,14 @@
+//! The rulings on document 01's open points, a module per part.
+
+#[path = "../common/mod.rs"]
+mod common;
+
+mod answers;
+mod calls;
+mod limits;
+mod names;
+mod odd;
+mod reader;
+mod records;
+mod session;
+mod tables;
