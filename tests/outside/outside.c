@@ -129,7 +129,7 @@ static struct bytes ours;
 static size_t ours_last_text;
 static calcivorne_number answer[4];
 
-/* White space other than 20 stands in the URI of a name: for expat it is another URI. */
+/* White space other than 20 stands in the URI of a name: expat reports another URI, and units are not compared. */
 static int odd_space;
 
 static void put_unit(struct bytes *b, unsigned long unit) {
