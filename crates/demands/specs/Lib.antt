@@ -1,4 +1,5 @@
 pub mod Calls
 pub mod Scenes
+pub mod Limits
 pub mod Runs
 pub mod CallExamples
