@@ -1,17 +1,17 @@
 -- The model of a table and a scene: the parameters of Theory.antt, by document 01's records; the records of a scene's events, and their bytes.
 -- Definitions.
 use Prim.Native.Nat.{ℕ}
-use mathlib.Core.List.{List, map}
+use mathlib.Core.List.{List, [], _∷_, map}
 use lib.ListN.{take}
 use Rattle.laws.specs.Gather.{gather}
-use Rattle.table.specs.Table.{Table, rulesOf, fallback}
+use Rattle.table.specs.Table.{Table, orElse, rulesOf, fallback}
 use Rattle.reader.specs.declared.Span.{Span}
 use Rattle.reader.specs.Events as scene
 use Rattle.model.specs.Theory.{Piece, opens, holds, Record, Theory}
 use Rattle.model.specs.Tree.{Event, start, text, end}
 use Rattle.model.specs.Model.{cutModel}
-use Rattle.model.specs.Elements.{Element, elementOf, sameSpace}
-use Rattle.model.specs.Records.{Body, OpenElement, keptOf, recordBytes, openBody, textBody, endBody, closeBody, attributeUnits, startBodies}
+use Rattle.model.specs.Elements.{Attribute, Element, elementOf, sameSpace, stays}
+use Rattle.model.specs.Records.{Body, OpenElement, keptOf, recordBytes, openBody, openAttributes, startBody, attributeBodies, virtualStart, virtualEnd, textBody, endBody, closeBody, attributeUnits, startBodies}
 
 -- what a table gives. "An element whose namespace equals its parent's belongs to its parent's section"; "An added end has the span of an end for
 -- />": the part of the start's name
@@ -19,21 +19,31 @@ abbrev pub dispatch : Table → Theory
 dispatch t =
     record {
       StartInfo = Element;
+      Attribute = Attribute;
       TextInfo = Span;
       EndInfo = Span;
       Body = Body;
       Kept = OpenElement;
       keep = keptOf;
       sameSection = λ (k : OpenElement) (e : Element). sameSpace (k .space) (e .space);
+      attributes = λ (e : Element). e .attributes;
+      stays = stays;
+      sameSpace = λ (a b : Attribute). sameSpace (a .space) (b .space);
       rulesFor = λ (mode : ℕ) (e : Element). rulesOf t mode 0 (e .space .class);
       fallback = fallback 0;
-      attributeUnits = attributeUnits t;
+      attributeRules = λ (mode : ℕ) (a : Attribute). orElse (rulesOf t mode 1 (a .space .class)) (fallback 1 mode ∷ []);
       openBody = openBody;
-      startBodies = startBodies t;
+      openAttributes = openAttributes;
+      startBody = startBody;
+      attributeBodies = attributeBodies;
+      virtualStart = virtualStart;
+      virtualEnd = virtualEnd;
       textBody = textBody;
       endBody = endBody;
       closeBody = closeBody;
       added = λ (k : OpenElement). k .part;
+      attributeUnits = attributeUnits t;
+      startBodies = startBodies t;
     }
 
 -- an event of a scene as the dispatcher takes it
