@@ -15,10 +15,9 @@ use Rattle.table.specs.Table.{Table, decode}
 use Rattle.table.specs.Judge.{Accepted, judged}
 use Rattle.table.proofs.Accepted.{header-in}
 use Rattle.reader.specs.Events as scene
-use Rattle.model.specs.Theory.{Strand}
 use Rattle.model.specs.Tree.{start}
 use Rattle.model.specs.Elements.{elementOf}
-use Rattle.model.specs.Stream.{enter, after}
+use Rattle.model.specs.Stream.{enter, after, Strand}
 use Rattle.model.specs.Dispatch.{dispatch}
 use Rattle.strands.specs.Packed.{strandIn, packed}
 use Rattle.strands.proofs.Packing.{Packable, packed-back, below-more}

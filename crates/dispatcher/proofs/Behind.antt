@@ -21,11 +21,11 @@ use Rattle.reader.specs.declared.Binding.{Binding}
 use Rattle.reader.specs.Events as scene
 use Rattle.reader.specs.Held.{SpanHeld, BindingHeld, OpenHeld}
 use Rattle.reader.proofs.Held.{StartHeld, event-inside, held-next}
-use Rattle.model.specs.Theory.{Record, Strand}
+use Rattle.model.specs.Theory.{Record}
 use Rattle.model.specs.Tree.{start}
 use Rattle.model.specs.Elements.{Space, Element, elementOf}
 use Rattle.model.specs.Records.{Body}
-use Rattle.model.specs.Stream.{enter, written, after}
+use Rattle.model.specs.Stream.{enter, written, after, Strand}
 use Rattle.model.specs.Dispatch.{dispatch, told}
 use Rattle.strands.specs.Packed.{strandIn}
 use Rattle.dispatcher.specs.Sessions.{strandCount, strandsIn, levelIn, readerOf, stateOf, withStart}

@@ -21,7 +21,7 @@ use Rattle.reader.specs.Stored.{bindingIn}
 use Rattle.reader.specs.Scope.{nameIn, countIn}
 use Rattle.reader.specs.Counted.{countOf}
 use Rattle.lexer.specs.Whole.{isWholeName}
-use Rattle.model.specs.Theory.{Strand}
+use Rattle.model.specs.Stream.{Strand}
 use Rattle.dispatcher.specs.Sessions.{classIn, uriIn, strandCount, strandsIn, sessionOf}
 use Rattle.dispatcher.specs.Coherence.{levelNumbers, openBindings, spanInside, targetFits, aims, coherent}
 use Rattle.dispatcher.specs.Checks.{headFits, bindingFits, nameFits, classFits, strandFits, levelFits}

@@ -32,8 +32,7 @@ use Rattle.reader.specs.Scope.{nameIn, countIn, opensIn, opensOf}
 use Rattle.reader.specs.Counted.{countOf, Counted}
 use Rattle.reader.specs.Held.{SpanHeld, BindingHeld, OpenHeld}
 use Rattle.reader.proofs.Opens.{CountedScope, opens-nil}
-use Rattle.model.specs.Theory.{Strand}
-use Rattle.model.specs.Stream.{Level}
+use Rattle.model.specs.Stream.{Level, Strand}
 use Rattle.model.specs.Dispatch.{dispatch}
 use Rattle.strands.proofs.Packing.{Below}
 use Rattle.dispatcher.specs.Sessions.{classIn, uriIn, strandCount, strandsIn, levelIn, levelsIn, stateOf}

@@ -18,7 +18,8 @@ use Rattle.reader.specs.Stored.{coded, spaceOf}
 use Rattle.reader.specs.Events.{Start}
 use Rattle.model.specs.Stream.{Entry, enter}
 use Rattle.model.specs.Elements as elements
-use Rattle.model.specs.Elements.{Element, elementOf, sectionsOf}
+use Rattle.model.specs.Elements.{Element, elementOf}
+use Rattle.model.specs.Groups.{sectionsOf}
 use Rattle.model.specs.Dispatch.{dispatch}
 use Rattle.strands.specs.declared.Placing.{Placing}
 use Rattle.strands.specs.Entries.{Unnumbered}

@@ -18,7 +18,8 @@ use Rattle.table.specs.Judge.{Accepted}
 use Rattle.reader.specs.Events.{Start}
 use Rattle.model.specs.Tree.{start}
 use Rattle.model.specs.Stream.{Entry, State, allot, enter, unitsOf, entered, written, after}
-use Rattle.model.specs.Elements.{Element, elementOf, sectionsOf}
+use Rattle.model.specs.Elements.{Element, elementOf}
+use Rattle.model.specs.Groups.{sectionsOf}
 use Rattle.model.specs.Dispatch.{dispatch}
 use Rattle.strands.specs.Entries.{strandWord, schemaWord, hereCount, Unnumbered, entriesIn}
 use Rattle.strands.specs.Attributes.{Sorted, allSorted}

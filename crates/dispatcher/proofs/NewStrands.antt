@@ -19,11 +19,11 @@ use Rattle.table.specs.declared.Action.{Action}
 use Rattle.table.specs.declared.Action.the-variants.{Attach, Unwrap, Validate}
 use Rattle.table.specs.declared.Rule.{Rule}
 use Rattle.table.proofs.Accepted.{header-in, rule-in}
-use Rattle.model.specs.Theory.{Strand, beforeRoot, byRule, taken}
+use Rattle.model.specs.Theory.{taken}
 use Rattle.model.specs.Tree.{start}
 use Rattle.model.specs.Elements.{Element, sameSpace}
 use Rattle.model.specs.Records.{keptOf}
-use Rattle.model.specs.Stream.{Level, State, Entry, allot, takeRules, enter, entered, after}
+use Rattle.model.specs.Stream.{Level, State, Entry, allot, takeRules, enter, entered, after, Strand, beforeRoot, byRule}
 use Rattle.model.specs.Dispatch.{dispatch}
 use Rattle.model.proofs.Lists as model
 use Rattle.model.proofs.Steps as model-steps

@@ -26,7 +26,8 @@ use Rattle.reader.specs.Stored as stored
 use Rattle.reader.specs.Events.{Start}
 use Rattle.reader.specs.Held.{SpanHeld}
 use Rattle.reader.proofs.AgreeWhole.{attributesIn}
-use Rattle.model.specs.Elements.{Element, uriSpan, spaceOf, elementOf, sectionsOf}
+use Rattle.model.specs.Elements.{Element, uriSpan, spaceOf, elementOf}
+use Rattle.model.specs.Groups.{sectionsOf}
 use Rattle.strands.specs.Attributes.{Given, namespaceOf, givenOf, delivered, givensOf, laidGivens, givenIn, codeNamespaces, numbersFrom, sectionsAfter, allSorted}
 use Rattle.strands.proofs.Giving.{GivenSmall, givens-back}
 use Rattle.strands.proofs.Numbering as numbering

@@ -11,8 +11,7 @@ use Rattle.table.specs.declared.Action.{Action}
 use Rattle.table.specs.declared.Action.the-variants.{Attach, Unwrap, Validate}
 use Rattle.reader.specs.Held.{Held, SpanHeld}
 use Rattle.reader.proofs.Opens.{CountedScope}
-use Rattle.model.specs.Theory.{Strand}
-use Rattle.model.specs.Stream.{Level}
+use Rattle.model.specs.Stream.{Level, Strand}
 use Rattle.model.specs.Dispatch.{dispatch}
 use Rattle.strands.proofs.Packing.{Below}
 use Rattle.dispatcher.specs.Sessions.{readerOf, stateOf}

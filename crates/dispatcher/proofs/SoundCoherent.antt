@@ -38,8 +38,7 @@ use Rattle.reader.specs.Counted.{countOf}
 use Rattle.reader.specs.Held.{SpanHeld, BindingHeld, OpenHeld}
 use Rattle.reader.proofs.Opens.{opens-bindings, opens-nil}
 use Rattle.reader.proofs.Tabulated.{tabulate-append}
-use Rattle.model.specs.Theory.{Strand}
-use Rattle.model.specs.Stream.{Level}
+use Rattle.model.specs.Stream.{Level, Strand}
 use Rattle.model.specs.Dispatch.{dispatch}
 use Rattle.strands.specs.Packed.{strandIn}
 use Rattle.dispatcher.specs.Sessions.{classIn, uriIn, strandCount, strandsIn, levelIn, levelsIn}

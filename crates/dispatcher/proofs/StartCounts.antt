@@ -28,10 +28,11 @@ use Rattle.table.specs.Judge.{Accepted}
 use Rattle.table.specs.declared.Action.the-variants.{Attach}
 use Rattle.table.proofs.Accepted.{header-in}
 use Rattle.reader.specs.Events.{Start}
-use Rattle.model.specs.Theory.{AttributeUnit, Strand, attributesFrom}
+use Rattle.model.specs.Theory.{AttributeUnit}
 use Rattle.model.specs.Tree.{start}
-use Rattle.model.specs.Stream.{Entry, State, newUnits, enter, unitsOf, entered, startRecords, written, after}
-use Rattle.model.specs.Elements.{Element, elementOf, sectionsOf}
+use Rattle.model.specs.Stream.{Entry, State, newUnits, enter, unitsOf, entered, startRecords, written, after, Strand, attributesFrom}
+use Rattle.model.specs.Elements.{Element, elementOf}
+use Rattle.model.specs.Groups.{sectionsOf}
 use Rattle.model.specs.Records.{Body, startBody}
 use Rattle.model.specs.Dispatch.{dispatch}
 use Rattle.model.proofs.Lists.{gather-map}

@@ -15,9 +15,8 @@ use Rattle.reader.specs.declared.Span.{Span}
 use Rattle.reader.specs.declared.Binding.{Binding}
 use Rattle.reader.specs.Stored.{narrowed, numbersOf}
 use Rattle.reader.specs.Scope.{levelNumbers}
-use Rattle.model.specs.Theory.{Strand}
 use Rattle.model.specs.Elements.{Space}
-use Rattle.model.specs.Stream.{Entry}
+use Rattle.model.specs.Stream.{Entry, Strand}
 use Rattle.strands.specs.declared.Placing.{Placing}
 use Rattle.strands.specs.Packed.{packed}
 use Rattle.strands.specs.Entries.{entryIn, entriesIn}

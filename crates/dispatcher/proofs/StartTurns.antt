@@ -59,7 +59,8 @@ use Rattle.reader.proofs.Held.{bindings-in}
 use Rattle.reader.proofs.Opens.{opens-nil}
 use Rattle.model.specs.Tree.{start}
 use Rattle.model.specs.Stream.{Entry, allot, enter, unitsOf, entered, after}
-use Rattle.model.specs.Elements.{Element, uriSpan, elementOf, sectionsOf}
+use Rattle.model.specs.Elements.{Element, uriSpan, elementOf}
+use Rattle.model.specs.Groups.{sectionsOf}
 use Rattle.model.specs.Elements as elements
 use Rattle.model.specs.Dispatch.{dispatch}
 use Rattle.strands.specs.declared.Placing.{Placing}

@@ -18,11 +18,12 @@ use Rattle.table.specs.Judge.{Accepted}
 use Rattle.table.specs.declared.Action.{Action}
 use Rattle.table.proofs.Accepted.{header-in}
 use Rattle.reader.specs.Events.{Start}
-use Rattle.model.specs.Theory.{AttributeUnit, Record, attributesFrom}
+use Rattle.model.specs.Theory.{AttributeUnit, Record}
 use Rattle.model.specs.Tree.{start}
 use Rattle.model.specs.Elements.{Element, elementOf}
-use Rattle.model.specs.Records.{Body, startBody, attributeUnits}
-use Rattle.model.specs.Stream.{Entry, allot, enter, entered, unitsOf, startRecords, written}
+use Rattle.model.specs.Records.{Body, startBody}
+use Rattle.model.specs.Groups.{attributeUnits}
+use Rattle.model.specs.Stream.{Entry, allot, enter, entered, unitsOf, startRecords, written, attributesFrom}
 use Rattle.model.specs.Dispatch.{dispatch}
 use Rattle.strands.specs.declared.Begun.{Begun}
 use Rattle.strands.specs.Packed.{strandIn}

@@ -26,9 +26,8 @@ use Rattle.reader.specs.Events.{partOf}
 use Rattle.reader.specs.Scope.{levelNumbers, countIn, closedOf, nameIn, opensIn, opensOf}
 use Rattle.reader.proofs.Tabulated.{tabulate-same}
 use Rattle.reader.proofs.Opens.{CountedScope, close-opens, close-counted}
-use Rattle.model.specs.Theory.{Strand}
 use Rattle.model.specs.Elements.{Space}
-use Rattle.model.specs.Stream.{Level}
+use Rattle.model.specs.Stream.{Level, Strand}
 use Rattle.model.specs.Dispatch.{dispatch}
 use Rattle.strands.specs.Packed.{strandIn, packed}
 use Rattle.dispatcher.specs.Sessions.{levelUri, strandCount, strandsIn, levelIn, levelsIn, readerOf, stateOf, withPlace, withEnd, withStart}

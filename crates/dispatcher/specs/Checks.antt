@@ -11,7 +11,7 @@ use Rattle.reader.specs.declared.Binding.{Binding}
 use Rattle.reader.specs.Spans.{span, bytesOf}
 use Rattle.reader.specs.Namespaces.{refusedBinding}
 use Rattle.reader.specs.Scope.{nameIn}
-use Rattle.model.specs.Theory.{Strand}
+use Rattle.model.specs.Stream.{Strand}
 use Rattle.strands.specs.Packed.{strandIn, wordsAt}
 use Rattle.dispatcher.specs.Coherence.{spanInside, prefixFits, targetFits, aims}
 use Rattle.dispatcher.specs.declared.Head.{Head}

@@ -17,7 +17,7 @@ use Rattle.reader.specs.Spans.{bytesOf}
 use Rattle.reader.specs.Namespaces.{refusedBinding}
 use Rattle.reader.specs.Stored.{bindingIn}
 use Rattle.reader.specs.Scope.{nameIn, countIn}
-use Rattle.model.specs.Theory.{Strand}
+use Rattle.model.specs.Stream.{Strand}
 use Rattle.dispatcher.specs.Sessions.{classIn, uriIn, strandCount, strandsIn}
 use Rattle.dispatcher.specs.declared.Session.{Session}
 

@@ -17,8 +17,7 @@ use Rattle.reader.specs.Scope.{freshScope, nameIn, opensOf, withLevel, closedOf
 use Rattle.reader.specs.Events.{ReaderState, partOf}
 use Rattle.model.specs.Elements.{Space}
 use Rattle.model.specs.Records.{OpenElement}
-use Rattle.model.specs.Theory.{Strand}
-use Rattle.model.specs.Stream.{Level, State}
+use Rattle.model.specs.Stream.{Level, State, Strand}
 use Rattle.model.specs.Dispatch.{dispatch}
 use Rattle.strands.specs.Packed.{strandIn, packed}
 use Rattle.dispatcher.specs.declared.Session.{Session}

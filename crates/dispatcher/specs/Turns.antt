@@ -25,7 +25,8 @@ use Rattle.reader.specs.Scope.{nameIn}
 use Rattle.reader.specs.Held.{SpanHeld}
 use Rattle.model.specs.Tree.{start}
 use Rattle.model.specs.Stream.{Entry, enter, entered, written, after}
-use Rattle.model.specs.Elements.{Element, uriSpan, sectionsOf}
+use Rattle.model.specs.Elements.{Element, uriSpan}
+use Rattle.model.specs.Groups.{sectionsOf}
 use Rattle.model.specs.Dispatch.{dispatch}
 use Rattle.records.specs.declared.Row.{Row}
 use Rattle.model.specs.Theory.{AttributeUnit}

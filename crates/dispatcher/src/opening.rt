@@ -31,7 +31,7 @@ ghost use Rattle.reader.specs.Spans.{wholeSpan};
 ghost use Rattle.reader.specs.Stored.{narrowed, spaceOf};
 ghost use Rattle.reader.specs.Scope.{levelNumbers};
 ghost use Rattle.reader.specs.Pushed.{pushedBindings};
-ghost use Rattle.model.specs.Theory.{attributesFrom};
+ghost use Rattle.model.specs.Stream.{attributesFrom};
 ghost use Rattle.model.specs.Elements as elements;
 ghost use Rattle.records.specs.Rows.{laid, laidRows};
 ghost use Rattle.strands.specs.Entries.{entriesIn};

@@ -16,9 +16,10 @@ use Rattle.table.specs.Table.{Table, rulesOf, fallback, orElse}
 use Rattle.model.specs.Theory.{Action, Attach, Unwrap, Validate, Rule, AttributeUnit, Piece, opens, holds}
 use Rattle.model.specs.Sections.{AttributeSection, TagAttribute, putTo, formedFrom, attributeSections, sectionAmong, tagAttributes}
 use Rattle.model.specs.Model.{attached, keptBodies, startPieces, virtualPieces, attributePieces}
-use Rattle.model.specs.Elements as stream
-use Rattle.model.specs.Elements.{Attribute, Element, sameSpace, stays, placed, sectionsFrom, sectionsOf}
-use Rattle.model.specs.Records.{Body, openAttributes, virtualStart, virtualEnd, closeBody, startBody, attributeBodies, unitBy, attributeRules, attributeUnits, isAttach, keepsSection, kept, startBodies}
+use Rattle.model.specs.Groups as stream
+use Rattle.model.specs.Elements.{Attribute, Element, sameSpace, stays}
+use Rattle.model.specs.Groups.{placed, sectionsFrom, sectionsOf, unitBy, attributeRules, attributeUnits, isAttach, keepsSection, kept, startBodies}
+use Rattle.model.specs.Records.{Body, openAttributes, virtualStart, virtualEnd, closeBody, startBody, attributeBodies}
 use Rattle.model.specs.Dispatch.{dispatch}
 use Rattle.model.proofs.Lists.{gather-same, map-gather, gather-map}
 use Rattle.model.proofs.Events.{unitPieces}

@@ -8,9 +8,9 @@ use native.Mathlib.Omega.{arith}
 use lib.ListN.{length, length-append, length-map}
 use Rattle.laws.specs.Gather.{gather, total}
 use Rattle.laws.proofs.Gather.{total-append}
-use Rattle.model.specs.Theory.{AttributeUnit, Piece, opens, holds, Record, Theory, Strand, receiver, give, attributesFrom, opening, closing}
+use Rattle.model.specs.Theory.{AttributeUnit, Piece, opens, holds, Record, Theory}
 use Rattle.model.specs.Tree.{Event, start, text, end}
-use Rattle.model.specs.Stream.{Level, State, Entry, enter, unitsOf, entered, newUnits, startRecords, textRecords, endRecords, written, after}
+use Rattle.model.specs.Stream.{Level, State, Entry, enter, unitsOf, entered, newUnits, startRecords, textRecords, endRecords, written, after, Strand, receiver, give, attributesFrom, opening, closing}
 use Rattle.model.proofs.Steps.{units-after}
 
 -- n records, if the strand delivers.

@@ -10,9 +10,9 @@ use lib.ListN.{length}
 use Rattle.laws.specs.Gather.{gather, total}
 use Rattle.laws.proofs.Gather.{total-append}
 use Rattle.table.specs.Table.{orElse}
-use Rattle.model.specs.Theory.{Action, Attach, Unwrap, Validate, Rule, Theory, Strand, beforeRoot, stay, byRule, taken}
+use Rattle.model.specs.Theory.{Action, Attach, Unwrap, Validate, Rule, Theory, taken}
 use Rattle.model.specs.Tree.{Event, start, text, end, stillOpen}
-use Rattle.model.specs.Stream.{Level, State, Entry, allot, newUnits, takeRules, enter, unitsOf, textRecords, endRecords, written, after, fresh, reached, streamFrom, streamOf}
+use Rattle.model.specs.Stream.{Level, State, Entry, allot, newUnits, takeRules, enter, unitsOf, textRecords, endRecords, written, after, fresh, reached, streamFrom, streamOf, Strand, beforeRoot, stay, byRule}
 use Rattle.model.proofs.Lists.{All, all-append, all-weaken}
 use Rattle.model.proofs.Cut.{Follows, IsPrefix}
 

@@ -11,7 +11,8 @@ use Rattle.model.specs.Theory.{Piece, opens, holds, Record, Theory}
 use Rattle.model.specs.Tree.{Event, start, text, end}
 use Rattle.model.specs.Model.{cutModel}
 use Rattle.model.specs.Elements.{Attribute, Element, elementOf, sameSpace, stays}
-use Rattle.model.specs.Records.{Body, OpenElement, keptOf, recordBytes, openBody, openAttributes, startBody, attributeBodies, virtualStart, virtualEnd, textBody, endBody, closeBody, attributeUnits, startBodies}
+use Rattle.model.specs.Records.{Body, OpenElement, keptOf, recordBytes, openBody, openAttributes, startBody, attributeBodies, virtualStart, virtualEnd, textBody, endBody, closeBody}
+use Rattle.model.specs.Groups.{attributeUnits, startBodies}
 
 -- what a table gives. "An element whose namespace equals its parent's belongs to its parent's section"; "An added end has the span of an end for
 -- />": the part of the start's name

@@ -1,9 +1,9 @@
--- What a start tells the dispatcher, with its namespaces as records have them; attribute sections. Definitions.
+-- What a start tells the dispatcher, with its namespaces as records have them. Definitions.
 use Prim.Native.Nat.{ℕ}
-use mathlib.Core.List.{List, [], _∷_, _++_, map}
+use mathlib.Core.List.{List, map}
 use mathlib.Core.Bool.{Bool, true, false, cond, _||_, not}
 use lib.Dec.{eqb}
-use Rattle.laws.specs.Lists.{sameList, keep}
+use Rattle.laws.specs.Lists.{sameList}
 use Rattle.table.specs.Table.{Table, classOf}
 use Rattle.reader.specs.declared.Span.{Span}
 use Rattle.reader.specs.Spans.{span}
@@ -63,22 +63,3 @@ sameSpace a b = sameList (a .bytes) (b .bytes)
 -- "Attributes without prefix, or in the element's namespace, stay with it"
 abbrev pub stays : Element → Attribute → Bool
 stays e a = not (a .prefixed) || sameSpace (e .space) (a .space)
-
--- An attribute section: its namespace and its attributes, in tag order
-pub record AttributeSection : Type 0 where
-  pub space : Space
-  pub members : List Attribute
-
--- an attribute put to the section of its namespace, or behind the last as a section of its own
-unfoldable pub placed : List AttributeSection → Attribute → List AttributeSection
-placed [] a = record { space = a .space; members = a ∷ [] } ∷ []
-placed (c ∷ cs) a =
-    cond (sameSpace (c .space) (a .space)) (record { space = c .space; members = c .members ++ (a ∷ []) } ∷ cs) (c ∷ placed cs a)
-
-unfoldable pub sectionsFrom : List AttributeSection → List Attribute → List AttributeSection
-sectionsFrom cs [] = cs
-sectionsFrom cs (a ∷ as′) = sectionsFrom (placed cs a) as′
-
--- "The others form one section per namespace, ordered by first attribute"
-unfoldable pub sectionsOf : Element → List AttributeSection
-sectionsOf e = sectionsFrom [] (keep (λ (a : Attribute). not (stays e a)) (e .attributes))

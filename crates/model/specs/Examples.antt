@@ -18,8 +18,9 @@ use Rattle.reader.specs.Events.{bindingsOf, colonEnd, partOf, next, eventsFrom,
 use Rattle.model.specs.Theory.{Record}
 use Rattle.model.specs.Model.{model, cells, cutModel}
 use Rattle.model.specs.Stream.{written, after, streamFrom, streamOf}
-use Rattle.model.specs.Elements.{spaceOf, attributeOf, elementOf, placed, sectionsFrom, sectionsOf}
-use Rattle.model.specs.Records.{Body, attributeUnits, kept, startBodies}
+use Rattle.model.specs.Elements.{spaceOf, attributeOf, elementOf}
+use Rattle.model.specs.Groups.{placed, sectionsFrom, sectionsOf, attributeUnits, kept, startBodies}
+use Rattle.model.specs.Records.{Body}
 use Rattle.model.specs.Dispatch.{dispatch, told, pieceBody}
 
 -- A record's seven fields

@@ -1,17 +1,9 @@
 -- 'Records': the seven fields of a record, its 16 bytes, and what each kind of record holds. Definitions.
 use Prim.Native.Nat.{ℕ, _/_, _%_, _^_}
 use mathlib.Core.List.{List, [], _∷_, _++_}
-use mathlib.Core.Bool.{Bool, true, false, cond, _&&_, _||_}
-use Rattle.laws.specs.Lists.{keep, any}
-use Rattle.laws.specs.Gather.{gather}
-use Rattle.table.specs.Table.{Table, orElse, rulesOf, fallback}
-use Rattle.table.specs.declared.Action.{Action}
-use Rattle.table.specs.declared.Action.the-variants.{Attach, Unwrap, Validate}
-use Rattle.table.specs.declared.Rule.{Rule}
 use Rattle.reader.specs.declared.Span.{Span}
 use Rattle.reader.specs.Spans.{span}
-use Rattle.model.specs.Theory.{AttributeUnit}
-use Rattle.model.specs.Elements.{Space, Attribute, Element, AttributeSection, sameSpace, stays, sectionsOf}
+use Rattle.model.specs.Elements.{Space, Attribute, Element}
 
 -- A record without its unit: "kind 8, class 8, offset 24, length 24, URI offset 24, URI length 24"
 pub record Body : Type 0 where
@@ -82,41 +74,3 @@ keptOf e = record { part = e .part; space = e .space }
 -- "5 end (that part of the end tag's name, or of the start's for />; class and URI span of the start)"
 abbrev pub endBody : OpenElement → Span → Body
 endBody k part = spaced 5 part (k .space .class) (k .space .uri)
-
--- "with that strand's mode and kind 1, naming rules before any": the rules that a strand in a mode takes at an attribute section
-abbrev pub attributeRules : Table → ℕ → AttributeSection → List Rule
-attributeRules t mode c = orElse (rulesOf t mode 1 (c .space .class)) (fallback 1 mode ∷ [])
-
--- "each validate rule opens a unit holding a virtual element with these attributes"
-abbrev pub unitBy : Element → AttributeSection → Action → ℕ → List (AttributeUnit Body)
-unitBy e c Attach schema = []
-unitBy e c Unwrap schema = []
-unitBy e c Validate schema =
-    record {
-      opening = openAttributes schema e;
-      held = virtualStart ∷ gather attributeBodies (c .members) ++ (virtualEnd ∷ []);
-      closing = closeBody;
-    }
-    ∷ []
-
--- the attribute units of an element along a strand of this mode, "by section, rule"
-unfoldable pub attributeUnits : Table → ℕ → Element → List (AttributeUnit Body)
-attributeUnits t mode e =
-    gather (λ (c : AttributeSection). gather (λ (r : Rule). unitBy e c (r .action) (r .schema)) (attributeRules t mode c)) (sectionsOf e)
-
--- "attach keeps them with the element; otherwise they are not kept"
-abbrev pub isAttach : Action → Bool
-isAttach Attach = true
-isAttach Unwrap = false
-isAttach Validate = false
-
-abbrev pub keepsSection : Table → ℕ → AttributeSection → Bool
-keepsSection t mode c = any (λ (r : Rule). isAttach (r .action)) (attributeRules t mode c)
-
--- an attribute is kept along a strand of this mode: it stays with the element, or its section is attached
-unfoldable pub kept : Table → ℕ → Element → Attribute → Bool
-kept t mode e a = stays e a || any (λ (c : AttributeSection). sameSpace (c .space) (a .space) && keepsSection t mode c) (sectionsOf e)
-
--- "start, then 2 and 3 per kept attribute in tag order"
-unfoldable pub startBodies : Table → ℕ → Element → List Body
-startBodies t mode e = startBody e ∷ gather attributeBodies (keep (kept t mode e) (e .attributes))

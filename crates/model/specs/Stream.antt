@@ -1,12 +1,60 @@
 -- 'Records' and 'Calls': the same records event by event, from the strands of the open elements and a count of units. Definitions.
-use mathlib.Core.Bool.{true, false, cond}
+use mathlib.Core.Bool.{Bool, true, false, cond}
 use mathlib.Core.List.{List, [], _∷_, _++_, map, tail, foldl}
-use mathlib.Core.Option.{none, some}
+use mathlib.Core.Option.{Option, none, some}
 use Prim.Native.Nat.{ℕ, suc, _+_}
 use lib.ListN.{length}
 use Rattle.laws.specs.Gather.{gather, total}
-use Rattle.model.specs.Theory.{AttributeUnit, holds, Record, Theory, Strand, beforeRoot, stay, byRule, receiver, give, attributesFrom, taken, opening, closing}
+use Rattle.model.specs.Theory.{Action, Attach, Unwrap, Validate, AttributeUnit, Piece, opens, holds, Record, Theory, taken}
 use Rattle.model.specs.Tree.{Event, start, text, end}
+
+-- "A strand is one reading of the path from the root: a mode, an action and a target unit or none"; and "whether the unit opened at this element".
+pub record Strand (U : Type 0) : Type 0 where
+  pub mode : ℕ
+  pub action : Action
+  pub target : Option U
+  pub here : Bool
+
+module _ {U : Type 0} where
+  -- "Before the root there is one strand: mode 0, unwrap, no target."
+  abbrev pub beforeRoot : Strand U
+  beforeRoot = record { mode = 0; action = Unwrap; target = none; here = false }
+
+  -- "Inside a section strands stay."
+  abbrev pub stay : Strand U → Strand U
+  stay s = record { mode = s .mode; action = s .action; target = s .target; here = false }
+
+  -- The strand that a rule makes, of its action and next mode. "Validate: a new unit is its target. Attach and unwrap: the target stays."
+  abbrev pub byRule : Action → ℕ → Option U → Option U → Strand U
+  byRule Attach next new t = record { mode = next; action = Attach; target = t; here = false }
+  byRule Unwrap next new t = record { mode = next; action = Unwrap; target = t; here = false }
+  byRule Validate next new t = record { mode = next; action = Validate; target = new; here = true }
+
+  -- The unit that gets a strand's elements and text. "Attach without a target delivers nothing."
+  abbrev pub receiver : Action → Option U → Option U
+  receiver Attach t = t
+  receiver Unwrap t = none
+  receiver Validate t = t
+
+module _ {B U : Type 0} where
+  -- Pieces as records of a unit, if there is one.
+  abbrev pub give : Option U → List (Piece B) → List (Record B U)
+  give none ps = []
+  give (some u) ps = map (λ p. record { unit = u; piece = p }) ps
+
+  -- Attribute units, each open to close, from the j-th on; the j-th is named ν j.
+  abbrev pub attributesFrom : (ℕ → U) → ℕ → List (AttributeUnit B) → List (Record B U)
+  attributesFrom ν j [] = []
+  attributesFrom ν j (a ∷ rest) = give (some (ν j)) (opens (a .opening) ∷ map holds (a .held ++ (a .closing ∷ []))) ++ attributesFrom ν (suc j) rest
+
+module _ (Θ : Theory) where
+  -- "an open if new".
+  abbrev pub opening : Θ .StartInfo → ℕ → Bool → List (Piece (Θ .Body))
+  opening σ schema here = cond here (opens (Θ .openBody schema σ) ∷ []) []
+
+  -- "and a close if the unit opened at this element".
+  abbrev pub closing : Bool → List (Piece (Θ .Body))
+  closing here = cond here (holds (Θ .closeBody) ∷ []) []
 
 -- An open element, and its strands.
 pub record Level (Θ : Theory) : Type 0 where

@@ -16,8 +16,8 @@ use Rattle.laws.proofs.Gather.{total-append}
 use Rattle.table.specs.declared.Action.{Action}
 use Rattle.table.specs.declared.Action.the-variants.{Attach, Unwrap, Validate}
 use Rattle.table.specs.declared.Rule.{Rule}
-use Rattle.model.specs.Theory.{AttributeUnit, Piece, opens, holds, give, attributesFrom}
-use Rattle.model.specs.Stream.{Entry}
+use Rattle.model.specs.Theory.{AttributeUnit, Piece, opens, holds}
+use Rattle.model.specs.Stream.{Entry, give, attributesFrom}
 use Rattle.model.specs.Records.{Body, virtualEnd}
 use Rattle.model.proofs.Count.{attributeCount, length-gathered}
 use Rattle.strands.specs.Packed.{strandIn, receives, isUnit}

@@ -12,8 +12,8 @@ use Rattle.laws.specs.Gather.{gather, total}
 use Rattle.laws.proofs.Gather.{gather-append, total-append}
 use Rattle.table.specs.Table.{Table}
 use Rattle.reader.specs.declared.Span.{Span}
-use Rattle.model.specs.Theory.{Record, give}
-use Rattle.model.specs.Stream.{textRecords, endRecords}
+use Rattle.model.specs.Theory.{Record}
+use Rattle.model.specs.Stream.{textRecords, endRecords, give}
 use Rattle.model.specs.Records.{Body, OpenElement, textBody, endBody, closeBody}
 use Rattle.model.specs.Dispatch.{dispatch, bytesOf}
 use Rattle.model.proofs.Lists.{gather-map}

@@ -17,8 +17,8 @@ use Rattle.table.specs.Table.{actionOf}
 use Rattle.table.specs.declared.Action.{Action}
 use Rattle.table.specs.declared.Action.the-variants.{Attach, Unwrap, Validate}
 use Rattle.reader.specs.Spans.{span}
-use Rattle.model.specs.Theory.{Piece, holds, Record, receiver, give}
-use Rattle.model.specs.Stream.{Entry}
+use Rattle.model.specs.Theory.{Piece, holds, Record}
+use Rattle.model.specs.Stream.{Entry, receiver, give}
 use Rattle.model.specs.Records.{Body, plain}
 use Rattle.records.specs.declared.Row.{Row}
 use Rattle.records.specs.Rows.{Laid, laidRow, laidIf, laidRows}

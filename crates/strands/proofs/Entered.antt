@@ -29,8 +29,8 @@ use Rattle.table.specs.declared.Action.the-variants.{Attach, Unwrap, Validate}
 use Rattle.table.specs.declared.Header.{Header}
 use Rattle.table.specs.declared.Rule.{Rule}
 use Rattle.table.proofs.Indexed.{those, chosen-rules}
-use Rattle.model.specs.Theory.{Strand, beforeRoot, stay, byRule, taken}
-use Rattle.model.specs.Stream.{Entry, allot, newUnits, takeRules}
+use Rattle.model.specs.Theory.{taken}
+use Rattle.model.specs.Stream.{Entry, allot, newUnits, takeRules, Strand, beforeRoot, stay, byRule}
 use Rattle.model.specs.Elements.{Element}
 use Rattle.model.specs.Dispatch.{dispatch}
 use Rattle.strands.specs.Packed.{strandIn, packed}

@@ -12,7 +12,8 @@ use Rattle.laws.specs.Tests.{right}
 use Rattle.laws.proofs.Flags.{differ, or-left, or-right}
 use Rattle.laws.proofs.Lists.{any-same, keep-none}
 use Rattle.compare.proofs.Equal.{same-refl, same-eq, same-sym}
-use Rattle.model.specs.Elements.{Space, Attribute, AttributeSection, Element, sameSpace, stays, placed, sectionsFrom, sectionsOf}
+use Rattle.model.specs.Elements.{Space, Attribute, Element, sameSpace, stays}
+use Rattle.model.specs.Groups.{AttributeSection, placed, sectionsFrom, sectionsOf}
 use Rattle.strands.proofs.ListLaws.{or-rest, in-more, keep-miss, keep-hit, none-passes}
 
 abbrev pub has : AttributeSection → Attribute → Bool

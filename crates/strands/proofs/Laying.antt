@@ -18,8 +18,7 @@ use Rattle.laws.specs.Reading.{le-or-lt}
 use Rattle.laws.proofs.Over.{over-none, over-set, over-over}
 use Rattle.table.specs.Table.{fallback}
 use Rattle.table.specs.declared.Rule.{Rule}
-use Rattle.model.specs.Stream.{Entry}
-use Rattle.model.specs.Theory.{Strand, stay}
+use Rattle.model.specs.Stream.{Entry, Strand, stay}
 use Rattle.strands.specs.Packed.{strandIn, packed, wordsAt}
 use Rattle.strands.specs.Rules.{rulesIn}
 use Rattle.strands.specs.Entries.{madeBy, entriesBy, entriesFrom, stayEntry, counted, strandWord, schemaWord}

@@ -24,7 +24,8 @@ use Rattle.table.proofs.Accepted.{header-in}
 use Rattle.table.proofs.Namespaces.{class-in}
 use Rattle.reader.specs.Namespaces as scene
 use Rattle.reader.specs.Events.{Start}
-use Rattle.model.specs.Elements.{Space, Attribute, AttributeSection, Element, sameSpace, stays, sectionsOf, spaceOf, attributeOf, elementOf}
+use Rattle.model.specs.Elements.{Space, Attribute, Element, sameSpace, stays, spaceOf, attributeOf, elementOf}
+use Rattle.model.specs.Groups.{AttributeSection, sectionsOf}
 use Rattle.strands.specs.Attributes.{Sorted, sectionPlace, sortedOf}
 use Rattle.strands.specs.Writing.{members, headClass}
 use Rattle.strands.proofs.ListLaws.{keep-both}

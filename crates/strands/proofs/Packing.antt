@@ -10,7 +10,7 @@ use Rattle.laws.specs.Members.{All}
 use Rattle.table.specs.Table.{actionOf}
 use Rattle.table.specs.declared.Action.{Action}
 use Rattle.table.specs.declared.Action.the-variants.{Attach, Unwrap, Validate}
-use Rattle.model.specs.Theory.{Strand}
+use Rattle.model.specs.Stream.{Strand}
 use Rattle.strands.specs.Packed.{strandIn, packed, actionNumber, targetNumber, hereNumber}
 
 -- a target below the count of units

@@ -18,7 +18,7 @@ use Rattle.table.specs.Index.{bucket, firstOf, nextRule, chosenOf}
 use Rattle.table.specs.declared.Rule.{Rule}
 use Rattle.table.specs.declared.Chosen.{Chosen}
 use Rattle.table.proofs.Indexed.{those, those-none, chosen-says, next-few, next-found, next-here, next-those}
-use Rattle.model.specs.Records.{isAttach}
+use Rattle.model.specs.Groups.{isAttach}
 use Rattle.strands.specs.Rules.{rulesIn, opened}
 
 -- the rules from the i-th on that are chosen

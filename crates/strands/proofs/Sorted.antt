@@ -35,7 +35,8 @@ use Rattle.reader.proofs.TagMeaning.{NamespaceHeld, AttributeHeld}
 use Rattle.reader.proofs.Pairs.{keptOf}
 use Rattle.reader.proofs.Numbers.{InRange, attribute-in-range}
 use Rattle.reader.proofs.AgreeWhole.{attributesIn}
-use Rattle.model.specs.Elements.{Space, Attribute, uriSpan, spaceOf, Element, elementOf, attributeOf, sameSpace, AttributeSection, placed, sectionsFrom, sectionsOf}
+use Rattle.model.specs.Elements.{Space, Attribute, uriSpan, spaceOf, Element, elementOf, attributeOf, sameSpace}
+use Rattle.model.specs.Groups.{AttributeSection, placed, sectionsFrom, sectionsOf}
 use Rattle.strands.specs.Attributes.{Given, namespaceOf, givenOf, delivered, givensOf, laidGivens, givenIn, placeAmong, sectionsWith, staysWith, numbersFrom, sectionsAfter, codeNamespaces, Sorted, sortedIn, allSorted, sectionPlace, sortedOf}
 use Rattle.strands.proofs.Giving.{GivenSmall, givens-back}
 use Rattle.strands.proofs.Numbering as numbering

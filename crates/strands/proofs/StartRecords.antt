@@ -24,10 +24,11 @@ use Rattle.table.specs.declared.Action.{Action}
 use Rattle.table.specs.declared.Action.the-variants.{Attach, Unwrap, Validate}
 use Rattle.table.specs.declared.Rule.{Rule}
 use Rattle.table.proofs.Indexed.{chosen-rules}
-use Rattle.model.specs.Theory.{AttributeUnit, holds, give}
-use Rattle.model.specs.Stream.{Entry, unitsOf, startRecords}
-use Rattle.model.specs.Elements.{Space, Attribute, AttributeSection, Element, sameSpace, stays, sectionsOf}
-use Rattle.model.specs.Records.{Body, startBody, attributeBodies, attributeRules, unitBy, attributeUnits, isAttach, keepsSection, kept, startBodies}
+use Rattle.model.specs.Theory.{AttributeUnit, holds}
+use Rattle.model.specs.Stream.{Entry, unitsOf, startRecords, give}
+use Rattle.model.specs.Elements.{Space, Attribute, Element, sameSpace, stays}
+use Rattle.model.specs.Groups.{AttributeSection, sectionsOf, attributeRules, unitBy, attributeUnits, isAttach, keepsSection, kept, startBodies}
+use Rattle.model.specs.Records.{Body, startBody, attributeBodies}
 use Rattle.model.specs.Dispatch.{dispatch}
 use Rattle.model.proofs.Lists.{gather-same, gather-map}
 use Rattle.strands.specs.Rules.{rulesIn, keepsClass}

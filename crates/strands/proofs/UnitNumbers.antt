@@ -21,8 +21,7 @@ use Rattle.laws.proofs.Gather.{total-more}
 use Rattle.laws.proofs.Over.{over-none, over-set}
 use Rattle.table.specs.declared.Action.{Action}
 use Rattle.table.specs.declared.Action.the-variants.{Attach, Unwrap, Validate}
-use Rattle.model.specs.Theory.{Strand}
-use Rattle.model.specs.Stream.{Entry, allot}
+use Rattle.model.specs.Stream.{Entry, allot, Strand}
 use Rattle.strands.specs.Packed.{strandIn, packed, actionNumber, targetNumber, hereNumber}
 use Rattle.strands.specs.Entries.{strandWord, aimedAt, hereCount, Unnumbered}
 

@@ -23,7 +23,8 @@ use Rattle.table.specs.declared.Action.the-variants.{Attach, Unwrap, Validate}
 use Rattle.table.specs.declared.Rule.{Rule}
 use Rattle.table.specs.declared.Chosen.{Chosen}
 use Rattle.reader.specs.Spans.{span}
-use Rattle.model.specs.Theory.{AttributeUnit, Piece, opens, holds, attributesFrom}
+use Rattle.model.specs.Theory.{AttributeUnit, Piece, opens, holds}
+use Rattle.model.specs.Stream.{attributesFrom}
 use Rattle.model.specs.Records.{Body, plain, closeBody, virtualStart, virtualEnd}
 use Rattle.model.proofs.Simulation.{attributes-append}
 use Rattle.records.specs.declared.Row.{Row}

@@ -14,7 +14,7 @@ use Rattle.table.specs.Table.{actionOf}
 use Rattle.table.specs.declared.Action.{Action}
 use Rattle.table.specs.declared.Action.the-variants.{Attach, Unwrap, Validate}
 use Rattle.table.specs.declared.Rule.{Rule}
-use Rattle.model.specs.Theory.{Strand, receiver, stay}
+use Rattle.model.specs.Stream.{Strand, receiver, stay}
 use Rattle.strands.specs.Packed.{strandIn, packed, actionNumber, targetNumber, hereNumber, wordsAt, receives, isUnit, targetIn}
 use Rattle.strands.specs.Entries.{madeBy, aimedAt}
 

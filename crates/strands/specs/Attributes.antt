@@ -15,7 +15,8 @@ use Rattle.reader.specs.Stored as stored
 use Rattle.reader.specs.declared.Found.{Found}
 use Rattle.reader.specs.declared.Found.the-variants as variant
 use Rattle.strands.specs.declared.Placing.{Placing}
-use Rattle.model.specs.Elements.{Space, Attribute, isPrefixed, AttributeSection, sameSpace, Element, stays, spaceOf, sectionsOf}
+use Rattle.model.specs.Elements.{Space, Attribute, isPrefixed, sameSpace, Element, stays, spaceOf}
+use Rattle.model.specs.Groups.{AttributeSection, sectionsOf}
 
 -- An attribute as the array has it: its part, its value, the class and URI span of its namespace, and the code of the declaration in force
 pub record Given : Type 0 where

@@ -11,8 +11,7 @@ use Rattle.laws.specs.Lists.{tabulate}
 use Rattle.laws.specs.Gather.{gather, total}
 use Rattle.table.specs.Table.{orElse, fallback}
 use Rattle.table.specs.declared.Rule.{Rule}
-use Rattle.model.specs.Theory.{Strand, byRule, stay}
-use Rattle.model.specs.Stream.{Entry}
+use Rattle.model.specs.Stream.{Entry, Strand, byRule, stay}
 use Rattle.strands.specs.Packed.{strandIn, packed}
 use Rattle.strands.specs.Rules.{rulesIn}
 

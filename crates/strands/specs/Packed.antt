@@ -9,7 +9,7 @@ use Rattle.laws.specs.Lists.{tabulate}
 use Rattle.table.specs.Table.{actionOf}
 use Rattle.table.specs.declared.Action.{Action}
 use Rattle.table.specs.declared.Action.the-variants.{Attach, Unwrap, Validate}
-use Rattle.model.specs.Theory.{Strand, receiver}
+use Rattle.model.specs.Stream.{Strand, receiver}
 
 -- a strand in a number: mode 5 bits, action 2, opened here 1, has a target 1, target 16, from the lowest on
 unfoldable pub strandIn : ℕ → Strand ℕ

@@ -11,7 +11,7 @@ use Rattle.table.specs.Index.{keyOf, chosenOf}
 use Rattle.table.specs.declared.Action.{Action}
 use Rattle.table.specs.declared.Action.the-variants.{Attach, Unwrap, Validate}
 use Rattle.table.specs.declared.Rule.{Rule}
-use Rattle.model.specs.Records.{isAttach}
+use Rattle.model.specs.Groups.{isAttach}
 
 unfoldable pub rulesIn : List ℕ → ℕ → ℕ → ℕ → List Rule
 rulesIn index mode kind class =

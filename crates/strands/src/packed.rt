@@ -5,7 +5,7 @@ use table::words::action_of;
 ghost use mathlib.Core.Path.{_≡_};
 ghost use mathlib.Core.Option.{none};
 ghost use Prim.Native.Nat.{ℕ, _<_};
-ghost use Rattle.model.specs.Theory.{Strand, stay};
+ghost use Rattle.model.specs.Stream.{Strand, stay};
 ghost use Rattle.strands.specs.Packed.{strandIn, packed, actionNumber, targetNumber, receives, isUnit, targetIn};
 ghost use Rattle.strands.specs.Entries.{madeBy, aimedAt};
 

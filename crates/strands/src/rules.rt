@@ -6,7 +6,7 @@ use table::words::rule_of;
 ghost use mathlib.Core.Path.{_≡_};
 ghost use Prim.Native.Nat.{_≤_};
 ghost use Rattle.strands.specs.Rules.{opened, keepsClass, unitsFor};
-ghost use Rattle.model.specs.Records.{isAttach};
+ghost use Rattle.model.specs.Groups.{isAttach};
 
 fn is_attach(a: Action) -> bool
     ensures { λ r. ⌜ r ≡ isAttach a ⌝ }
