@@ -24,7 +24,8 @@ use Rattle.strands.proofs.Packing.{Packable, packed-back, below-more}
 use Rattle.dispatcher.specs.declared.Session.{Session}
 use Rattle.dispatcher.specs.Sessions.{readerOf, stateOf}
 use Rattle.dispatcher.specs.Coherence.{coherent}
-use Rattle.dispatcher.specs.Stepping.{Plan, refused, finished, event, startPlan, opensPlan, planBy, planOf, Step, planned, longest, stepOf}
+use Rattle.reader.specs.declared.Binding.{Binding}
+use Rattle.dispatcher.specs.Stepping.{Plan, refused, finished, event, startPlan, ownDeclarations, planBy, planOf, Step, planned, longest, stepOf}
 use Rattle.dispatcher.proofs.Sound.{StrandSound}
 use Rattle.dispatcher.proofs.CoherentSound.{coherent-levels}
 use Rattle.dispatcher.proofs.NewStrands.{newStrands, new-strands}
@@ -75,24 +76,20 @@ module _ (table : List ℕ) (accepted : Accepted table ≡ true) (s : List ℕ) 
   new-pack : (e : scene.Start) → after (dispatch t) (stateOf t s z) (start (elementOf t s e)) .units ≤ 65536 → All (λ (w : ℕ). packs w ≡ true) (map packed (newStrands t (stateOf t s z) (elementOf t s e)))
   new-pack e few = each-packs (newStrands t (stateOf t s z) (elementOf t s e)) (new-packable table accepted s z ok e few)
 
-  start-pack : (e : scene.Start) (o : scene.Open) (place : ℕ) → PlanPacks (startPlan t s z e o place)
+  start-pack : (e : scene.Start) (own : List Binding) (place : ℕ) → PlanPacks (startPlan t s z e own place)
   unfolding startPlan
-  start-pack e o place =
+  start-pack e own place =
       let units = after (dispatch t) (stateOf t s z) (start (elementOf t s e)) .units in
       holds-cond PlanPacks (leb 64 (z .scope .depth)) (λ d. tt) (λ d.
-      holds-cond PlanPacks (ltb 64 (z .scope .bound + length (o .declarations))) (λ b. tt) (λ b.
+      holds-cond PlanPacks (ltb 64 (z .scope .bound + length own)) (λ b. tt) (λ b.
       holds-cond PlanPacks (ltb 16 (length (enter (dispatch t) (stateOf t s z .levels) (elementOf t s e)))) (λ c. tt) (λ c.
       holds-cond PlanPacks (ltb 65536 units) (λ u. tt) (λ u.
       each-over (λ (w : ℕ). packs w ≡ true) (z .strands) (16 * z .scope .depth) (map packed (newStrands t (stateOf t s z) (elementOf t s e))) pack (new-pack e (ltb-false 65536 units u))))))
 
-  opens-pack : (e : scene.Start) (place : ℕ) (os : List scene.Open) → PlanPacks (opensPlan t s z e place os)
-  opens-pack e place [] = tt
-  opens-pack e place (o ∷ os) = start-pack e o place
-
   next-pack : (x : scene.Next) → PlanPacks (planBy t s z x)
   next-pack (scene.refusal n p) = tt
   next-pack (scene.finished p) = tt
-  next-pack (scene.event (scene.start e) z′) = opens-pack e (z′ .place) (z′ .opened)
+  next-pack (scene.event (scene.start e) z′) = start-pack e (ownDeclarations (z′ .opened)) (z′ .place)
   next-pack (scene.event (scene.text w) z′) = pack
   next-pack (scene.event (scene.end part at) z′) = pack
 

@@ -30,7 +30,7 @@ use Rattle.strands.proofs.Packing.{packed-all-small}
 use Rattle.dispatcher.specs.declared.Session.{Session}
 use Rattle.dispatcher.specs.Sessions.{readerOf, stateOf}
 use Rattle.dispatcher.specs.Coherence.{coherent}
-use Rattle.dispatcher.specs.Stepping.{Plan, refused, finished, event, startPlan, opensPlan, planBy, planOf, Step, planned, longest, stepOf}
+use Rattle.dispatcher.specs.Stepping.{Plan, refused, finished, event, startPlan, ownDeclarations, planBy, planOf, Step, planned, longest, stepOf}
 use Rattle.dispatcher.proofs.Sound.{Sound}
 use Rattle.dispatcher.proofs.CoherentSound.{coherent-sound}
 use Rattle.dispatcher.proofs.NewStrands.{newStrands, new-length}
@@ -73,31 +73,27 @@ module _ (table : List ℕ) (accepted : Accepted table ≡ true) (s : List ℕ) 
   abbrev t : Table
   t = decode table
 
-  start-few : (e : scene.Start) (o : scene.Open) (place : ℕ) → PlanFew (startPlan t s z e o place)
+  start-few : (e : scene.Start) (declared : List Binding) (place : ℕ) → PlanFew (startPlan t s z e declared place)
   unfolding startPlan
-  start-few e o place =
+  start-few e declared place =
       let units = after (dispatch t) (stateOf t s z) (start (elementOf t s e)) .units in
       let new = newStrands t (stateOf t s z) (elementOf t s e) in
-      let own = length (o .declarations) in
+      let own = length declared in
       holds-cond PlanFew (leb 64 (z .scope .depth)) (λ d. tt) (λ d.
       holds-cond PlanFew (ltb 64 (z .scope .bound + own)) (λ b. tt) (λ b.
       holds-cond PlanFew (ltb 16 (length (enter (dispatch t) (stateOf t s z .levels) (elementOf t s e)))) (λ c. tt) (λ c.
       holds-cond PlanFew (ltb 65536 units) (λ u. tt) (λ u.
       (record {
         levels = each-over (λ (w : ℕ). w < 2 ^ 32) (z .scope .levels) (3 * z .scope .depth) _ (few .levels) (omega arith, (omega arith, (omega (arith, ltb-false 64 (z .scope .bound + own) b), tt)));
-        bindings = each-over (λ (w : ℕ). w < 2 ^ 32) (z .scope .bindings) (4 * z .scope .bound) _ (few .bindings) (each-take (λ (w : ℕ). w < 2 ^ 32) (4 * own) (gather numbersOf (o .declarations)) (own-few (o .declarations)));
+        bindings = each-over (λ (w : ℕ). w < 2 ^ 32) (z .scope .bindings) (4 * z .scope .bound) _ (few .bindings) (each-take (λ (w : ℕ). w < 2 ^ 32) (4 * own) (gather numbersOf declared) (own-few declared));
         spaces = each-over (λ (w : ℕ). w < 2 ^ 32) (z .spaces) (4 * z .scope .depth) _ (few .spaces) (omega arith, (omega arith, (omega arith, (omega (arith, new-length t (stateOf t s z) (elementOf t s e), ltb-false 16 (length (enter (dispatch t) (stateOf t s z .levels) (elementOf t s e))) c), tt))));
         strands = each-over (λ (w : ℕ). w < 2 ^ 32) (z .strands) (16 * z .scope .depth) (map packed new) (few .strands) (packed-all-small new (new-packable table accepted s z ok e (ltb-false 65536 units u)));
       })))))
 
-  opens-few : (e : scene.Start) (place : ℕ) (os : List scene.Open) → PlanFew (opensPlan t s z e place os)
-  opens-few e place [] = tt
-  opens-few e place (o ∷ os) = start-few e o place
-
   next-few : (x : scene.Next) → PlanFew (planBy t s z x)
   next-few (scene.refusal n p) = tt
   next-few (scene.finished p) = tt
-  next-few (scene.event (scene.start e) z′) = opens-few e (z′ .place) (z′ .opened)
+  next-few (scene.event (scene.start e) z′) = start-few e (ownDeclarations (z′ .opened)) (z′ .place)
   next-few (scene.event (scene.text w) z′) = record { levels = few .levels; bindings = few .bindings; spaces = few .spaces; strands = few .strands }
   next-few (scene.event (scene.end part at) z′) =
       let c = closed-few (z .scope) (few .levels) (few .bindings) in

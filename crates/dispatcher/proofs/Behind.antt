@@ -29,7 +29,7 @@ use Rattle.model.specs.Stream.{enter, written, after, Strand}
 use Rattle.model.specs.Dispatch.{dispatch, told}
 use Rattle.strands.specs.Packed.{strandIn}
 use Rattle.dispatcher.specs.Sessions.{strandCount, strandsIn, levelIn, readerOf, stateOf, withStart}
-use Rattle.dispatcher.specs.Stepping.{eventPlace, Plan, refused, finished, event, startPlan, opensPlan, planBy, planOf}
+use Rattle.dispatcher.specs.Stepping.{eventPlace, Plan, refused, finished, event, startPlan, ownDeclarations, planBy, planOf}
 use Rattle.dispatcher.specs.declared.Session.{Session}
 use Rattle.dispatcher.proofs.Sound.{Fits, Sound, StrandSound}
 use Rattle.dispatcher.proofs.SoundCoherent.{sound-level}
@@ -165,10 +165,10 @@ module _ (table : List ℕ) (accepted : Accepted table ≡ true) (s : List ℕ) 
             limits = subst (OpenLimits t s z e) (sym is-open) l;
           }
 
-    start-plan : PlanBehind t s z (opensPlan t s z e (z′ .place) (z′ .opened))
+    start-plan : PlanBehind t s z (startPlan t s z e (ownDeclarations (z′ .opened)) (z′ .place))
     unfolding startPlan
     start-plan =
-        subst (λ (os : List scene.Open). PlanBehind t s z (opensPlan t s z e (z′ .place) os)) (sym is-open)
+        subst (λ (os : List scene.Open). PlanBehind t s z (startPlan t s z e (ownDeclarations os) (z′ .place))) (sym is-open)
         (holds-cond (PlanBehind t s z) (leb 64 (z .scope .depth)) (λ d. tt) (λ d.
         holds-cond (PlanBehind t s z) (ltb 64 (z .scope .bound + length (begins .own))) (λ b. tt) (λ b.
         holds-cond (PlanBehind t s z) (ltb 16 (length (enter (dispatch t) (stateOf t s z .levels) σ))) (λ c. tt) (λ c.

@@ -26,7 +26,7 @@ use Rattle.model.specs.Records.{Body}
 use Rattle.model.specs.Stream.{Level}
 use Rattle.model.specs.Dispatch.{dispatch, told}
 use Rattle.dispatcher.specs.Sessions.{uriIn, levelUri, levelIn, levelsIn, readerOf, stateOf}
-use Rattle.dispatcher.specs.Stepping.{Plan, refused, finished, event, startPlan, opensPlan, eventPlan, planBy, planOf}
+use Rattle.dispatcher.specs.Stepping.{Plan, refused, finished, event, startPlan, eventPlan, planBy, planOf}
 use Rattle.dispatcher.specs.declared.Session.{Session}
 use Rattle.dispatcher.proofs.Sound.{LevelSound, Sound}
 use Rattle.dispatcher.proofs.SoundCoherent.{sound-level, sound-name}
@@ -105,11 +105,7 @@ module _ (t : Table) (s r : List ℕ) where
     -- ---- a plan
     event-more : (e : reading.Event) (z′ : reading.ReaderState) → EventHeld s e → eventPlan t (s ++ r) z e z′ ≡ eventPlan t s z e z′
     unfolding startPlan
-    event-more (reading.start e) z′ k = by (z′ .opened)
-      where
-        by : (os : List reading.Open) → opensPlan t (s ++ r) z e (z′ .place) os ≡ opensPlan t s z e (z′ .place) os
-        by [] = refl
-        by (o ∷ os) = rw (element-more e k, same-levels)
+    event-more (reading.start e) z′ k = rw (element-more e k, same-levels)
     event-more (reading.text w) z′ k = rw same-levels
     event-more (reading.end part at) z′ k = rw same-levels
 

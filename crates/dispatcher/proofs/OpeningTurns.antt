@@ -78,15 +78,15 @@ module _ (t : Table) (s : List ℕ) (z : Session) (e : Start) (o : Open) (place 
   far = ltb 65536 (after (dispatch t) (stateOf t s z) (start σ) .units)
 
   module _ (shallow : z .scope .depth < 64) (few : z .scope .bound + length (o .declarations) ≤ 64) (n : ℕ) (number-is : n ≡ decidedNumber t s z (elementOf t s e)) where
-    start-plan : startPlan t s z e o place
+    start-plan : startPlan t s z e (o .declarations) place
         ≡ cond many (refused 23 (e .at)) (cond far (refused 24 (e .at)) eventOf)
     unfolding startPlan
     start-plan = rw (lt-leb 64 (z .scope .depth) shallow, le-ltb 64 (z .scope .bound + length (o .declarations)) few)
 
-    plan-refused : (n ≡ 0 → ⊥) → startPlan t s z e o place ≡ refused n (e .at)
+    plan-refused : (n ≡ 0 → ⊥) → startPlan t s z e (o .declarations) place ≡ refused n (e .at)
     plan-refused h = start-plan ∙ number-plan many far n (e .at) eventOf number-is h
 
-    plan-passed : n ≡ 0 → startPlan t s z e o place ≡ eventOf
+    plan-passed : n ≡ 0 → startPlan t s z e (o .declarations) place ≡ eventOf
     plan-passed h = start-plan ∙ passed-plan many far n (e .at) eventOf number-is h
 
 -- ---- what the starts along the strands have in common
@@ -128,7 +128,7 @@ module _ (table s attrs codes : List ℕ) (header : Header) (found : Found) (ds 
   element = elementOf (decode table) s e
 
   abbrev wanted : Step
-  wanted = planned (startPlan (decode table) s z e (openOf tag ds) (tag .next)) z out
+  wanted = planned (startPlan (decode table) s z e ds (tag .next)) z out
 
   module _ (roomy : Roomy head owned) (ready : Ready table header index s z) (told : Told s bindings own attrs codes at tag found owned ds) (placing-is : placing ≡ placingOf (spaceOf (decode table) s (stored.spaceOf own bindings found))) (as-decided : DecidedAs (decode table) s z element decided words schemas attributes sections) where
     few : head .bound + length ds ≤ 64

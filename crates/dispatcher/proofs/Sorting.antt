@@ -52,7 +52,7 @@ uri-inside t s n h = holds-cond (SpanHeld s) (eqb (classOf t (uriOf s n)) 255) (
 
 module _ (table : List ℕ) (a : Accepted table ≡ true) (s own outer : List ℕ) (short : length s ≤ 16777215) where
   abbrev made : Coded → scene.Attribute
-  made c = attribute s (c .attr) (namespaceOf own outer (c .code))
+  made c = attribute (c .attr) (namespaceOf own outer (c .code))
 
   given-small : (c : Coded) → AttributeInside s (made c) → CodeSmall c → GivenSmall (givenOf (decode table) s own outer c)
   given-small c h k =

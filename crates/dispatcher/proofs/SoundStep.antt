@@ -25,6 +25,7 @@ use Rattle.model.specs.Records.{Body, keptOf}
 use Rattle.model.specs.Stream.{Level, State, enter, after}
 use Rattle.model.specs.Dispatch.{dispatch, told}
 use Rattle.dispatcher.specs.Sessions.{readerOf, stateOf}
+use Rattle.reader.specs.declared.Binding.{Binding}
 use Rattle.dispatcher.specs.Stepping.{Plan, refused, finished, event, startPlan, planBy, planOf, Step, planned, longest, stepOf}
 use Rattle.dispatcher.specs.declared.Session.{Session}
 use Rattle.strands.proofs.Packing.{Below}
@@ -99,10 +100,10 @@ limits-not false false false true at x h = omega arith
 limits-not false false false false at x h = h
 
 module _ (t : Table) (s : List ℕ) (z : Session) where
-  start-not : (e : reading.Start) (o : reading.Open) (place : ℕ) → NotTwenty (startPlan t s z e o place)
+  start-not : (e : reading.Start) (own : List Binding) (place : ℕ) → NotTwenty (startPlan t s z e own place)
   unfolding startPlan
-  start-not e o place =
-      limits-not (leb 64 (z .scope .depth)) (ltb 64 (z .scope .bound + length (o .declarations))) (ltb 16 (length (enter (dispatch t) (stateOf t s z .levels) (elementOf t s e))))
+  start-not e own place =
+      limits-not (leb 64 (z .scope .depth)) (ltb 64 (z .scope .bound + length own)) (ltb 16 (length (enter (dispatch t) (stateOf t s z .levels) (elementOf t s e))))
       (ltb 65536 (after (dispatch t) (stateOf t s z) (start (elementOf t s e)) .units)) (e .at) (event _ _ _) tt
 
   plan-not : Held s (readerOf z) → NotTwenty (planOf t s z)
@@ -112,7 +113,7 @@ module _ (t : Table) (s : List ℕ) (z : Session) where
       by : (x : reading.Next) → reading.next s (readerOf z) ≡ x → NotTwenty (planBy t s z x)
       by (reading.event (reading.start e) z′) q =
           let f = followed s (readerOf z) h (reading.start e) z′ q in
-          rw (ap (λ (y : reading.ReaderState). y .opened) (f .state)) (start-not e (record { name = e .name; declarations = f .own }) (z′ .place))
+          rw (ap (λ (y : reading.ReaderState). y .opened) (f .state)) (start-not e (f .own) (z′ .place))
       by (reading.event (reading.text w) z′) q = tt
       by (reading.event (reading.end part at) z′) q = tt
       by (reading.refusal n p) q = λ e. omega (arith, numbered s (readerOf z) h n p q .few)

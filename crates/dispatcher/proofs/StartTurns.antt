@@ -146,11 +146,11 @@ module _ (t : Table) (s : List ℕ) (head : Head) (levels bindings spaces strand
   abbrev z₁ : Session
   z₁ = sessionOf head levels bindings spaces strands
 
-  pub deep-turn : 64 ≤ head .depth → stepBy (stopTurn 21 (e .at) head) levels bindings spaces strands out ≡ planned (startPlan t s z₁ e o place) z₁ out
+  pub deep-turn : 64 ≤ head .depth → stepBy (stopTurn 21 (e .at) head) levels bindings spaces strands out ≡ planned (startPlan t s z₁ e (o .declarations) place) z₁ out
   unfolding startPlan
   deep-turn h = rw (le-leb 64 (head .depth) h)
 
-  pub bound-turn : head .depth < 64 → 64 < head .bound + length (o .declarations) → stepBy (stopTurn 22 (e .at) head) levels bindings spaces strands out ≡ planned (startPlan t s z₁ e o place) z₁ out
+  pub bound-turn : head .depth < 64 → 64 < head .bound + length (o .declarations) → stepBy (stopTurn 22 (e .at) head) levels bindings spaces strands out ≡ planned (startPlan t s z₁ e (o .declarations) place) z₁ out
   unfolding startPlan
   bound-turn h k = rw (lt-leb 64 (head .depth) h, lt-ltb 64 (head .bound + length (o .declarations)) k)
 
@@ -258,8 +258,8 @@ kept-those {A} {B} d g (x ∷ l) = by (d x) (kept-those d g l)
     by true e = e
     by false e = ap (λ (r : List B). g x ∷ r) e
 
-pub attributes-told : (s own outer : List ℕ) (l : List Coded) → attributesIn s own outer l ≡ map (λ (c : Coded). attribute s (c .attr) (namespaceOf own outer (c .code))) (keep (delivered s) l)
-attributes-told s own outer l = kept-those (λ (c : Coded). isDeclaration (kindOf s (c .attr .name))) (λ (c : Coded). attribute s (c .attr) (spaceOf own outer (foundIn (c .code)))) l
+pub attributes-told : (s own outer : List ℕ) (l : List Coded) → attributesIn s own outer l ≡ map (λ (c : Coded). attribute (c .attr) (namespaceOf own outer (c .code))) (keep (delivered s) l)
+attributes-told s own outer l = kept-those (λ (c : Coded). isDeclaration (kindOf s (c .attr .name))) (λ (c : Coded). attribute (c .attr) (spaceOf own outer (foundIn (c .code)))) l
 
 -- their codes are small
 all-drop : {A : Type 0} (P : A → Type 0) (n : ℕ) (l : List A) → All P l → All P (drop n l)
@@ -380,10 +380,10 @@ module _ (table : List ℕ) (header : Header) (index s : List ℕ) (head : Head)
         }
 
     pub tag-plan : planBy t₂ s z₂ (startRead s at (opensOf (z₂ .scope)) (tagAt s (at + 1)) (tagged.Got tag))
-        ≡ startPlan t₂ s z₂ (startOf s bindings own attrs codes at tag f) (record { name = wholeSpan (tag .name); declarations = declarationsOf s (attrsIn attrs (tag .count)) }) (tag .next)
+        ≡ startPlan t₂ s z₂ (startOf s bindings own attrs codes at tag f) (declarationsOf s (attrsIn attrs (tag .count))) (tag .next)
     tag-plan =
         ap (planBy t₂ s z₂) (read-as ∙ ap (λ (x : Meant). startMeant at (opensOf (z₂ .scope)) tag (asMeaning own bindings (attributesIn s own bindings (coded all codes)) ds x)) q)
-        ∙ ap (λ (as′ : List Attribute). startPlan t₂ s z₂ (record { at = at; name = wholeSpan (tag .name); part = partSpan (tag .name); namespace = spaceOf own bindings f; attributes = as′; empty = tag .empty }) (record { name = wholeSpan (tag .name); declarations = ds }) (tag .next))
+        ∙ ap (λ (as′ : List Attribute). startPlan t₂ s z₂ (record { at = at; name = wholeSpan (tag .name); part = partSpan (tag .name); namespace = spaceOf own bindings f; attributes = as′; empty = tag .empty }) ds (tag .next))
         (attributes-told s own bindings (coded all codes))
 
   -- 5 and 6

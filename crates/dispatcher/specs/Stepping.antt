@@ -9,7 +9,7 @@ use Rattle.laws.specs.Gather.{gather}
 use Rattle.table.specs.Table.{Table, decode}
 use Rattle.table.specs.Judge.{judged}
 use Rattle.table.specs.declared.Answer.{Answer}
-use Rattle.reader.specs.declared.Span.{Span}
+use Rattle.reader.specs.declared.Binding.{Binding}
 use Rattle.reader.specs.Events as scene
 use Rattle.model.specs.Theory.{Record}
 use Rattle.model.specs.Tree.{start, text, end}
@@ -36,25 +36,26 @@ pub data Plan : Type 0 where
   event : ℕ → List (Record Body ℕ) → Session → Plan
 
 -- "21 depth 65; 22 a 65th open binding; 23 a 17th strand; 24 a unit past 65,535 (< of the tag)", in this order
-unfoldable pub startPlan : Table → List ℕ → Session → scene.Start → scene.Open → ℕ → Plan
-startPlan t s z e o place =
+unfoldable pub startPlan : Table → List ℕ → Session → scene.Start → List Binding → ℕ → Plan
+startPlan t s z e own place =
     let σ = elementOf t s e in
     let state = stateOf t s z in
     let behind = after (dispatch t) state (start σ) in
     cond (leb 64 (z .scope .depth)) (refused 21 (e .at))
-    (cond (ltb 64 (z .scope .bound + length (o .declarations))) (refused 22 (e .at))
+    (cond (ltb 64 (z .scope .bound + length own)) (refused 22 (e .at))
     (cond (ltb 16 (length (enter (dispatch t) (state .levels) σ))) (refused 23 (e .at))
     (cond (ltb 65536 (behind .units)) (refused 24 (e .at))
     (event (e .at) (written (dispatch t) state (start σ))
-    (withStart z place (e .empty) (behind .units) (e .name) (o .declarations) (σ .space) (map (λ (e : Entry). e .strand) (entered (dispatch t) state σ)))))))
+    (withStart z place (e .empty) (behind .units) (e .name) own (σ .space) (map (λ (e : Entry). e .strand) (entered (dispatch t) state σ)))))))
+
+-- the declarations of the innermost open element
+abbrev pub ownDeclarations : List scene.Open → List Binding
+ownDeclarations [] = []
+ownDeclarations (o ∷ os) = o .declarations
 
 -- of what the reader reads next
-abbrev pub opensPlan : Table → List ℕ → Session → scene.Start → ℕ → List scene.Open → Plan
-opensPlan t s z e place [] = refused 20 0
-opensPlan t s z e place (o ∷ os) = startPlan t s z e o place
-
 abbrev pub eventPlan : Table → List ℕ → Session → scene.Event → scene.ReaderState → Plan
-eventPlan t s z (scene.start e) z′ = opensPlan t s z e (z′ .place) (z′ .opened)
+eventPlan t s z (scene.start e) z′ = startPlan t s z e (ownDeclarations (z′ .opened)) (z′ .place)
 eventPlan t s z (scene.text w) z′ =
     event (w .at) (written (dispatch t) (stateOf t s z) (text w)) (withPlace z (z′ .place))
 eventPlan t s z (scene.end part at) z′ =

@@ -40,7 +40,7 @@ use Rattle.reader.proofs.Agree.{Named, namespaceIn, ofKind, element-agr
 -- the attributes of a tag that are no declarations, each with the namespace that its number stands for
 abbrev pub attributesIn : List ℕ → List ℕ → List ℕ → List Coded → List Attribute
 attributesIn s own open′ l =
-    gather (keptOf (λ (c : Coded). isDeclaration (kindOf s (c .attr .name))) (λ (c : Coded). attribute s (c .attr) (spaceOf own open′ (foundIn (c .code))))) l
+    gather (keptOf (λ (c : Coded). isDeclaration (kindOf s (c .attr .name))) (λ (c : Coded). attribute (c .attr) (spaceOf own open′ (foundIn (c .code))))) l
 
 -- ---- number 6
 any-coded : (q : Attr → Bool) (l : List Attr) (cs : List ℕ) → any (λ (c : Coded). q (c .attr)) (coded l cs) ≡ any q l
@@ -71,7 +71,7 @@ twice-agrees s own open′ l cs =
     declares c = isDeclaration (kindOf s (c .attr .name))
 
     made : Coded → Attribute
-    made c = attribute s (c .attr) (spaceOf own open′ (foundIn (c .code)))
+    made c = attribute (c .attr) (spaceOf own open′ (foundIn (c .code)))
 
     expanded : Coded → Coded → Bool
     expanded c d = not (declares c) && (not (declares d) && sameExpanded s (made c) (made d))
@@ -96,7 +96,7 @@ declares-nothing s own owned open′ bound n = cases (kindOf s n)
     cases Declares e = refl
 
 by-kind : (s : List ℕ) (bs : List Binding) (k : Kind) (a : Attr) (rest : Option (List Attribute))
-    → resolvedBy s bs k a rest ≡ cond (isDeclaration k) rest (before s a (ofKind s bs k (a .name)) rest)
+    → resolvedBy s bs k a rest ≡ cond (isDeclaration k) rest (before a (ofKind s bs k (a .name)) rest)
 by-kind s bs Plain a rest = refl
 by-kind s bs Prefixed a rest = refl
 by-kind s bs Default a rest = refl
@@ -114,8 +114,8 @@ module _ (s own open′ : List ℕ) (ds : List Binding) (bound : ℕ) (read : bi
 
   -- an attribute's turn: d, whether it is a declaration; t, whether one behind it is unbound
   turn : (a : Attr) (f : Found) (d t : Bool) (as′ : List Attribute) → isUnbound f ≡ false → foundIn (codeOf f) ≡ f
-      → cond d (cond t none (some as′)) (before s a (namespaceIn own open′ f) (cond t none (some as′)))
-      ≡ cond t none (some (cond d [] (attribute s a (spaceOf own open′ (foundIn (codeOf f))) ∷ []) ++ as′))
+      → cond d (cond t none (some as′)) (before a (namespaceIn own open′ f) (cond t none (some as′)))
+      ≡ cond t none (some (cond d [] (attribute a (spaceOf own open′ (foundIn (codeOf f))) ∷ []) ++ as′))
   turn a f true true as′ b e = refl
   turn a f true false as′ b e = refl
   turn a f false true as′ b e = rw b
@@ -123,13 +123,13 @@ module _ (s own open′ : List ℕ) (ds : List Binding) (bound : ℕ) (read : bi
 
   -- the same, by what was found for it
   turn-of : (a : Attr) (l : List Attr) (f : Found) → InRange f → (isDeclaration (kindOf s (a .name)) ≡ true → isUnbound f ≡ false)
-      → cond (isDeclaration (kindOf s (a .name))) (seen l) (before s a (namespaceIn own open′ f) (seen l))
+      → cond (isDeclaration (kindOf s (a .name))) (seen l) (before a (namespaceIn own open′ f) (seen l))
       ≡ cond (ltb (length (codeThen f (codes l))) (suc (length l))) none (some (attributesIn s own open′ (coded (a ∷ l) (codeThen f (codes l)))))
   unfolding gather
   turn-of a l f r h = cases (isUnbound f) refl
     where
       cases : (u : Bool) → u ≡ isUnbound f
-          → cond (isDeclaration (kindOf s (a .name))) (seen l) (before s a (namespaceIn own open′ f) (seen l))
+          → cond (isDeclaration (kindOf s (a .name))) (seen l) (before a (namespaceIn own open′ f) (seen l))
           ≡ cond (ltb (length (codeThen f (codes l))) (suc (length l))) none (some (attributesIn s own open′ (coded (a ∷ l) (codeThen f (codes l)))))
       cases false e =
           turn a f (isDeclaration (kindOf s (a .name))) (ltb (length (codes l)) (length l)) (attributesIn s own open′ (coded l (codes l))) (sym e) (found-back f r (sym e))
@@ -147,8 +147,8 @@ module _ (s own open′ : List ℕ) (ds : List Binding) (bound : ℕ) (read : bi
   resolved-agrees [] h = refl
   resolved-agrees (a ∷ l) h =
       by-kind s all-of (kindOf s (a .name)) a (resolved s all-of l)
-      ∙ ap (λ (o : Option (List Attribute)). cond (isDeclaration (kindOf s (a .name))) o (before s a (ofKind s all-of (kindOf s (a .name)) (a .name)) o)) (resolved-agrees l (h .1))
-      ∙ ap (λ (o : Option _). cond (isDeclaration (kindOf s (a .name))) (seen l) (before s a o (seen l))) (attribute-agrees s own open′ ds bound read few room (a .name) (h .0))
+      ∙ ap (λ (o : Option (List Attribute)). cond (isDeclaration (kindOf s (a .name))) o (before a (ofKind s all-of (kindOf s (a .name)) (a .name)) o)) (resolved-agrees l (h .1))
+      ∙ ap (λ (o : Option _). cond (isDeclaration (kindOf s (a .name))) (seen l) (before a o (seen l))) (attribute-agrees s own open′ ds bound read few room (a .name) (h .0))
       ∙ turn-of a l (foundAttribute s own (length ds) open′ bound (a .name)) (attribute-in-range s own (length ds) open′ bound (a .name)) (declares-nothing s own (length ds) open′ bound (a .name))
 
 -- ---- the tag

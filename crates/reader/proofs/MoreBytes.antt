@@ -78,13 +78,6 @@ module _ (s t : List ℕ) where
     element-more at n h =
         rw (bytes-more (prefixSpan n) (omega arith), prefix-more (bytesOf s (prefixSpan n)), look-more bs [] in-s)
 
-    before-more : (at : ℕ) (a : Attr) → AttrBehind s at a → (n : Option Namespace) (rest : Option (List Attribute)) → before (s ++ t) a n rest ≡ before s a n rest
-    before-more at a h none rest = refl
-    before-more at a h (some n) none = refl
-    before-more at a h (some n) (some as′) =
-        let i = h .1 in
-        rw (List·getD-append s t 0 (a .value - 1) (omega arith))
-
     pub resolved-more : (at : ℕ) (attrs : List Attr) → All (AttrBehind s at) attrs → resolved (s ++ t) bs attrs ≡ resolved s bs attrs
     unfolding resolved
     resolved-more at [] h = refl
@@ -93,10 +86,10 @@ module _ (s t : List ℕ) where
         ∙ by (kindOf s (a .name))
       where
         by : (k : Kind) → resolvedBy (s ++ t) bs k a (resolved s bs as′) ≡ resolvedBy s bs k a (resolved s bs as′)
-        by Plain = before-more at a (h .0) (some nothing) (resolved s bs as′)
+        by Plain = refl
         by Prefixed =
             let i = h .0 .1 .name in
-            rw (bytes-more (prefixSpan (a .name)) (omega arith), prefix-more (bytesOf s (prefixSpan (a .name)))) (before-more at a (h .0) (ofPrefix s bs (bytesOf s (prefixSpan (a .name)))) (resolved s bs as′))
+            rw (bytes-more (prefixSpan (a .name)) (omega arith), prefix-more (bytesOf s (prefixSpan (a .name))))
         by Default = refl
         by Declares = refl
 

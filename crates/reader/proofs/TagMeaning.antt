@@ -38,7 +38,6 @@ NamespaceHeld s (declared w) = SpanHeld s w
 pub record AttributeHeld (s : List ℕ) (a : Attribute) : Type 0 where
   pub part : SpanHeld s (a .part)
   pub value : SpanHeld s (a .value)
-  pub quoted : valueEnd s (a .value .at) (a .quote) ≡ read.End (a .value .at + a .value .len)
   pub namespace : NamespaceHeld s (a .namespace)
 
 -- a tag's number is 5 or 6
@@ -88,14 +87,13 @@ module _ (s : List ℕ) where
         (λ e. holds-cond (OnSome (NamespaceHeld s)) (sameList (bytesOf s (prefixSpan n)) xmlnsPrefix) (λ q. tt) (λ q. prefix-held (bytesOf s (prefixSpan n))))
         (λ e. bound-held (some nothing) tt (lookUp s bs []) (look-held (BindingIn s) bs [] in-s))
 
-    before-held : (at : ℕ) (a : Attr) → AttrBehind s at a → (n : Option Namespace) → OnSome (NamespaceHeld s) n → (rest : Option (List Attribute)) → OnSome (All (AttributeHeld s)) rest → OnSome (All (AttributeHeld s)) (before s a n rest)
+    before-held : (at : ℕ) (a : Attr) → AttrBehind s at a → (n : Option Namespace) → OnSome (NamespaceHeld s) n → (rest : Option (List Attribute)) → OnSome (All (AttributeHeld s)) rest → OnSome (All (AttributeHeld s)) (before a n rest)
     before-held at a h none k rest r = tt
     before-held at a h (some n) k none r = tt
     before-held at a h (some n) k (some as′) r =
         let i = h .1 in
         let m = i .name in
-        let stop : a .value + (a .stop - a .value) ≡ a .stop = omega arith in
-        (record { part = omega arith; value = omega arith; quoted = rw stop (i .quoted); namespace = k }, r)
+        (record { part = omega arith; value = omega arith; namespace = k }, r)
 
     pub resolved-held : (at : ℕ) (attrs : List Attr) → All (AttrBehind s at) attrs → OnSome (All (AttributeHeld s)) (resolved s bs attrs)
     unfolding resolved

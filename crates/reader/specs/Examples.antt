@@ -269,7 +269,7 @@ space-text : events (bytes "<p:r xmlns:p='u' a='b\"'> <p:x/></p:r>")
       name = span 1 3;
       part = span 3 1;
       namespace = at 14 1;
-      attributes = record { part = span 17 1; value = span 20 2; quote = 0x27; namespace = nothing } ∷ [];
+      attributes = record { part = span 17 1; value = span 20 2; namespace = nothing } ∷ [];
       empty = false;
     })
     ∷ text (span 24 1)

@@ -1,9 +1,9 @@
 -- Declarations, the look-up of prefixes, namespaces; numbers 5 and 6. Definitions.
-use Prim.Native.Nat.{ℕ, _-_}
+use Prim.Native.Nat.{ℕ}
 use mathlib.Core.List.{List, [], _∷_, _++_}
 use mathlib.Core.Bool.{Bool, true, false, cond, not, _&&_, _||_}
 use mathlib.Core.Option.{Option, none, some}
-use lib.ListN.{length, getD}
+use lib.ListN.{length}
 use lib.Dec.{eqb}
 use Rattle.laws.specs.Lists.{sameList, any, anyPair}
 use Rattle.laws.specs.Gather.{gather}
@@ -83,23 +83,21 @@ ofElement s bs n =
 pub record Attribute : Type 0 where
   pub part : Span
   pub value : Span
-  -- the byte that stands round the value
-  pub quote : ℕ
   pub namespace : Namespace
 
-abbrev pub attribute : List ℕ → Attr → Namespace → Attribute
-attribute s a n = record { part = partSpan (a .name); value = valueSpan a; quote = getD s (a .value - 1) 0; namespace = n }
+abbrev pub attribute : Attr → Namespace → Attribute
+attribute a n = record { part = partSpan (a .name); value = valueSpan a; namespace = n }
 
 -- an attribute before those that follow; none where a prefix is unbound
-abbrev pub before : List ℕ → Attr → Option Namespace → Option (List Attribute) → Option (List Attribute)
-before s a none rest = none
-before s a (some n) none = none
-before s a (some n) (some as′) = some (attribute s a n ∷ as′)
+abbrev pub before : Attr → Option Namespace → Option (List Attribute) → Option (List Attribute)
+before a none rest = none
+before a (some n) none = none
+before a (some n) (some as′) = some (attribute a n ∷ as′)
 
 -- "The default does not apply to attributes"
 abbrev pub resolvedBy : List ℕ → List Binding → Kind → Attr → Option (List Attribute) → Option (List Attribute)
-resolvedBy s bs Plain a rest = before s a (some nothing) rest
-resolvedBy s bs Prefixed a rest = before s a (ofPrefix s bs (bytesOf s (prefixSpan (a .name)))) rest
+resolvedBy s bs Plain a rest = before a (some nothing) rest
+resolvedBy s bs Prefixed a rest = before a (ofPrefix s bs (bytesOf s (prefixSpan (a .name)))) rest
 resolvedBy s bs Default a rest = rest
 resolvedBy s bs Declares a rest = rest
 

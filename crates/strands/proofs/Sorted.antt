@@ -95,7 +95,7 @@ abbrev pub CodeSmall : Coded → Type 0
 CodeSmall c = c .code < 82
 
 abbrev made : List ℕ → List ℕ → List ℕ → Coded → scene.Attribute
-made s own open′ c = attribute s (c .attr) (namespaceOf own open′ (c .code))
+made s own open′ c = attribute (c .attr) (namespaceOf own open′ (c .code))
 
 pub kept-are : (s own open′ : List ℕ) (cs : List Coded) → attributesIn s own open′ cs ≡ map (made s own open′) (keep (delivered s) cs)
 kept-are s own open′ cs = kept-map (λ (c : Coded). isDeclaration (kindOf s (c .attr .name))) (made s own open′) cs
