@@ -4,23 +4,23 @@
 --     length-kept         the session's slice keeps its length: only the first is asked to have room
 --     no-later-host-byte  further calls never change, withdraw or precede a record already handed out
 use Prim.Native.Nat.{ℕ, _≤_}
-use mathlib.Core.Path.{_≡_, refl, sym, ap, subst, _∙_}
+use mathlib.Core.Path.{_≡_, _∙_}
 use mathlib.Core.List.{List, _++_, map-append}
-use native.Mathlib.Omega.{arith}
 use lib.ListN.{length}
 use Rattle.laws.specs.Members.{All}
 use Rattle.table.specs.Table.{decode}
 use Rattle.reader.specs.Events.{events}
 use Rattle.model.specs.Dispatch.{expected}
 use Rattle.dispatcher.specs.Sessions.{freshOf}
-use Rattle.demands.specs.Calls.{Call, BeginsWith, Growing, lastScene, stepsFrom, acceptedIn, joinedOf}
+use Rattle.demands.specs.Calls.{BeginsWith, Growing, lastScene, stepsFrom}
 use Rattle.demands.proofs.Steps.{steps, no-later-byte}
 use Rattle.capi.specs.Layout.{sessionSize}
 use Rattle.capi.specs.Calls.{tooShort}
 use Rattle.hosts.specs.Calls.{HostStep, HostCall, hostFresh, hostSteps, callsOf, acceptedBy, joinedBy}
 use Rattle.hosts.proofs.Told.{Told, fresh-number, fresh-holding, fresh-length, told}
 
-told-fresh : (table b : List ℕ) → sessionSize ≤ length b → (calls : List HostCall) → Told (length b) (hostSteps table (hostFresh b .session) calls) (stepsFrom table freshOf (callsOf calls))
+-- by the list of steps that the calls tell of
+pub told-fresh : (table b : List ℕ) → sessionSize ≤ length b → (calls : List HostCall) → Told (length b) (hostSteps table (hostFresh b .session) calls) (stepsFrom table freshOf (callsOf calls))
 told-fresh table b long calls = rw (← fresh-length b long) (told table calls (hostFresh b .session) freshOf (fresh-holding b long))
 
 pub host-steps : (table b : List ℕ) (calls : List HostCall) → sessionSize ≤ length b → Growing (callsOf calls) →

@@ -1,3 +1,4 @@
 pub mod Refused
 pub mod Told
 pub mod HostSteps
+pub mod HostExamples
