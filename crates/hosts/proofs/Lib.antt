@@ -1,3 +1,4 @@
+pub mod Contracts
 pub mod Refused
 pub mod Told
 pub mod HostSteps
