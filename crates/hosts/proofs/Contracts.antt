@@ -1,0 +1,25 @@
+-- What a caller learns from the contracts of calcivorne_fresh and calcivorne_step is that they hand back `hostFresh` and `hostStep`.
+-- Lifetimes κs, parameters a, result r, parameters at exit e: table, scene, session, out and answer, in this order; fresh has the session alone.
+use mathlib.Core.Path.{_≡_}
+use contract.Lifetimes.{Lfts}
+use denote.Ref.{now}
+use denote.Triple.Clauses.{AtExit}
+use borrow.Fn.World.{ArgsD, ResD}
+use Rattle.capi.proofs.calcivorne_fresh as freshes
+use Rattle.capi.proofs.calcivorne_fresh.Reads as fresh-reads
+use Rattle.capi.proofs.calcivorne_step as steps
+use Rattle.capi.proofs.calcivorne_step.Reads as step-reads
+use Rattle.hosts.specs.Calls.{hostFresh, hostStep}
+
+-- the number and the session's bytes that it hands back
+pub fresh-contract : (κs : Lfts 1) (a : ArgsD freshes.signature κs) (r : ResD freshes.signature κs) (e : AtExit freshes.ended κs) → fresh-reads.Learnt κs a r e →
+    record { number = r; session = now (e .0) } ≡ hostFresh (now (a .0))
+unfolding hostFresh
+fresh-contract κs a r e h = λ i. record { number = h .0 i; session = h .1 i }
+
+-- the number, the answer's numbers, the output and the session's bytes that it hands back
+pub step-contract : (κs : Lfts 5) (a : ArgsD steps.signature κs) (r : ResD steps.signature κs) (e : AtExit steps.ended κs) → step-reads.Learnt κs a r e →
+    record { number = r; answer = now (e .1 .1 .1 .1 .0); output = now (e .1 .1 .1 .0); session = now (e .1 .1 .0) }
+    ≡ hostStep (now (a .0)) (now (a .1 .0)) (now (a .1 .1 .0)) (now (a .1 .1 .1 .0)) (now (a .1 .1 .1 .1 .0))
+unfolding hostStep
+step-contract κs a r e h = λ i. record { number = h .0 i; answer = h .1 .0 i; output = h .1 .1 .0 i; session = h .1 .1 .1 i }

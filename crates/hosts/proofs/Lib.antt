@@ -1,0 +1,5 @@
+pub mod Contracts
+pub mod Refused
+pub mod Told
+pub mod HostSteps
+pub mod HostExamples

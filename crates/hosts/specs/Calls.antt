@@ -1,0 +1,74 @@
+-- 'For demand 3', for hosts: what calcivorne_fresh and calcivorne_step hand back, by their contracts; lists of such calls, and the records that they
+-- hand out. Definitions.
+use Prim.Native.Nat.{ℕ, _*_}
+use mathlib.Core.List.{List, [], _∷_, map}
+use mathlib.Core.Bool.{Bool, cond}
+use lib.ListN.{length, getD, take}
+use lib.Dec.{eqb, ltb}
+use Rattle.laws.specs.Lists.{keep}
+use Rattle.laws.specs.Gather.{gather}
+use Rattle.laws.specs.Over.{overwrite}
+use Rattle.dispatcher.specs.Sessions.{freshOf}
+use Rattle.demands.specs.Calls.{Call}
+use Rattle.capi.specs.Layout.{sessionSize, sessionBytes}
+use Rattle.capi.specs.Calls.{numbersOf, byteStep, bytesBehind, tooShort}
+
+-- What calcivorne_fresh hands back: the number that it returns, and the session's bytes
+pub record HostFresh : Type 0 where
+  pub number : ℕ
+  pub session : List ℕ
+
+-- its contract, clause by clause, of the session's bytes as they come in
+unfoldable pub hostFresh : List ℕ → HostFresh
+hostFresh session =
+    record {
+      number = cond (ltb (length session) sessionSize) tooShort 0;
+      session = cond (ltb (length session) sessionSize) session (overwrite session 0 (sessionBytes freshOf));
+    }
+
+-- What calcivorne_step hands back: the number that it returns, the answer's numbers, the output, and the session's bytes
+pub record HostStep : Type 0 where
+  pub number : ℕ
+  pub answer : List ℕ
+  pub output : List ℕ
+  pub session : List ℕ
+
+-- its contract, clause by clause, of the table, the scene, and what comes in as the session's bytes, the output and the answer's numbers
+unfoldable pub hostStep : List ℕ → List ℕ → List ℕ → List ℕ → List ℕ → HostStep
+hostStep table scene session out answer =
+    record {
+      number = cond (ltb (length session) sessionSize) tooShort (byteStep table scene session out .answer .number);
+      answer = cond (ltb (length session) sessionSize) answer (numbersOf (byteStep table scene session out .answer));
+      output = cond (ltb (length session) sessionSize) out (byteStep table scene session out .output);
+      session = cond (ltb (length session) sessionSize) session (bytesBehind session (byteStep table scene session out));
+    }
+
+-- A host's call of calcivorne_step: a call's scene and output, and what comes in as the answer's numbers
+pub record HostCall : Type 0 where
+  pub call : Call
+  pub answer : List ℕ
+
+abbrev pub callsOf : List HostCall → List Call
+callsOf cs = map (λ (c : HostCall). c .call) cs
+
+-- what the calls hand back: each steps the session's bytes that the one before left
+unfoldable pub hostSteps : List ℕ → List ℕ → List HostCall → List HostStep
+hostSteps table b [] = []
+hostSteps table b (c ∷ cs) =
+    let r = hostStep table (c .call .scene) b (c .call .output) (c .answer) in
+    r ∷ hostSteps table (r .session) cs
+
+-- "an accepted step is one that gives 0"
+abbrev pub gaveZero : HostStep → Bool
+gaveZero r = eqb (r .number) 0
+
+abbrev pub acceptedBy : List HostStep → ℕ
+acceptedBy rs = length (keep gaveZero rs)
+
+-- "Its records are the first bytes of its output, 16 for each record that it counts, as it hands them back": the answer's fourth number counts them
+abbrev pub recordsBy : HostStep → List ℕ
+recordsBy r = take (16 * getD (r .answer) 3 0) (r .output)
+
+-- "joined is in the list's order"
+unfoldable pub joinedBy : List HostStep → List ℕ
+joinedBy rs = gather recordsBy (keep gaveZero rs)

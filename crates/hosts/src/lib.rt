@@ -1,0 +1,1 @@
+// Demand 3 for the calls for hosts, as theorems about what their contracts say. No code.
