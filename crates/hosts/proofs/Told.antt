@@ -76,7 +76,7 @@ module _ (table s b out : List ℕ) (z : Session) (h : Holding b z) where
       let r = stepOf table s z out in
       holds-cond (λ (l : List ℕ). Holding l (r .session)) (eqb (r .answer .number) 0)
       (λ e. laid b (h .long) (r .session) (next-storable table s z out (h .storable)) (next-held table s z out (h .packs)))
-      (λ e. subst (Holding b) (sym (answers table s z out (h .storable) .keeps (eqb-false (r .answer .number) 0 e))) h)
+      (λ e. subst (Holding b) (sym (answers table s z out .keeps (eqb-false (r .answer .number) 0 e))) h)
 
   behind-length : length (bytesBehind b (stepOf table s z out)) ≡ length b
   behind-length =
@@ -120,4 +120,4 @@ told table (c ∷ cs) b z h =
     let behind = bytesBehind b r in
     let l : length behind ≡ length b = behind-length table s b out z h in
     let ih : Told (length b) (hostSteps table behind cs) (stepsFrom table (r .session) (callsOf cs)) = rw (← l) (told table cs behind (r .session) (behind-holding table s b out z h)) in
-    rw (host-step table s b out z h (c .answer)) (told-more (length b) r behind (hostSteps table behind cs) (stepsFrom table (r .session) (callsOf cs)) (answers table s z out (h .storable) .few) l ih)
+    rw (host-step table s b out z h (c .answer)) (told-more (length b) r behind (hostSteps table behind cs) (stepsFrom table (r .session) (callsOf cs)) (answers table s z out .few) l ih)
