@@ -15,4 +15,5 @@ pub mod Steps
 pub mod Runs
 pub mod Limits
 pub mod Accepted
+pub mod Ends
 pub mod Samples
