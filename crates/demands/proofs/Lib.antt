@@ -8,9 +8,12 @@ pub mod RefusedByte
 pub mod Bytes
 pub mod Prefixes
 pub mod Expected
+pub mod Measures
 pub mod Reached
 pub mod Outcomes
 pub mod Steps
 pub mod Runs
+pub mod Limits
 pub mod Accepted
+pub mod Ends
 pub mod Samples

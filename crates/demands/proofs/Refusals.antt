@@ -168,7 +168,7 @@ module _ (table s : List ℕ) (z : Session) (out : List ℕ) where
       (λ c. by-next (record { accepted = a; short = few; fits = not-false (coherent (decode table) s z) c }) (scene.next s (readerOf z)) refl refl)))
 
   -- ---- and a stage has one answer
-  step-planned : Ready table s z → stepOf table s z out ≡ planned (planOf (decode table) s z) z out
+  pub step-planned : Ready table s z → stepOf table s z out ≡ planned (planOf (decode table) s z) z out
   unfolding stepOf
   step-planned r = rw (eq-eqb (judged table .number) 0 (r .accepted), le-ltb longest (length s) (r .short), r .fits)
 

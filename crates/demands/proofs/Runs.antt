@@ -79,7 +79,7 @@ laid-expected t s z k rs h out =
     ap (λ (i : ℕ). gather bytesOf rs ++ drop i out) n ∙ ap (λ (l : List ℕ). l ++ drop (16 * length rs) out) (reached-expected t s z k rs h)
 
 -- the reader says how reading ends
-ends-here : (s : List ℕ) (k : ℕ) (w : ReaderState) (x : Next) → stateAfter k s freshReader ≡ some w → next s w ≡ x → eventThen (λ (z : ReaderState). history s z) x ≡ [] → lastThen (λ (z : ReaderState). ending s z) x ≡ x → (k ≡ length (events s)) × (lastOf s ≡ x)
+pub ends-here : (s : List ℕ) (k : ℕ) (w : ReaderState) (x : Next) → stateAfter k s freshReader ≡ some w → next s w ≡ x → eventThen (λ (z : ReaderState). history s z) x ≡ [] → lastThen (λ (z : ReaderState). ending s z) x ≡ x → (k ≡ length (events s)) × (lastOf s ≡ x)
 ends-here s k w x q n none same =
     let left : history s w ≡ [] = history-next s w ∙ ap (eventThen (λ (z : ReaderState). history s z)) n ∙ none in
     (omega (arith, state-count s k w q, ap length left), last-is s ∙ state-rest s w k freshReader q .ends ∙ ending-is s w x n ∙ same)

@@ -1,5 +1,6 @@
 -- Demand 3: the records of all accepted steps, joined, are the model's of the last scene's first events, as many as were accepted.
 --     steps              one claim about the whole list
+--     finished-steps     the same where the last step gives 9: of the whole scene
 --     no-later-byte      a longer last scene or further steps never change, withdraw or precede a record already handed out
 use Prim.Native.Nat.{ℕ, suc, _+_, _≤_}
 use mathlib.Core.Path.{_≡_, refl, sym, ap, subst, _∙_}
@@ -14,33 +15,42 @@ use Rattle.laws.specs.Members.{All}
 use Rattle.laws.proofs.Gather.{gather-append}
 use Rattle.laws.proofs.Lists.{keep-append}
 use Rattle.table.specs.Table.{decode}
-use Rattle.reader.specs.Events.{events}
+use Rattle.reader.specs.Events.{finished, next, events}
+use Rattle.reader.proofs.Held.{finished-at}
 use Rattle.model.specs.Theory.{Record}
 use Rattle.model.specs.Records.{Body}
 use Rattle.model.specs.Dispatch.{bytesOf, expected}
-use Rattle.dispatcher.specs.Sessions.{freshOf}
+use Rattle.dispatcher.specs.Sessions.{readerOf, freshOf}
 use Rattle.dispatcher.specs.Stepping.{Step, stepOf}
 use Rattle.dispatcher.specs.declared.Session.{Session}
-use Rattle.demands.specs.Calls.{Call, BeginsWith, GrowingFrom, Growing, lastFrom, lastScene, stepsFrom, isAccepted, acceptedIn, recordsOf, joinedOf}
+use Rattle.demands.specs.Calls.{Call, BeginsWith, GrowingFrom, Growing, lastFrom, lastScene, stepsFrom, isAccepted, acceptedIn, recordsOf, joinedOf, numberFrom, lastNumber}
+use Rattle.demands.specs.Scenes.{wholeModel}
 use Rattle.demands.proofs.Bytes.{first-bytes}
+use Rattle.demands.proofs.Expected.{expected-whole}
 use Rattle.demands.proofs.Reached.{Reached, reached-fresh, few-events, reached-more, reached-step, reached-expected}
 use Rattle.demands.proofs.Outcomes.{Outcome, refuses, accepts, outcome}
+use Rattle.demands.proofs.Runs.{ends-here}
 
 abbrev NotTwenty : Step → Type 0
 NotTwenty r = r .answer .number ≡ 20 → ⊥
 
--- behind some steps: where the session is in the last scene, with the records that they handed out
-record Stepped (table s : List ℕ) (k : ℕ) (out : List (Record Body ℕ)) (rs : List Step) : Type 0 where
+-- the reader has nothing more to read
+abbrev Finishes : List ℕ → Session → Type 0
+Finishes s z = (p : ℕ) × (next s (readerOf z) ≡ finished p)
+
+-- behind some steps from a session on: where the session is in the last scene, with the records that they handed out; and where the last number is 9
+record Stepped (table before : List ℕ) (z : Session) (s : List ℕ) (k : ℕ) (out : List (Record Body ℕ)) (rs : List Step) : Type 0 where
   numbers : All NotTwenty rs
   session : Session
   records : List (Record Body ℕ)
   reached : Reached (decode table) s session (k + acceptedIn rs) (out ++ records)
   joined : joinedOf rs ≡ gather bytesOf records
+  finishes : (n : ℕ) → (n ≡ 9 → Finishes before z) → numberFrom n rs ≡ 9 → Finishes s session
 
-stepped : (table : List ℕ) (calls : List Call) (s : List ℕ) (z : Session) (k : ℕ) (out : List (Record Body ℕ)) → Reached (decode table) s z k out → GrowingFrom s calls → Stepped table (lastFrom s calls) k out (stepsFrom table z calls)
+stepped : (table : List ℕ) (calls : List Call) (s : List ℕ) (z : Session) (k : ℕ) (out : List (Record Body ℕ)) → Reached (decode table) s z k out → GrowingFrom s calls → Stepped table s z (lastFrom s calls) k out (stepsFrom table z calls)
 unfolding stepsFrom joinedOf keep gather
 stepped table [] s z k out h g =
-    record { numbers = tt; session = z; records = []; reached = rw (add-zero k, append-nil) h; joined = refl }
+    record { numbers = tt; session = z; records = []; reached = rw (add-zero k, append-nil) h; joined = refl; finishes = λ n f q. f q }
 stepped table (c ∷ cs) s z k out h g =
     by (stepOf table (c .scene) z (c .output)) (outcome table (c .scene) z (c .output) (there .sound)) (λ w j more r. stepped table cs (c .scene) w j more r (g .1))
   where
@@ -48,8 +58,8 @@ stepped table (c ∷ cs) s z k out h g =
     there = subst (λ (x : List ℕ). Reached (decode table) x z k out) (sym (g .0 .1)) (reached-more (decode table) s z k out h (g .0 .0))
 
     by : (r : Step) → Outcome table (c .scene) z (c .output) r
-        → ((w : Session) (j : ℕ) (more : List (Record Body ℕ)) → Reached (decode table) (c .scene) w j more → Stepped table (lastFrom (c .scene) cs) j more (stepsFrom table w cs))
-        → Stepped table (lastFrom (c .scene) cs) k out (r ∷ stepsFrom table (r .session) cs)
+        → ((w : Session) (j : ℕ) (more : List (Record Body ℕ)) → Reached (decode table) (c .scene) w j more → Stepped table (c .scene) w (lastFrom (c .scene) cs) j more (stepsFrom table w cs))
+        → Stepped table s z (lastFrom (c .scene) cs) k out (r ∷ stepsFrom table (r .session) cs)
     by r (refuses n p said) ih =
         let i = ih z k out there in
         record {
@@ -58,6 +68,7 @@ stepped table (c ∷ cs) s z k out h g =
           records = i .records;
           reached = rw (ne-eqb n 0 (said .not-event)) (i .reached);
           joined = rw (ne-eqb n 0 (said .not-event)) (i .joined);
+          finishes = λ m f q. i .finishes n (λ e. (p, said .ends e)) q;
         }
     by r (accepts ok short p rs w q fits) ih =
         let i = ih w (k + 1) (out ++ rs) (reached-step table ok (c .scene) short z k out there p rs w q) in
@@ -68,7 +79,22 @@ stepped table (c ∷ cs) s z k out h g =
           records = rs ++ i .records;
           reached = rw (count, ← append-assoc) (i .reached);
           joined = rw (first-bytes (c .output) rs, i .joined) (sym (gather-append bytesOf rs (i .records)));
+          finishes = λ m f q. i .finishes 0 (λ e. absurd (omega arith)) q;
         }
+
+growing-from : (calls : List Call) → Growing calls → GrowingFrom [] calls
+growing-from [] g = tt
+growing-from (c ∷ cs) g = ((c .scene, refl), g)
+
+module _ (table : List ℕ) (calls : List Call) (g : Growing calls) where
+  abbrev rs : List Step
+  rs = stepsFrom table freshOf calls
+
+  all : Stepped table [] freshOf (lastScene calls) 0 [] rs
+  all = stepped table calls [] freshOf 0 [] (reached-fresh (decode table) []) (growing-from calls g)
+
+  there : Reached (decode table) (lastScene calls) (all .session) (acceptedIn rs) (all .records)
+  there = subst (λ (k : ℕ). Reached (decode table) (lastScene calls) (all .session) k (all .records)) (omega arith) (all .reached)
 
 pub steps : (table : List ℕ) (calls : List Call) → Growing calls →
     let rs = stepsFrom table freshOf calls in
@@ -76,14 +102,25 @@ pub steps : (table : List ℕ) (calls : List Call) → Growing calls →
     let k = acceptedIn rs in
     All (λ (r : Step). r .answer .number ≡ 20 → ⊥) rs × (k ≤ length (events last)) × (joinedOf rs ≡ expected (decode table) last k)
 steps table calls g =
-    let last = lastScene calls in
-    let r = stepped table calls [] freshOf 0 [] (reached-fresh (decode table) []) (growing calls g) in
-    let h : Reached (decode table) last (r .session) (acceptedIn (stepsFrom table freshOf calls)) (r .records) = subst (λ (k : ℕ). Reached (decode table) last (r .session) k (r .records)) (omega arith) (r .reached) in
+    let r = all table calls g in
+    let h = there table calls g in
     (r .numbers, few-events _ _ _ _ _ h, r .joined ∙ reached-expected _ _ _ _ _ h)
-  where
-    growing : (calls : List Call) → Growing calls → GrowingFrom [] calls
-    growing [] g = tt
-    growing (c ∷ cs) g = ((c .scene, refl), g)
+
+-- demand 2 for lists of steps. "9 finished: root closed, only space follows": where the last step gives 9, all events were accepted, and the records
+-- are the model's of the whole scene
+pub finished-steps : (table : List ℕ) (calls : List Call) → Growing calls →
+    let rs = stepsFrom table freshOf calls in
+    let last = lastScene calls in
+    lastNumber rs ≡ 9 → (acceptedIn rs ≡ length (events last)) × (joinedOf rs ≡ wholeModel (decode table) last)
+finished-steps table calls g nine =
+    let t = decode table in
+    let last = lastScene calls in
+    let r = all table calls g in
+    let h = there table calls g in
+    let f = r .finishes 0 (λ e. absurd (omega arith)) nine in
+    let x = ends-here last (acceptedIn (stepsFrom table freshOf calls)) (readerOf (r .session)) (finished (f .0)) (h .reader) (f .1) refl refl in
+    let at-end : f .0 ≡ length last = finished-at last (readerOf (r .session)) (h .sound .held) (f .0) (f .1) in
+    (x .0, r .joined ∙ reached-expected _ _ _ _ _ h ∙ ap (expected t last) (x .0) ∙ expected-whole t last (x .1 ∙ ap finished at-end))
 
 -- ---- further steps
 then-steps : (table : List ℕ) (calls more : List Call) (z : Session) → (w : Session) × (stepsFrom table z (calls ++ more) ≡ stepsFrom table z calls ++ stepsFrom table w more)

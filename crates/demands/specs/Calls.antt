@@ -56,3 +56,11 @@ recordsOf r = take (16 * r .answer .records) (r .output)
 -- "joined is in the list's order"
 unfoldable pub joinedOf : List Step → List ℕ
 joinedOf rs = gather recordsOf (keep isAccepted rs)
+
+-- the last step's number; 0 where there is no step
+abbrev pub numberFrom : ℕ → List Step → ℕ
+numberFrom before [] = before
+numberFrom before (r ∷ rs) = numberFrom (r .answer .number) rs
+
+abbrev pub lastNumber : List Step → ℕ
+lastNumber rs = numberFrom 0 rs

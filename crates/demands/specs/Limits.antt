@@ -1,5 +1,5 @@
 -- Numbers 21 to 24 of a scene, by the reader and the model; how a run ends that has room. No session or step comes into it. Definitions.
-use Prim.Native.Nat.{ℕ, zero, suc, _<_}
+use Prim.Native.Nat.{ℕ, zero, suc, _≤_, _<_}
 use mathlib.Core.Path.{_≡_}
 use mathlib.Core.List.{List, []}
 use mathlib.Core.List as list
@@ -10,7 +10,7 @@ use lib.Dec.{ltb, eqb}
 use Rattle.laws.specs.Gather.{gather}
 use Rattle.table.specs.Table.{Table}
 use Rattle.reader.specs.Spans.{span}
-use Rattle.reader.specs.Events.{Event, text, Next, event, refusal, finished, freshReader, bindingsOf, events, lastOf}
+use Rattle.reader.specs.Events.{Start, start, text, Next, event, refusal, finished, freshReader, bindingsOf, events, lastOf}
 use Rattle.model.specs.Tree as tree
 use Rattle.model.specs.Tree.{Tree, stillOpen, completed, treeOf}
 use Rattle.model.specs.Model.{at, opened, modelOf, assignedOf}
@@ -52,6 +52,17 @@ WithinFirst t s n = (k : ℕ) → k < n → passed t s k ≡ 0
 
 abbrev pub Within : Table → List ℕ → Type 0
 Within t s = WithinFirst t s (length (events s))
+
+-- a number and a place that a run has by a limit: those of the first start that passes one, "(< of the tag)", by the first of the limits that it passes
+pub record FirstLimit (t : Table) (s : List ℕ) (number place : ℕ) : Type 0 where
+  pub before : ℕ
+  pub earlier : WithinFirst t s before
+  pub tag : Start
+  pub event-is : getD (events s) before (text (span 0 0)) ≡ start tag
+  pub number-is : number ≡ passed t s before
+  pub place-is : place ≡ tag .at
+  pub lowest : 21 ≤ number
+  pub highest : number ≤ 24
 
 -- the first event that passes a limit, of n events from the k-th on
 unfoldable pub firstPast : Table → List ℕ → ℕ → ℕ → Option ℕ

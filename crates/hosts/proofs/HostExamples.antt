@@ -23,8 +23,9 @@ use Rattle.reader.specs.Stored.{bindingIn}
 use Rattle.reader.specs.Scope.{nameIn, opensIn, closedOf}
 use Rattle.reader.specs.Events.{bindingsOf, colonEnd, partOf, next}
 use Rattle.model.specs.Stream.{written, after}
-use Rattle.model.specs.Elements.{spaceOf, attributeOf, elementOf, placed, sectionsFrom, sectionsOf}
-use Rattle.model.specs.Records.{recordBytes, attributeUnits, kept, startBodies}
+use Rattle.model.specs.Elements.{spaceOf, attributeOf, elementOf}
+use Rattle.model.specs.Groups.{placed, sectionsFrom, sectionsOf, attributeUnits, kept, startBodies}
+use Rattle.model.specs.Records.{recordBytes}
 use Rattle.model.specs.Rows.{row}
 use Rattle.strands.specs.Packed.{strandIn, packed}
 use Rattle.dispatcher.specs.Sessions.{levelUri, strandsIn, levelIn, levelsIn}

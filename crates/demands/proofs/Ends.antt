@@ -1,0 +1,196 @@
+-- Limits, both ways: how a run ends by the limits that the scene's events pass.
+--     taken-within     the events that a run took pass no limit
+--     whole-within     a run that gives 9 passes no limit
+--     limited-run      one that gives 21 to 24 stopped at the first start that passes a limit, by that
+--     run-ends         where the output has room, number and place are those of `endOf`
+--     finished-exactly, limited-exactly, refused-exactly     where it has room: which number exactly when
+use Prim.Native.Nat.{ℕ, _*_, _≤_, _<_}
+use mathlib.Core.Path.{_≡_, refl, sym, ap, subst, _∙_}
+use mathlib.Core.List.{List}
+use mathlib.Core.Bool.{true}
+use mathlib.Core.Logic.{⊎-elim}
+use mathlib.Core.Option.{Option, none, some}
+use native.Mathlib.Omega.{arith}
+use borrow.Author.Tests.{eq-eqb}
+use lib.ListN.{length, drop, getD, List·getD-eq-default}
+use Rattle.laws.specs.Reading.{le-or-lt}
+use Rattle.table.specs.Table.{Table, decode}
+use Rattle.table.specs.Judge.{judged, Accepted}
+use Rattle.reader.specs.Events as scene
+use Rattle.reader.specs.Events.{freshReader, events, lastOf}
+use Rattle.reader.specs.Spans.{span}
+use Rattle.reader.proofs.Held.{held-fresh, numbered}
+use Rattle.reader.proofs.EventsFirst.{state-held, events-end}
+use Rattle.dispatcher.specs.Sessions.{readerOf}
+use Rattle.dispatcher.specs.Stepping.{eventPlace, Step, refusedStep, Run, runOf}
+use Rattle.dispatcher.specs.declared.Session.{Session}
+use Rattle.demands.specs.Scenes.{modelCount}
+use Rattle.demands.specs.Limits.{passed, WithinFirst, Within, FirstLimit, firstPast, End, readEnd, endOf}
+use Rattle.demands.proofs.Goes.{goes-on}
+use Rattle.demands.proofs.Limits.{passed-number, next-event, FirstPast, first-past}
+use Rattle.demands.proofs.Refusals as step
+use Rattle.demands.proofs.Refusals.{Ready, Starts, Answered, bad-table, long-scene, bad-session, unread, all-read, no-room, written, answered-by, exactly-9}
+use Rattle.demands.proofs.Runs.{Ended, run-ended, scenes}
+use Rattle.demands.proofs.Accepted.{few, ready, last, past, limited, stopped, through, reads}
+
+-- ---- every run
+-- what the run answers is what its last step answers
+module _ (table s out : List ℕ) (e : Ended table s out (runOf table s out)) where
+  number-is : runOf table s out .answer .number ≡ e .number
+  number-is = ap (λ (r : Run). r .answer .number) (e .is)
+
+  place-is : runOf table s out .answer .place ≡ e .place
+  place-is = ap (λ (r : Run). r .answer .place) (e .is)
+
+  events-are : runOf table s out .answer .events ≡ e .events
+  events-are = ap (λ (r : Run). r .answer .events) (e .is)
+
+pub taken-within : (table s out : List ℕ) → Accepted table ≡ true → length s ≤ 16777215 → WithinFirst (decode table) s (runOf table s out .answer .events)
+taken-within table s out ok short =
+    let e = run-ended table s out in
+    subst (WithinFirst (decode table) s) (sym (events-are table s out e)) (past table s out ok short e)
+
+accepted-by : (table s : List ℕ) (z : Session) → Ready table s z → Accepted table ≡ true
+accepted-by table s z r = eq-eqb (judged table .number) 0 (r .accepted)
+
+-- a run that gives 9 passes no limit
+pub whole-within : (table s out : List ℕ) → runOf table s out .answer .number ≡ 9 → Within (decode table) s
+whole-within table s out nine =
+    let e = run-ended table s out in
+    let said : e .number ≡ 9 = sym (number-is table s out e) ∙ nine in
+    let r = exactly-9 table s (e .session) (drop (16 * length (e .records)) out) .only (ap (λ (x : Step). x .answer .number) (e .last) ∙ said) in
+    let all = scenes table s out .whole nine .0 in
+    subst (WithinFirst (decode table) s) all (taken-within table s out (accepted-by table s (e .session) (r .0)) (r .0 .short))
+
+-- a step that gives 21 to 24 read a start
+record AtStart (table s : List ℕ) (z : Session) : Type 0 where
+  ready : Ready table s z
+  tag : scene.Start
+  opens : scene.Open
+  starts : Starts s z tag opens
+
+at-start : {table s : List ℕ} {z : Session} {out : List ℕ} {r : Step} → Answered table s z out r → 21 ≤ r .answer .number → r .answer .number ≤ 24 → AtStart table s z
+at-start (bad-table a b) lo hi = absurd (omega arith)
+at-start (long-scene a l) lo hi = absurd (omega arith)
+at-start (bad-session a l c) lo hi = absurd (omega arith)
+at-start (unread r n p q a b) lo hi = absurd (omega arith)
+at-start (all-read r p q) lo hi = absurd (omega arith)
+at-start (step.limited r e o q n l a b) lo hi = record { ready = r; tag = e; opens = o; starts = q }
+at-start (no-room r p rs z″ q l) lo hi = absurd (omega arith)
+at-start (written r p rs z″ q l) lo hi = absurd (omega arith)
+
+-- "(< of the tag)"
+pub limited-run : (table s out : List ℕ) →
+    let a = runOf table s out .answer in
+    21 ≤ a .number → a .number ≤ 24 → FirstLimit (decode table) s (a .number) (a .place)
+limited-run table s out lo hi = by (run-ended table s out)
+  where
+    t : Table
+    t = decode table
+
+    d : scene.Event
+    d = scene.text (span 0 0)
+
+    by : (e : Ended table s out (runOf table s out)) → FirstLimit t s (runOf table s out .answer .number) (runOf table s out .answer .place)
+    by e =
+        let rest = drop (16 * length (e .records)) out in
+        let number : runOf table s out .answer .number ≡ e .number = number-is table s out e in
+        let answer : Answered table s (e .session) rest (refusedStep (e .number) (e .place) (e .session) rest) = subst (Answered table s (e .session) rest) (e .last) (answered-by table s (e .session) rest) in
+        let a = at-start answer (omega arith) (omega arith) in
+        let ok = accepted-by table s (e .session) (a .ready) in
+        let short : length s ≤ 16777215 = a .ready .short in
+        let lt = goes-on s (e .events) (readerOf (e .session)) (scene.start (a .tag)) (a .starts .behind) (e .reached .reader) (a .starts .told) .inside in
+        let is : getD (events s) (e .events) d ≡ scene.start (a .tag) = next-event t s (e .session) (e .events) (e .records) (e .reached) (scene.start (a .tag)) (a .starts .behind) (a .starts .told) d in
+        let some-limit : passed t s (e .events) ≡ 0 → ⊥ = λ n. omega (arith, ap (λ (r : Step). r .answer .number) (stopped table s out ok short e lt n d .1)) in
+        let so = limited table s out ok short e lt some-limit d in
+        record {
+          before = e .events;
+          earlier = past table s out ok short e;
+          tag = a .tag;
+          event-is = is;
+          number-is = number ∙ ap (λ (r : Step). r .answer .number) so;
+          place-is = place-is table s out e ∙ ap (λ (r : Step). r .answer .place) so ∙ ap eventPlace is;
+          lowest = lo;
+          highest = hi;
+        }
+
+-- a limit that some event passes
+pub limit-past : (t : Table) (s : List ℕ) (n p : ℕ) → FirstLimit t s n p → Within t s → ⊥
+limit-past t s n p f w = omega (arith, f .number-is, f .lowest, w (f .before) inside)
+  where
+    inside : f .before < length (events s)
+    inside =
+        ⊎-elim
+        (λ le. let same : scene.text (span 0 0) ≡ scene.start (f .tag) = sym (List·getD-eq-default (events s) (scene.text (span 0 0)) le) ∙ f .event-is in let y : _≡_ {A = ℕ} 0 1 = cc in absurd (omega arith))
+        (λ lt. lt)
+        (le-or-lt (length (events s)) (f .before))
+
+-- ---- where the output has room
+module _ (table s out : List ℕ) (ok : Accepted table ≡ true) (short : length s ≤ 16777215) (room : 16 * modelCount (decode table) s (length (events s)) ≤ length out) where
+  abbrev t : Table
+  t = decode table
+
+  abbrev r : Run
+  r = runOf table s out
+
+  abbrev endBy : Option ℕ → End
+  endBy o = elim o [ none ↦ readEnd (lastOf s) | some k ↦ record { number = passed t s k; place = eventPlace (getD (events s) k (scene.text (span 0 0))) } ]
+
+  -- behind all events, as reading ends
+  read-by : (e : Ended table s out r) → e .events ≡ length (events s) → (x : scene.Next) → lastOf s ≡ x → (e .number ≡ readEnd x .number) × (e .place ≡ readEnd x .place)
+  read-by e all (scene.event v z′) is =
+      let q : scene.next s (readerOf (e .session)) ≡ scene.event v z′ = reads table s out ok short e all ∙ is in
+      absurd (omega (arith, goes-on s (e .events) (readerOf (e .session)) v z′ (e .reached .reader) q .inside))
+  read-by e all (scene.refusal n p) is =
+      let q : scene.next s (readerOf (e .session)) ≡ scene.refusal n p = reads table s out ok short e all ∙ is in
+      let i = numbered s (readerOf (e .session)) (e .reached .sound .held) n p q in
+      let so = last table s out ok short e (unread (ready table s out ok short e) n p q (i .some) (i .few)) in
+      (ap (λ (x : Step). x .answer .number) so, ap (λ (x : Step). x .answer .place) so)
+  read-by e all (scene.finished p) is =
+      let so = last table s out ok short e (all-read (ready table s out ok short e) p (reads table s out ok short e all ∙ is)) in
+      (ap (λ (x : Step). x .answer .number) so, ap (λ (x : Step). x .answer .place) so)
+
+  ends-by : (o : Option ℕ) → FirstPast t s o → (r .answer .number ≡ endBy o .number) × (r .answer .place ≡ endBy o .place)
+  ends-by none f =
+      let e = run-ended table s out in
+      let x = read-by e (omega (arith, few table s out ok short e, through table s out ok short e (length (events s)) (omega arith) f room)) (lastOf s) refl in
+      (number-is table s out e ∙ x .0, place-is table s out e ∙ x .1)
+  ends-by (some k) f =
+      let e = run-ended table s out in
+      let le = through table s out ok short e k (omega (arith, f .0)) (f .2) room in
+      let here : e .events ≡ k = ⊎-elim (λ ge. omega arith) (λ lt. absurd (f .1 (past table s out ok short e k lt))) (le-or-lt (e .events) k) in
+      let so = limited table s out ok short e (omega (arith, f .0)) (subst (λ (i : ℕ). passed t s i ≡ 0 → ⊥) (sym here) (f .1)) (scene.text (span 0 0)) in (
+        number-is table s out e ∙ ap (λ (x : Step). x .answer .number) so ∙ ap (passed t s) here,
+        place-is table s out e ∙ ap (λ (x : Step). x .answer .place) so ∙ ap (λ (i : ℕ). eventPlace (getD (events s) i (scene.text (span 0 0)))) here,
+      )
+
+  pub run-ends : (r .answer .number ≡ endOf t s .number) × (r .answer .place ≡ endOf t s .place)
+  unfolding endOf
+  run-ends = ends-by (firstPast t s (length (events s)) 0) (first-past t s)
+
+  -- 9 exactly where no event passes a limit, of a scene that the reader finishes
+  pub finished-exactly : lastOf s ≡ scene.finished (length s) → (Within t s → r .answer .number ≡ 9) × (r .answer .number ≡ 9 → Within t s)
+  finished-exactly fin = (λ w. ends-by none w .0 ∙ ap (λ (x : scene.Next). readEnd x .number) fin, whole-within table s out)
+
+  -- 21 to 24 exactly where some event passes a limit; then at the first start that does
+  pub limited-exactly : ((Within t s → ⊥) → FirstLimit t s (r .answer .number) (r .answer .place)) × (21 ≤ r .answer .number → r .answer .number ≤ 24 → Within t s → ⊥)
+  limited-exactly = (
+    λ n. by n (firstPast t s (length (events s)) 0) (first-past t s),
+    λ lo hi. limit-past t s (r .answer .number) (r .answer .place) (limited-run table s out lo hi),
+  )
+    where
+      by : (Within t s → ⊥) → (o : Option ℕ) → FirstPast t s o → FirstLimit t s (r .answer .number) (r .answer .place)
+      by n none f = absurd (n f)
+      by n (some k) f =
+          let i = passed-number t s k (f .1) in
+          let so = ends-by (some k) f .0 in
+          limited-run table s out (omega (arith, i .0)) (omega (arith, i .1))
+
+  -- the reader's number and place exactly where no event passes a limit, of a scene that it refuses
+  pub refused-exactly : (n p : ℕ) → lastOf s ≡ scene.refusal n p → (Within t s → (r .answer .number ≡ n) × (r .answer .place ≡ p)) × (r .answer .number ≡ n → Within t s)
+  refused-exactly n p is =
+      let w = events-end s in
+      let i = numbered s (w .0) (state-held s (w .0) (length (events s)) freshReader (w .1) (held-fresh s)) n p (w .2 ∙ is) in (
+        λ h. let x = ends-by none h in (x .0 ∙ ap (λ (y : scene.Next). readEnd y .number) is, x .1 ∙ ap (λ (y : scene.Next). readEnd y .place) is),
+        λ q. subst (WithinFirst t s) (scenes table s out .read (omega (arith, i .few)) .0) (taken-within table s out ok short),
+      )
