@@ -28,8 +28,9 @@ use Rattle.demands.specs.Scenes.{modelCount}
 use Rattle.demands.specs.Limits.{passed, WithinFirst, Within, FirstLimit, firstPast, End, readEnd, endOf}
 use Rattle.demands.proofs.Goes.{goes-on}
 use Rattle.demands.proofs.Limits.{passed-number, next-event, FirstPast, first-past}
-use Rattle.demands.proofs.Refusals as step
-use Rattle.demands.proofs.Refusals.{Ready, Starts, Answered, bad-table, long-scene, bad-session, unread, all-read, no-room, written, answered-by, exactly-9}
+use Rattle.demands.specs.Answers as step
+use Rattle.demands.specs.Answers.{Ready, Starts, Answered, bad-table, long-scene, bad-session, unread, all-read, no-room, written}
+use Rattle.demands.proofs.Refusals.{answered-by, exactly-9}
 use Rattle.demands.proofs.Runs.{Ended, run-ended, scenes}
 use Rattle.demands.proofs.Accepted.{few, ready, last, past, limited, stopped, through, reads}
 

@@ -34,7 +34,7 @@ use Rattle.model.proofs.Steps as stream
 use Rattle.model.proofs.Assigned.{modesAt}
 use Rattle.model.proofs.Tables.{one}
 use Rattle.dispatcher.specs.Sessions.{readerOf, stateOf, freshOf, withPlace, withEnd}
-use Rattle.dispatcher.specs.Stepping.{eventPlace, Plan, refused, event, startPlan, opensPlan, planBy, planOf}
+use Rattle.dispatcher.specs.Stepping.{eventPlace, Plan, refused, event, startPlan, ownDeclarations, planBy, planOf}
 use Rattle.dispatcher.specs.declared.Session.{Session}
 use Rattle.demands.specs.Scenes.{readerAfter}
 use Rattle.demands.specs.Limits.{depthAt, boundAt, strandsAt, unitsAt, passed, WithinFirst, firstPast}
@@ -152,7 +152,7 @@ module _ (table : List ℕ) (ok : Accepted table ≡ true) (s : List ℕ) (short
   limited-step (scene.start e) z′ q =
       let g = event-goes s (readerOf z) (scene.start e) z′ q in
       let o = g .0 .0 in
-      let plan : planOf t s z ≡ startPlan t s z e o (z′ .place) = ap (planBy t s z) q ∙ ap (opensPlan t s z e (z′ .place)) (g .0 .1) in
+      let plan : planOf t s z ≡ startPlan t s z e (o .declarations) (z′ .place) = ap (planBy t s z) q ∙ ap (λ (os : List scene.Open). startPlan t s z e (ownDeclarations os) (z′ .place)) (g .0 .1) in
       let number = start-passed e z′ o q (g .0 .1) in
       let σ = elementOf t s e in
       let state = stateOf t s z in

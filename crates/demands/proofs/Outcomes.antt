@@ -20,7 +20,8 @@ use Rattle.dispatcher.specs.Stepping.{event, planOf, Step, answered, refusedSte
 use Rattle.dispatcher.specs.declared.Session.{Session}
 use Rattle.dispatcher.proofs.Sound.{Sound}
 use Rattle.dispatcher.proofs.SoundCoherent.{sound-coherent}
-use Rattle.demands.proofs.Refusals.{Answered, bad-table, long-scene, bad-session, unread, all-read, limited, no-room, written, answered-by}
+use Rattle.demands.specs.Answers.{Answered, bad-table, long-scene, bad-session, unread, all-read, limited, no-room, written}
+use Rattle.demands.proofs.Refusals.{answered-by}
 
 -- what a number that is not 0 says of the reader: 9 and 1 to 6 are its own
 pub record Said (s : List ℕ) (w : scene.ReaderState) (n p : ℕ) : Type 0 where

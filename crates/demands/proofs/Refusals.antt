@@ -1,5 +1,4 @@
 -- What a step answers, for all arguments: each number exactly where its phrase says, in document 01's order, and what is unchanged.
---     Ready, Limit, Answered           the stages of a step
 --     answered-by, answered-so         each step has a stage, and a stage has one answer
 --     refused-keeps, accepted-writes   what a step changes
 --     exactly-*                        when a number is given, and at what place
@@ -30,59 +29,11 @@ use Rattle.model.specs.Stream.{enter, after}
 use Rattle.model.specs.Dispatch.{dispatch, bytesOf}
 use Rattle.dispatcher.specs.Sessions.{readerOf, stateOf}
 use Rattle.dispatcher.specs.Coherence.{coherent}
-use Rattle.dispatcher.specs.Stepping.{Plan, refused, finished, event, startPlan, opensPlan, planBy, planOf, Step, answered, refusedStep, eventStep, planned, longest, stepOf}
+use Rattle.dispatcher.specs.Stepping.{Plan, refused, finished, event, startPlan, ownDeclarations, planBy, planOf, Step, answered, refusedStep, eventStep, planned, longest, stepOf}
 use Rattle.dispatcher.specs.declared.Session.{Session}
+use Rattle.demands.specs.Answers.{Ready, Deep, Full, Crowded, Spent, Limit, Starts, Answered, bad-table, long-scene, bad-session, unread, all-read, limited, no-room, written, Unchanged, Changed, Exactly, ExactlyAt, Unread, AllRead, NoRoom}
 use Rattle.demands.proofs.Goes.{event-goes}
 use Rattle.demands.proofs.CoherentHeld.{coherent-held}
-
--- ---- the stages
--- nothing of 10, 11, 12, 7 and 20
-pub record Ready (table s : List ℕ) (z : Session) : Type 0 where
-  pub accepted : judged table .number ≡ 0
-  pub short : length s ≤ longest
-  pub fits : coherent (decode table) s z ≡ true
-
--- "21 depth 65; 22 a 65th open binding; 23 a 17th strand; 24 a unit past 65,535", for a start e that opens o, each where none before it applies
-module _ (t : Table) (s : List ℕ) (z : Session) (e : scene.Start) (o : scene.Open) where
-  abbrev pub Deep : Type 0
-  Deep = 64 ≤ z .scope .depth
-
-  abbrev pub Full : Type 0
-  Full = (z .scope .depth < 64) × (64 < z .scope .bound + length (o .declarations))
-
-  abbrev pub Crowded : Type 0
-  Crowded =
-      (z .scope .depth < 64)
-      × (z .scope .bound + length (o .declarations) ≤ 64)
-      × (16 < length (enter (dispatch t) (stateOf t s z .levels) (elementOf t s e)))
-
-  abbrev pub Spent : Type 0
-  Spent =
-      (z .scope .depth < 64)
-      × (z .scope .bound + length (o .declarations) ≤ 64)
-      × (length (enter (dispatch t) (stateOf t s z .levels) (elementOf t s e)) ≤ 16)
-      × (65536 < after (dispatch t) (stateOf t s z) (start (elementOf t s e)) .units)
-
-  abbrev pub Limit : ℕ → Type 0
-  Limit n = ((n ≡ 21) × Deep) ⊎ (((n ≡ 22) × Full) ⊎ (((n ≡ 23) × Crowded) ⊎ ((n ≡ 24) × Spent)))
-
--- the reader reads the start e, which opens o
-pub record Starts (s : List ℕ) (z : Session) (e : scene.Start) (o : scene.Open) : Type 0 where
-  pub behind : scene.ReaderState
-  pub told : scene.next s (readerOf z) ≡ scene.event (scene.start e) behind
-  pub opens : behind .opened ≡ o ∷ readerOf z .opened
-
--- "Order: 10 short, 11 header, 10, 11, 12, 7, 20; then 2, 3 or 1 by first byte; then 4; 5, 6, 21, 22, 23, 24; 25"
-pub data Answered (table s : List ℕ) (z : Session) (out : List ℕ) : Step → Type 0 where
-  bad-table : 10 ≤ judged table .number → judged table .number ≤ 12 → Answered table s z out (refusedStep (judged table .number) (judged table .place) z out)
-  long-scene : judged table .number ≡ 0 → longest < length s → Answered table s z out (refusedStep 7 0 z out)
-  bad-session : judged table .number ≡ 0 → length s ≤ longest → coherent (decode table) s z ≡ false → Answered table s z out (refusedStep 20 0 z out)
-  unread : Ready table s z → (n p : ℕ) → scene.next s (readerOf z) ≡ scene.refusal n p → 1 ≤ n → n ≤ 6 → Answered table s z out (refusedStep n p z out)
-  all-read : Ready table s z → (p : ℕ) → scene.next s (readerOf z) ≡ scene.finished p → Answered table s z out (refusedStep 9 p z out)
-  limited : Ready table s z → (e : scene.Start) (o : scene.Open) → Starts s z e o → (n : ℕ) → Limit (decode table) s z e o n → 21 ≤ n → n ≤ 24 → Answered table s z out (refusedStep n (e .at) z out)
-  no-room : Ready table s z → (p : ℕ) (rs : List (Record Body ℕ)) (z″ : Session) → planOf (decode table) s z ≡ event p rs z″ → length out < 16 * length rs → Answered table s z out (refusedStep 25 p z out)
-  written : Ready table s z → (p : ℕ) (rs : List (Record Body ℕ)) (z″ : Session) → planOf (decode table) s z ≡ event p rs z″ → 16 * length rs ≤ length out
-      → Answered table s z out (record { answer = answered 0 (z″ .place) 1 (length rs); session = z″; output = overwrite out 0 (gather bytesOf rs) })
 
 -- judge's numbers
 abbrev Judges : Answer → Type 0
@@ -111,7 +62,7 @@ module _ (table s : List ℕ) (z : Session) (out : List ℕ) where
         (λ l. no-room r p rs z″ q (ltb-true (length out) (16 * length rs) l))
         (λ l. written r p rs z″ q (ltb-false (length out) (16 * length rs) l))
 
-    by-start : (e : scene.Start) (o : scene.Open) (place : ℕ) → Starts s z e o → planOf (decode table) s z ≡ startPlan (decode table) s z e o place → Answered table s z out (planned (startPlan (decode table) s z e o place) z out)
+    by-start : (e : scene.Start) (o : scene.Open) (place : ℕ) → Starts s z e o → planOf (decode table) s z ≡ startPlan (decode table) s z e (o .declarations) place → Answered table s z out (planned (startPlan (decode table) s z e (o .declarations) place) z out)
     unfolding startPlan
     by-start e o place q plan =
         let t = decode table in
@@ -141,7 +92,7 @@ module _ (table s : List ℕ) (z : Session) (out : List ℕ) where
     by-next (scene.event (scene.end part at) z′) q k = by-event _ _ _ k
     by-next (scene.event (scene.start e) z′) q k = opens (z′ .opened) refl k
       where
-        opens : (os : List scene.Open) → z′ .opened ≡ os → planOf (decode table) s z ≡ opensPlan (decode table) s z e (z′ .place) os → Answered table s z out (planned (opensPlan (decode table) s z e (z′ .place) os) z out)
+        opens : (os : List scene.Open) → z′ .opened ≡ os → planOf (decode table) s z ≡ startPlan (decode table) s z e (ownDeclarations os) (z′ .place) → Answered table s z out (planned (startPlan (decode table) s z e (ownDeclarations os) (z′ .place)) z out)
         opens [] n k =
             let g = event-goes s (readerOf z) (scene.start e) z′ q in
             let w : _≡_ {A = ℕ} 0 1 = cc (g .0 .1) in
@@ -176,7 +127,7 @@ module _ (table s : List ℕ) (z : Session) (out : List ℕ) where
   unfolding planOf
   plan-next x q = ap (planBy (decode table) s z) q
 
-  limit-plan : (e : scene.Start) (o : scene.Open) (place n : ℕ) → Limit (decode table) s z e o n → startPlan (decode table) s z e o place ≡ refused n (e .at)
+  limit-plan : (e : scene.Start) (o : scene.Open) (place n : ℕ) → Limit (decode table) s z e o n → startPlan (decode table) s z e (o .declarations) place ≡ refused n (e .at)
   unfolding startPlan
   limit-plan e o place n (inl (q, d)) = rw (le-leb 64 (z .scope .depth) d, q)
   limit-plan e o place n (inr (inl (q, h))) = rw (lt-leb 64 (z .scope .depth) (h .0), lt-ltb 64 (z .scope .bound + length (o .declarations)) (h .1), q)
@@ -185,8 +136,8 @@ module _ (table s : List ℕ) (z : Session) (out : List ℕ) where
   limit-plan e o place n (inr (inr (inr (q, h)))) =
       rw (lt-leb 64 (z .scope .depth) (h .0), le-ltb 64 (z .scope .bound + length (o .declarations)) (h .1), le-ltb 16 (length (enter (dispatch (decode table)) (stateOf (decode table) s z .levels) (elementOf (decode table) s e))) (h .2), lt-ltb 65536 (after (dispatch (decode table)) (stateOf (decode table) s z) (start (elementOf (decode table) s e)) .units) (h .3), q)
 
-  starts-plan : (e : scene.Start) (o : scene.Open) (q : Starts s z e o) → planOf (decode table) s z ≡ startPlan (decode table) s z e o (q .behind .place)
-  starts-plan e o q = plan-next (scene.event (scene.start e) (q .behind)) (q .told) ∙ ap (opensPlan (decode table) s z e (q .behind .place)) (q .opens)
+  starts-plan : (e : scene.Start) (o : scene.Open) (q : Starts s z e o) → planOf (decode table) s z ≡ startPlan (decode table) s z e (o .declarations) (q .behind .place)
+  starts-plan e o q = plan-next (scene.event (scene.start e) (q .behind)) (q .told) ∙ ap (λ (os : List scene.Open). startPlan (decode table) s z e (ownDeclarations os) (q .behind .place)) (q .opens)
 
   pub answered-so : {r : Step} → Answered table s z out r → stepOf table s z out ≡ r
   unfolding stepOf
@@ -200,27 +151,6 @@ module _ (table s : List ℕ) (z : Session) (out : List ℕ) where
   answered-so (written r p rs z″ q l) = step-planned r ∙ ap (λ (x : Plan). planned x z out) q ∙ rw (le-ltb (length out) (16 * length rs) l)
 
 -- ---- what a step changes
--- "A step with any number but 0 returns the session unchanged and writes nothing"
-pub record Unchanged (z : Session) (out : List ℕ) (r : Step) : Type 0 where
-  pub session : r .session ≡ z
-  pub output : r .output ≡ out
-  pub events : r .answer .events ≡ 0
-  pub records : r .answer .records ≡ 0
-
--- a step with 0: its event's records from the output's first byte on, what lies behind them as it was
-pub record Changed (t : Table) (s : List ℕ) (z : Session) (out : List ℕ) (r : Step) : Type 0 where
-  pub at : ℕ
-  pub records : List (Record Body ℕ)
-  pub plan : planOf t s z ≡ event at records (r .session)
-  pub place : r .answer .place ≡ r .session .place
-  pub events : r .answer .events ≡ 1
-  pub count : r .answer .records ≡ length records
-  pub room : 16 * r .answer .records ≤ length out
-  pub output : r .output ≡ overwrite out 0 (gather bytesOf records)
-  pub bytes : length (gather bytesOf records) ≡ 16 * r .answer .records
-  pub rest : drop (16 * r .answer .records) (r .output) ≡ drop (16 * r .answer .records) out
-  pub size : length (r .output) ≡ length out
-
 pub records-length : (rs : List (Record Body ℕ)) → length (gather bytesOf rs) ≡ 16 * length rs
 unfolding gather recordBytes
 records-length [] = refl
@@ -271,16 +201,6 @@ module _ (table s : List ℕ) (z : Session) (out : List ℕ) where
   accepted-writes = writes (answered-by table s z out)
 
 -- ---- when a number is given
--- n at the place p, exactly where C
-pub record Exactly (table s : List ℕ) (z : Session) (out : List ℕ) (n p : ℕ) (C : Type 0) : Type 0 where
-  pub when : C → stepOf table s z out ≡ refusedStep n p z out
-  pub only : stepOf table s z out .answer .number ≡ n → C
-
--- n, at each place p exactly where C p
-pub record ExactlyAt (table s : List ℕ) (z : Session) (out : List ℕ) (n : ℕ) (C : ℕ → Type 0) : Type 0 where
-  pub when : (p : ℕ) → C p → stepOf table s z out ≡ refusedStep n p z out
-  pub only : stepOf table s z out .answer .number ≡ n → C (stepOf table s z out .answer .place)
-
 module _ (table s : List ℕ) (z : Session) (out : List ℕ) where
   -- 10, 11 and 12
   pub exactly-table : (n : ℕ) → 10 ≤ n → n ≤ 12 → Exactly table s z out n (judged table .place) (judged table .number ≡ n)
@@ -327,14 +247,11 @@ module _ (table s : List ℕ) (z : Session) (out : List ℕ) where
       by (written r p rs z″ q l) e = absurd (omega arith)
 
   -- 1 to 6: the reader's
-  abbrev pub Unread : ℕ → ℕ → Type 0
-  Unread n p = Ready table s z × (scene.next s (readerOf z) ≡ scene.refusal n p)
-
-  pub exactly-read : (n : ℕ) → 1 ≤ n → n ≤ 6 → ExactlyAt table s z out n (Unread n)
+  pub exactly-read : (n : ℕ) → 1 ≤ n → n ≤ 6 → ExactlyAt table s z out n (Unread table s z n)
   exactly-read n lo hi =
       record { when = λ p c. answered-so table s z out (unread (c .0) n p (c .1) lo hi); only = by (answered-by table s z out) }
     where
-      by : {r : Step} → Answered table s z out r → r .answer .number ≡ n → Unread n (r .answer .place)
+      by : {r : Step} → Answered table s z out r → r .answer .number ≡ n → Unread table s z n (r .answer .place)
       by (bad-table a b) e = absurd (omega arith)
       by (long-scene a l) e = absurd (omega arith)
       by (bad-session a l c) e = absurd (omega arith)
@@ -344,13 +261,10 @@ module _ (table s : List ℕ) (z : Session) (out : List ℕ) where
       by (no-room r p rs z″ q l) e = absurd (omega arith)
       by (written r p rs z″ q l) e = absurd (omega arith)
 
-  abbrev pub AllRead : ℕ → Type 0
-  AllRead p = Ready table s z × (scene.next s (readerOf z) ≡ scene.finished p)
-
-  pub exactly-9 : ExactlyAt table s z out 9 AllRead
+  pub exactly-9 : ExactlyAt table s z out 9 (AllRead table s z)
   exactly-9 = record { when = λ p c. answered-so table s z out (all-read (c .0) p (c .1)); only = by (answered-by table s z out) }
     where
-      by : {r : Step} → Answered table s z out r → r .answer .number ≡ 9 → AllRead (r .answer .place)
+      by : {r : Step} → Answered table s z out r → r .answer .number ≡ 9 → AllRead table s z (r .answer .place)
       by (bad-table a b) e = absurd (omega arith)
       by (long-scene a l) e = absurd (omega arith)
       by (bad-session a l c) e = absurd (omega arith)
@@ -360,17 +274,11 @@ module _ (table s : List ℕ) (z : Session) (out : List ℕ) where
       by (no-room r p rs z″ q l) e = absurd (omega arith)
       by (written r p rs z″ q l) e = absurd (omega arith)
 
-  -- "25 the event's records exceed the output": nothing before it refuses
-  abbrev pub NoRoom : ℕ → Type 0
-  NoRoom p =
-      Ready table s z
-      × ((rs : List (Record Body ℕ)) × (z″ : Session) × (planOf (decode table) s z ≡ event p rs z″) × (length out < 16 * length rs))
-
-  pub exactly-25 : ExactlyAt table s z out 25 NoRoom
+  pub exactly-25 : ExactlyAt table s z out 25 (NoRoom table s z out)
   exactly-25 =
       record { when = λ p c. answered-so table s z out (no-room (c .0) p (c .1 .0) (c .1 .1) (c .1 .2) (c .1 .3)); only = by (answered-by table s z out) }
     where
-      by : {r : Step} → Answered table s z out r → r .answer .number ≡ 25 → NoRoom (r .answer .place)
+      by : {r : Step} → Answered table s z out r → r .answer .number ≡ 25 → NoRoom table s z out (r .answer .place)
       by (bad-table a b) e = absurd (omega arith)
       by (long-scene a l) e = absurd (omega arith)
       by (bad-session a l c) e = absurd (omega arith)

@@ -34,7 +34,8 @@ use Rattle.dispatcher.specs.declared.Session.{Session}
 use Rattle.demands.proofs.CoherentHeld.{coherent-held, coherent-more}
 use Rattle.demands.proofs.Completed.{Whole, next-completed}
 use Rattle.demands.proofs.Late.{LateNext, next-ext, next-stays}
-use Rattle.demands.proofs.Refusals.{Ready, Answered, bad-table, long-scene, bad-session, unread, all-read, limited, no-room, written, answered-by, answered-so, exactly-read}
+use Rattle.demands.specs.Answers.{Ready, Answered, bad-table, long-scene, bad-session, unread, all-read, limited, no-room, written, Through, Completes}
+use Rattle.demands.proofs.Refusals.{answered-by, answered-so, exactly-read}
 
 -- behind the root a byte is refused, or the scene is finished
 abbrev Behind : Begin → Type 0
@@ -116,16 +117,6 @@ module _ (table s : List ℕ) (z : Session) (out : List ℕ) (n p : ℕ) (lo : 2
       (unread (record { accepted = reads .0 .accepted; short = l; fits = c }) n p (next-stays (take (p + 1) s) rest (readerOf z) n p lo hi up-to) (omega arith) (omega arith))
 
 -- ---- 1: the scene ends, nothing else wrong so far
--- an event was read to its end: 0, or a number that is said of a whole event
-abbrev pub Through : ℕ → Type 0
-Through n = (n ≡ 0) ⊎ (((4 ≤ n) × (n ≤ 6)) ⊎ ((21 ≤ n) × (n ≤ 25)))
-
--- a few bytes with which the step reads its event to the end, where the scene with them is not too long
-pub record Completes (table s : List ℕ) (z : Session) (out : List ℕ) : Type 0 where
-  pub more : List ℕ
-  pub few : length more ≤ 7
-  pub reads : length (s ++ more) ≤ longest → Through (stepOf table (s ++ more) z out .answer .number)
-
 pub cut-completed : (table s : List ℕ) (z : Session) (out : List ℕ) → stepOf table s z out .answer .number ≡ 1 → Completes table s z out
 cut-completed table s z out q =
     let c = exactly-read table s z out 1 (omega arith) (omega arith) .only q in

@@ -1,5 +1,6 @@
 pub mod Calls
 pub mod Scenes
+pub mod Answers
 pub mod Limits
 pub mod Runs
 pub mod CallExamples

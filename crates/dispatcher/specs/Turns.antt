@@ -115,7 +115,7 @@ startOf s outer own attrs codes at tag found =
       part = partSpan (tag .name);
       namespace = spaceOf own outer found;
       attributes =
-          map (λ (c : Coded). attribute s (c .attr) (namespaceOf own outer (c .code)))
+          map (λ (c : Coded). attribute (c .attr) (namespaceOf own outer (c .code)))
           (keep (delivered s) (coded (attrsIn attrs (tag .count)) codes));
       empty = tag .empty;
     }

@@ -1,0 +1,124 @@
+-- Demand 1: the stages of a step, in document 01's order; when a number is given; what a step changes. Definitions.
+use Prim.Native.Nat.{ℕ, _+_, _*_, _≤_, _<_}
+use mathlib.Core.Path.{_≡_}
+use mathlib.Core.List.{List, _∷_, _++_}
+use mathlib.Core.Bool.{true, false}
+use mathlib.Core.Logic.{_⊎_}
+use lib.ListN.{length, drop}
+use Rattle.laws.specs.Over.{overwrite}
+use Rattle.laws.specs.Gather.{gather}
+use Rattle.table.specs.Table.{Table, decode}
+use Rattle.table.specs.Judge.{judged}
+use Rattle.reader.specs.Events as scene
+use Rattle.model.specs.Theory.{Record}
+use Rattle.model.specs.Tree.{start}
+use Rattle.model.specs.Elements.{elementOf}
+use Rattle.model.specs.Records.{Body}
+use Rattle.model.specs.Stream.{enter, after}
+use Rattle.model.specs.Dispatch.{dispatch, bytesOf}
+use Rattle.dispatcher.specs.Sessions.{readerOf, stateOf}
+use Rattle.dispatcher.specs.Coherence.{coherent}
+use Rattle.dispatcher.specs.Stepping.{event, planOf, Step, answered, refusedStep, longest, stepOf}
+use Rattle.dispatcher.specs.declared.Session.{Session}
+
+-- nothing of 10, 11, 12, 7 and 20
+pub record Ready (table s : List ℕ) (z : Session) : Type 0 where
+  pub accepted : judged table .number ≡ 0
+  pub short : length s ≤ longest
+  pub fits : coherent (decode table) s z ≡ true
+
+-- "21 depth 65; 22 a 65th open binding; 23 a 17th strand; 24 a unit past 65,535", for a start e that opens o, each where none before it applies
+module _ (t : Table) (s : List ℕ) (z : Session) (e : scene.Start) (o : scene.Open) where
+  abbrev pub Deep : Type 0
+  Deep = 64 ≤ z .scope .depth
+
+  abbrev pub Full : Type 0
+  Full = (z .scope .depth < 64) × (64 < z .scope .bound + length (o .declarations))
+
+  abbrev pub Crowded : Type 0
+  Crowded =
+      (z .scope .depth < 64)
+      × (z .scope .bound + length (o .declarations) ≤ 64)
+      × (16 < length (enter (dispatch t) (stateOf t s z .levels) (elementOf t s e)))
+
+  abbrev pub Spent : Type 0
+  Spent =
+      (z .scope .depth < 64)
+      × (z .scope .bound + length (o .declarations) ≤ 64)
+      × (length (enter (dispatch t) (stateOf t s z .levels) (elementOf t s e)) ≤ 16)
+      × (65536 < after (dispatch t) (stateOf t s z) (start (elementOf t s e)) .units)
+
+  abbrev pub Limit : ℕ → Type 0
+  Limit n = ((n ≡ 21) × Deep) ⊎ (((n ≡ 22) × Full) ⊎ (((n ≡ 23) × Crowded) ⊎ ((n ≡ 24) × Spent)))
+
+-- the reader reads the start e, which opens o
+pub record Starts (s : List ℕ) (z : Session) (e : scene.Start) (o : scene.Open) : Type 0 where
+  pub behind : scene.ReaderState
+  pub told : scene.next s (readerOf z) ≡ scene.event (scene.start e) behind
+  pub opens : behind .opened ≡ o ∷ readerOf z .opened
+
+-- "Order: 10 short, 11 header, 10, 11, 12, 7, 20; then 2, 3 or 1 by first byte; then 4; 5, 6, 21, 22, 23, 24; 25"
+pub data Answered (table s : List ℕ) (z : Session) (out : List ℕ) : Step → Type 0 where
+  bad-table : 10 ≤ judged table .number → judged table .number ≤ 12 → Answered table s z out (refusedStep (judged table .number) (judged table .place) z out)
+  long-scene : judged table .number ≡ 0 → longest < length s → Answered table s z out (refusedStep 7 0 z out)
+  bad-session : judged table .number ≡ 0 → length s ≤ longest → coherent (decode table) s z ≡ false → Answered table s z out (refusedStep 20 0 z out)
+  unread : Ready table s z → (n p : ℕ) → scene.next s (readerOf z) ≡ scene.refusal n p → 1 ≤ n → n ≤ 6 → Answered table s z out (refusedStep n p z out)
+  all-read : Ready table s z → (p : ℕ) → scene.next s (readerOf z) ≡ scene.finished p → Answered table s z out (refusedStep 9 p z out)
+  limited : Ready table s z → (e : scene.Start) (o : scene.Open) → Starts s z e o → (n : ℕ) → Limit (decode table) s z e o n → 21 ≤ n → n ≤ 24 → Answered table s z out (refusedStep n (e .at) z out)
+  no-room : Ready table s z → (p : ℕ) (rs : List (Record Body ℕ)) (z″ : Session) → planOf (decode table) s z ≡ event p rs z″ → length out < 16 * length rs → Answered table s z out (refusedStep 25 p z out)
+  written : Ready table s z → (p : ℕ) (rs : List (Record Body ℕ)) (z″ : Session) → planOf (decode table) s z ≡ event p rs z″ → 16 * length rs ≤ length out
+      → Answered table s z out (record { answer = answered 0 (z″ .place) 1 (length rs); session = z″; output = overwrite out 0 (gather bytesOf rs) })
+
+-- "A step with any number but 0 returns the session unchanged and writes nothing"
+pub record Unchanged (z : Session) (out : List ℕ) (r : Step) : Type 0 where
+  pub session : r .session ≡ z
+  pub output : r .output ≡ out
+  pub events : r .answer .events ≡ 0
+  pub records : r .answer .records ≡ 0
+
+-- a step with 0: its event's records from the output's first byte on, what lies behind them as it was
+pub record Changed (t : Table) (s : List ℕ) (z : Session) (out : List ℕ) (r : Step) : Type 0 where
+  pub at : ℕ
+  pub records : List (Record Body ℕ)
+  pub plan : planOf t s z ≡ event at records (r .session)
+  pub place : r .answer .place ≡ r .session .place
+  pub events : r .answer .events ≡ 1
+  pub count : r .answer .records ≡ length records
+  pub room : 16 * r .answer .records ≤ length out
+  pub output : r .output ≡ overwrite out 0 (gather bytesOf records)
+  pub bytes : length (gather bytesOf records) ≡ 16 * r .answer .records
+  pub rest : drop (16 * r .answer .records) (r .output) ≡ drop (16 * r .answer .records) out
+  pub size : length (r .output) ≡ length out
+
+-- n at the place p, exactly where C
+pub record Exactly (table s : List ℕ) (z : Session) (out : List ℕ) (n p : ℕ) (C : Type 0) : Type 0 where
+  pub when : C → stepOf table s z out ≡ refusedStep n p z out
+  pub only : stepOf table s z out .answer .number ≡ n → C
+
+-- n, at each place p exactly where C p
+pub record ExactlyAt (table s : List ℕ) (z : Session) (out : List ℕ) (n : ℕ) (C : ℕ → Type 0) : Type 0 where
+  pub when : (p : ℕ) → C p → stepOf table s z out ≡ refusedStep n p z out
+  pub only : stepOf table s z out .answer .number ≡ n → C (stepOf table s z out .answer .place)
+
+-- 1 to 6: the reader's
+abbrev pub Unread : List ℕ → List ℕ → Session → ℕ → ℕ → Type 0
+Unread table s z n p = Ready table s z × (scene.next s (readerOf z) ≡ scene.refusal n p)
+
+abbrev pub AllRead : List ℕ → List ℕ → Session → ℕ → Type 0
+AllRead table s z p = Ready table s z × (scene.next s (readerOf z) ≡ scene.finished p)
+
+-- "25 the event's records exceed the output": nothing before it refuses
+abbrev pub NoRoom : List ℕ → List ℕ → Session → List ℕ → ℕ → Type 0
+NoRoom table s z out p =
+    Ready table s z
+    × ((rs : List (Record Body ℕ)) × (z″ : Session) × (planOf (decode table) s z ≡ event p rs z″) × (length out < 16 * length rs))
+
+-- an event was read to its end: 0, or a number that is said of a whole event
+abbrev pub Through : ℕ → Type 0
+Through n = (n ≡ 0) ⊎ (((4 ≤ n) × (n ≤ 6)) ⊎ ((21 ≤ n) × (n ≤ 25)))
+
+-- a few bytes with which the step reads its event to the end, where the scene with them is not too long
+pub record Completes (table s : List ℕ) (z : Session) (out : List ℕ) : Type 0 where
+  pub more : List ℕ
+  pub few : length more ≤ 7
+  pub reads : length (s ++ more) ≤ longest → Through (stepOf table (s ++ more) z out .answer .number)
