@@ -1,7 +1,7 @@
 /*
  * calcivorne.h: the dispatcher for hosts in C and C++. This file is the manual of the interface.
  *
- * The library is target/staticlib/libcapi.a, for Linux on x86-64; `rt staticlib capi` makes it. examples/ has hosts in C, Rust and Python.
+ * The library is libcalcivorne.a, for Linux on x86-64; `./install PREFIX` puts it and this file under a prefix. examples/ has hosts in C, Rust and Python.
  *
  * SLICES. A run of bytes is passed as a pointer and a length. A length may be 0; the pointer must then not be NULL all the same. All the bytes of
  * a slice must be there to be read and, where the parameter is not const, to be written, and no two of a call's slices and arrays may overlap.
