@@ -11,8 +11,8 @@ use lib.Seq.{take-all, take-nil}
 use Rattle.compare.specs.Compare.{spanOf, spanStart, placeIn}
 
 module _ (s : List ℕ) (at n : ℕ) where
-  pub past : length s < at → [] ≡ spanOf s at n
-  past h = let k : length s ≤ at = omega arith in sym (ap (take n) (drop-of-length-le s k) ∙ take-nil n)
+  pub past : length s ≤ at → [] ≡ spanOf s at n
+  past h = sym (ap (take n) (drop-of-length-le s h) ∙ take-nil n)
 
   pub rest : length s - at ≤ n → take (length s - at) (drop at s) ≡ spanOf s at n
   rest h =

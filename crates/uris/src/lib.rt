@@ -68,8 +68,8 @@ pub fn uri_span(table: &[u8], scene: &[u8], class: u8, at: usize, len: usize) ->
 
 // The URI: the part of the table or of the scene that uri_span names, at its place and of its length.
 pub fn uri<'a>(table: &'a [u8], scene: &'a [u8], class: u8, at: usize, len: usize) -> &'a [u8]
-    ensures bytes { λ r. ⌜ now r ≡ uriOf (now (table .entry)) (now (scene .entry)) class at len ⌝ }
     ensures place { λ r. ⌜ r .ptr ≡ uriPlace (table .entry) (scene .entry) class at len ⌝ }
+    ensures bytes { λ r. ⌜ now r ≡ uriOf (now (table .entry)) (now (scene .entry)) class at len ⌝ }
 {
     let span = uri_span(table, scene, class, at, len);
     let source = span.source;

@@ -1,4 +1,5 @@
 -- `compare::part_of` meets its contract, at each of its ends.
+use native.Mathlib.Omega.{arith}
 use borrow.Author.Needs.{needs}
 use Rattle.compare.proofs.Span.{past, rest, within, at-start, at-place}
 use Rattle.compare.proofs.part_of.Statement.{statement}
@@ -8,7 +9,7 @@ slice-aggregate-result : tie.Need-slice-aggregate-result
 slice-aggregate-result c = search needs
 
 returns : tie.Need-returns
-returns c = search (past, at-start)
+returns c = let a = c .before .before .args in (past (a .s .now) (a .at) (a .n) (omega arith), at-start (a .s) (a .at) (omega arith))
 
 sub-result : tie.Need-sub-result
 sub-result c = search needs
