@@ -1,14 +1,15 @@
 // Bytes compared with bytes, and with the fixed byte strings that document 01 names.
 ghost use mathlib.Core.Path.{_≡_};
 ghost use Rattle.laws.specs.Lists.{sameList};
-ghost use Rattle.compare.specs.Compare.{spanOf, xmlUri, xmlnsUri};
+ghost use Rattle.compare.specs.Compare.{spanOf, spanStart, placeIn, xmlUri, xmlnsUri};
 
-// The n bytes of s from at on; where s has fewer, what it has.
+// The part of s from at on, of n bytes; where s has fewer, what it has. Past the end of s it is the empty part at the start of s.
 pub fn part_of(s: &[u8], at: usize, n: usize) -> &[u8]
-    ensures { λ r. ⌜ now r ≡ spanOf (now (s .entry)) at n ⌝ }
+    ensures bytes { λ r. ⌜ now r ≡ spanOf (now (s .entry)) at n ⌝ }
+    ensures place { λ r. ⌜ r .ptr ≡ placeIn (s .entry) (spanStart (now (s .entry)) at) ⌝ }
 {
     let len = s.len();
-    if len <= at {
+    if len < at {
         return &s[..0];
     }
     if len - at <= n {

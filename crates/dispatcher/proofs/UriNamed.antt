@@ -26,7 +26,7 @@ use Rattle.reader.specs.declared.Span.{Span}
 use Rattle.reader.proofs.TagMeaning.{NamespaceHeld}
 use Rattle.model.specs.Elements.{spaceOf}
 use Rattle.dispatcher.specs.Sessions.{levelUri}
-use Rattle.uris.specs.Uris.{stands, uriSpanOf, partBy, uriOf}
+use Rattle.uris.specs.Uris.{stands, uriSpanOf, sliceOf, uriOf}
 use Rattle.uris.specs.declared.UriSpan.{UriSpan}
 use Rattle.uris.specs.declared.Source.{Source}
 use Rattle.uris.specs.declared.Source.the-variants.{Table, Scene}
@@ -62,9 +62,9 @@ module _ (table : List ℕ) (a : Accepted table ≡ true) (s : List ℕ) where
   most = header-in table a .few-namespaces
 
   -- the bytes of the span that is named
-  as-part : (class at len : ℕ) (w : UriSpan) → w ≡ uriSpanOf table s class at len → uriOf table s class at len ≡ partBy table s (w .source) (w .at) (w .len)
+  as-part : (class at len : ℕ) (w : UriSpan) → w ≡ uriSpanOf table s class at len → uriOf table s class at len ≡ spanOf (sliceOf table s (w .source)) (w .at) (w .len)
   unfolding uriOf
-  as-part class at len w e = ap (λ (v : UriSpan). partBy table s (v .source) (v .at) (v .len)) (sym e)
+  as-part class at len w e = ap (λ (v : UriSpan). spanOf (sliceOf table s (v .source)) (v .at) (v .len)) (sym e)
 
   uri-listed : (class at len : ℕ) → 1 ≤ class → class ≤ headerOf table .namespaces → uriOf table s class at len ≡ getD (decode table .uris) (class - 1) []
   uri-listed class at len lo hi =

@@ -1,7 +1,9 @@
-// Runs samples D and E and those that are only run, and prints what they give, each under a heading.
+// Runs samples D and E and those that are only run, and looks URIs up; prints what they give, each under a heading.
+mod lookups;
 mod scenes;
 mod steps;
 
+use crate::lookups::look_ups;
 use crate::scenes::put;
 use crate::scenes::repeat;
 use crate::steps::cut_at_every_byte;
@@ -80,4 +82,5 @@ fn main() {
     whole_and_cut(t2, e, &mut out);
     runs(t, t2, &mut scene, &mut out);
     starts(t, a);
+    look_ups();
 }

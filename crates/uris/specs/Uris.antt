@@ -2,9 +2,10 @@
 use Prim.Native.Nat.{ℕ, _+_}
 use mathlib.Core.List.{List}
 use mathlib.Core.Bool.{Bool, cond, not, _&&_, _||_}
+use denote.Ref.{RefT, now}
 use lib.ListN.{length}
 use lib.Dec.{leb, ltb, eqb}
-use Rattle.compare.specs.Compare.{spanOf}
+use Rattle.compare.specs.Compare.{spanOf, placeIn}
 use Rattle.table.specs.Table.{headerOf}
 use Rattle.table.specs.Judge.{judged}
 use Rattle.table.specs.Places.{placeOf}
@@ -24,9 +25,15 @@ uriSpanOf table s class at len =
     (cond (leb 1 class && leb class (h .namespaces)) (stands Table (placeOf table h class .at) (placeOf table h class .len))
     (cond (eqb class 255 && leb (at + len) (length s)) (stands Scene at len) (stands Scene 0 0)))
 
-abbrev pub partBy : List ℕ → List ℕ → Source → ℕ → ℕ → List ℕ
-partBy table s Table at len = spanOf table at len
-partBy table s Scene at len = spanOf s at len
+-- "a part of one of two lent slices, table or scene": the slice
+abbrev pub sliceOf : {A : Type 0} → A → A → Source → A
+sliceOf table s Table = table
+sliceOf table s Scene = s
 
+-- the part's bytes
 unfoldable pub uriOf : List ℕ → List ℕ → ℕ → ℕ → ℕ → List ℕ
-uriOf table s class at len = let w = uriSpanOf table s class at len in partBy table s (w .source) (w .at) (w .len)
+uriOf table s class at len = let w = uriSpanOf table s class at len in spanOf (sliceOf table s (w .source)) (w .at) (w .len)
+
+-- where the part stands
+unfoldable pub uriPlace : RefT (List ℕ) → RefT (List ℕ) → ℕ → ℕ → ℕ → ℕ × ℕ
+uriPlace table s class at len = let w = uriSpanOf (now table) (now s) class at len in placeIn (sliceOf table s (w .source)) (w .at)

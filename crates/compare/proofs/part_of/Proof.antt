@@ -1,6 +1,7 @@
--- `compare::part_of` meets its contract, at each of the part's ends.
+-- `compare::part_of` meets its contract, at each of its ends.
+use native.Mathlib.Omega.{arith}
 use borrow.Author.Needs.{needs}
-use Rattle.compare.proofs.Span.{past, rest, within}
+use Rattle.compare.proofs.Span.{past, rest, within, at-start, at-place}
 use Rattle.compare.proofs.part_of.Statement.{statement}
 use Rattle.compare.proofs.part_of.Tie as tie
 
@@ -8,10 +9,7 @@ slice-aggregate-result : tie.Need-slice-aggregate-result
 slice-aggregate-result c = search needs
 
 returns : tie.Need-returns
-returns c = search past
-
-sub-if2 : tie.Need-sub-if2
-sub-if2 c = search needs
+returns c = let a = c .before .before .args in (past (a .s .now) (a .at) (a .n) (omega arith), at-start (a .s) (a .at) (omega arith))
 
 sub-result : tie.Need-sub-result
 sub-result c = search needs
@@ -23,7 +21,7 @@ part-result-end : tie.Need-part-result-end
 part-result-end c = search needs
 
 returns-2 : tie.Need-returns-2
-returns-2 c = search rest
+returns-2 c = search (rest, at-place)
 
 add-end : tie.Need-add-end
 add-end c = search needs
@@ -38,7 +36,7 @@ part-result-end-2 : tie.Need-part-result-end-2
 part-result-end-2 c = search needs
 
 returns-3 : tie.Need-returns-3
-returns-3 c = search within
+returns-3 c = search (within, at-place)
 
 pub part-of-spec : {M : Type 1} → statement M
 part-of-spec =
@@ -46,7 +44,6 @@ part-of-spec =
     (tie.spec
     slice-aggregate-result
     returns
-    sub-if2
     sub-result
     part-result-start
     part-result-end

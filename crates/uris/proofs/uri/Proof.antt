@@ -1,6 +1,6 @@
 -- `uris::uri` meets its contract: it gives the part that `uri_span` names.
 use borrow.Author.Needs.{needs}
-use Rattle.uris.proofs.UriSpans.{table-part, scene-part}
+use Rattle.uris.proofs.UriSpans.{table-place, scene-place, table-part, scene-part}
 use Rattle.uris.proofs.uri.Statement.{statement}
 use Rattle.uris.proofs.uri.Tie as tie
 
@@ -20,10 +20,10 @@ part-of-requires-2 : tie.Need-part-of-requires-2
 part-of-requires-2 c κs = search needs
 
 returns : tie.Need-returns
-returns c = search (table-part, scene-part)
+returns c = search (table-place, table-part)
 
 returns-2 : tie.Need-returns-2
-returns-2 c = search (table-part, scene-part)
+returns-2 c = search (scene-place, scene-part)
 
 pub uri-spec : {M : Type 1} → statement M
 uri-spec =

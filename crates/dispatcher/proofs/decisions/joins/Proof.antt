@@ -35,7 +35,7 @@ has-uri-requires c κs = search needs
 returns-2 : tie.Need-returns-2
 returns-2 c =
     let a = c .before .before .before .before .before .before .before .args in
-    by-uri (now (a .spaces)) (a .level) (a .placing .class) _ (c .before .before .before .before .before .space-at .ensures) _ _ _ _ _ _ (c .before .before .before .before .if1 .left) (c .before .before .before .space-at2 .ensures) (c .before .before .space-at3 .ensures) (c .before .part-of .ensures) (c .has-uri .ensures)
+    by-uri (now (a .spaces)) (a .level) (a .placing .class) _ (c .before .before .before .before .before .space-at .ensures) _ _ _ _ _ _ (c .before .before .before .before .if1 .left) (c .before .before .before .space-at2 .ensures) (c .before .before .space-at3 .ensures) (c .before .part-of .ensures .0) (c .has-uri .ensures)
 
 pub joins-spec : {M : Type 1} → statement M
 joins-spec =

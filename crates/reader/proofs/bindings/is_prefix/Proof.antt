@@ -14,7 +14,7 @@ same-requires : tie.Need-same-requires
 same-requires c κs = search needs
 
 returns : tie.Need-returns
-returns c = c .same .ensures ∙ rw (c .before .part-of .ensures, c .before .before .binding-in .ensures)
+returns c = c .same .ensures ∙ rw (c .before .part-of .ensures .0, c .before .before .binding-in .ensures)
 
 pub is-prefix-spec : {M : Type 1} → statement M
 is-prefix-spec = tie.close (tie.spec binding-in-requires part-of-requires same-requires returns)

@@ -67,12 +67,12 @@ returns-2 c = on-the-left _ _ _ _ found.Xml xmlUri _ (c .before .before .enum-to
 
 returns-3 : tie.Need-returns-3
 returns-3 c =
-    let u = uri-in _ _ _ _ (c .before .part-of .ensures) (c .before .before .binding-in .ensures) in
+    let u = uri-in _ _ _ _ (c .before .part-of .ensures .0) (c .before .before .binding-in .ensures) in
     on-the-left _ _ _ _ _ _ _ (c .before .before .before .before .before .f .given .1) u _ (c .same3 .ensures)
 
 returns-4 : tie.Need-returns-4
 returns-4 c =
-    let u = uri-in _ _ _ _ (c .before .part-of2 .ensures) (c .before .before .binding-in2 .ensures) in
+    let u = uri-in _ _ _ _ (c .before .part-of2 .ensures .0) (c .before .before .binding-in2 .ensures) in
     on-the-left _ _ _ _ _ _ _ (c .before .before .before .before .before .f2 .given .1) u _ (c .same4 .ensures)
 
 returns-5 : tie.Need-returns-5

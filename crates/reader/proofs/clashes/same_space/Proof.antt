@@ -72,13 +72,13 @@ returns-2 c =
 returns-3 : tie.Need-returns-3
 returns-3 c =
     let a = c .before .before .before .before .before .before .before .before .args in
-    let u = uri-in _ _ _ _ (c .before .part-of .ensures) (c .before .before .binding-in .ensures) in
+    let u = uri-in _ _ _ _ (c .before .part-of .ensures .0) (c .before .before .binding-in .ensures) in
     on-the-right (a .s .now) (a .own .now) (a .outer .now) _ _ _ _ (c .before .before .before .before .before .g .given .1) u (a .f) (c .has-uri3 .ensures)
 
 returns-4 : tie.Need-returns-4
 returns-4 c =
     let a = c .before .before .before .before .before .before .before .before .args in
-    let u = uri-in _ _ _ _ (c .before .part-of2 .ensures) (c .before .before .binding-in2 .ensures) in
+    let u = uri-in _ _ _ _ (c .before .part-of2 .ensures .0) (c .before .before .binding-in2 .ensures) in
     on-the-right (a .s .now) (a .own .now) (a .outer .now) _ _ _ _ (c .before .before .before .before .before .g2 .given .1) u (a .f) (c .has-uri4 .ensures)
 
 returns-5 : tie.Need-returns-5

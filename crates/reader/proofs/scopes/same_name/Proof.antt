@@ -14,7 +14,7 @@ same-requires : tie.Need-same-requires
 same-requires c κs = search needs
 
 returns : tie.Need-returns
-returns c = same-bytes _ _ _ _ _ (c .before .before .part-of .ensures) (c .before .part-of2 .ensures) (c .same .ensures)
+returns c = same-bytes _ _ _ _ _ (c .before .before .part-of .ensures .0) (c .before .part-of2 .ensures .0) (c .same .ensures)
 
 pub same-name-spec : {M : Type 1} → statement M
 same-name-spec = tie.close (tie.spec part-of-requires part-of-requires-2 same-requires returns)

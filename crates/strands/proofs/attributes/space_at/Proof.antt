@@ -13,12 +13,12 @@ class-of-requires c κs = search needs
 returns : tie.Need-returns
 returns c =
     let a = c .before .before .before .before .before .args in
-    placing-unlisted _ (a .s .now) (a .at) (a .len) _ _ (c .before .before .part-of .ensures) (c .before .class-of .ensures) (c .if1 .taken)
+    placing-unlisted _ (a .s .now) (a .at) (a .len) _ _ (c .before .before .part-of .ensures .0) (c .before .class-of .ensures) (c .if1 .taken)
 
 returns-2 : tie.Need-returns-2
 returns-2 c =
     let a = c .before .before .before .before .before .args in
-    placing-listed _ (a .s .now) (a .at) (a .len) _ _ (c .before .before .part-of .ensures) (c .before .class-of .ensures) (c .if1 .left)
+    placing-listed _ (a .s .now) (a .at) (a .len) _ _ (c .before .before .part-of .ensures .0) (c .before .class-of .ensures) (c .if1 .left)
 
 pub space-at-spec : {M : Type 1} → statement M
 space-at-spec = tie.close (tie.spec part-of-requires class-of-requires returns returns-2)
