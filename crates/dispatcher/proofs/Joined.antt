@@ -22,7 +22,7 @@ use Rattle.table.specs.Table.{Table, headerOf, decode, classOf}
 use Rattle.table.specs.Index.{indexOf}
 use Rattle.table.specs.Judge.{Accepted}
 use Rattle.table.proofs.Accepted.{header-in, all-listed}
-use Rattle.table.proofs.Namespaces.{class-of-listed}
+use Rattle.table.proofs.Namespaces.{class-of-listed, class-nil, class-xml}
 use Rattle.reader.specs.declared.Span.{Span}
 use Rattle.reader.specs.Spans.{bytesOf}
 use Rattle.reader.specs.Namespaces.{Namespace, uriOf}
@@ -41,14 +41,6 @@ use Rattle.dispatcher.proofs.Spaces.{uri-back, class-few}
 use Rattle.dispatcher.proofs.Deciding.{joinedBy, levelWords, nextEntries}
 
 -- ---- whether the element stays in its parent's section
-class-nil : (t : Table) → classOf t [] ≡ 0
-unfolding classOf
-class-nil t = refl
-
-class-xml : (t : Table) → classOf t xmlUri ≡ 254
-unfolding classOf
-class-xml t = rw (same-refl xmlUri)
-
 abbrev ClassIn : Table → ℕ → Type 0
 ClassIn t class = (class ≤ length (t .uris)) ⊎ ((class ≡ 254) ⊎ (class ≡ 255))
 

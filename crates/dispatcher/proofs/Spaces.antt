@@ -16,7 +16,7 @@ use Rattle.compare.proofs.Equal.{same-refl, same-eq}
 use Rattle.table.specs.Table.{Table, headerOf, decode, listedFrom, classOf}
 use Rattle.table.specs.Judge.{Accepted}
 use Rattle.table.proofs.Accepted.{header-in, all-listed}
-use Rattle.table.proofs.Namespaces.{listed-of-class, class-in}
+use Rattle.table.proofs.Namespaces.{listed-of-class, class-in, class-nil, class-xml}
 use Rattle.reader.specs.Spans.{bytesOf}
 use Rattle.reader.specs.Namespaces.{Namespace, nothing, xml, declared, uriOf}
 use Rattle.reader.specs.Held.{SpanHeld}
@@ -37,14 +37,6 @@ not-listed (v ∷ us) k u c lo hi o e = by (sameList v u) (not-listed us (k + 1)
 nil : (u : List ℕ) → length u ≡ 0 → u ≡ []
 nil [] e = refl
 nil (x ∷ u) e = absurd (omega arith)
-
-class-nil : (t : Table) → classOf t [] ≡ 0
-unfolding classOf
-class-nil t = refl
-
-class-xml : (t : Table) → classOf t xmlUri ≡ 254
-unfolding classOf
-class-xml t = rw (same-refl xmlUri)
 
 module _ (table : List ℕ) (a : Accepted table ≡ true) where
   abbrev t : Table

@@ -52,7 +52,6 @@ use Rattle.reader.specs.Scope.{opensIn, opensOf}
 use Rattle.reader.specs.Held.{SpanHeld}
 use Rattle.reader.proofs.Numbers.{InRange, attribute-in-range}
 use Rattle.reader.proofs.LaidBack.{small-declared}
-use Rattle.reader.proofs.Pairs.{keptOf}
 use Rattle.reader.proofs.AgreeWhole.{attributesIn, asMeaning, meaning-agrees}
 use Rattle.reader.proofs.TagMeaning.{NamespaceHeld, AttributeHeld, MeaningHeld, meaning-held}
 use Rattle.reader.proofs.Held.{bindings-in}
@@ -69,6 +68,7 @@ use Rattle.strands.specs.Entries.{entryIn, entriesIn}
 use Rattle.strands.specs.Attributes.{Sorted, namespaceOf, delivered, placingOf}
 use Rattle.strands.specs.Writing.{strandUnits, tagUnits}
 use Rattle.strands.proofs.Numbered.{allOf, element-classed}
+use Rattle.strands.proofs.Sorted.{kept-are}
 use Rattle.strands.proofs.StartRecords.{tag-units-are}
 use Rattle.dispatcher.specs.Sessions.{classIn, strandCount, levelIn, sessionOf, readerOf, stateOf}
 use Rattle.dispatcher.specs.Stepping as plan
@@ -247,20 +247,6 @@ pub placing-is : (table : List ℕ) (header : Header) (index s : List ℕ) (z : 
 placing-is table header index s z r n w e = e ∙ ap (λ (x : Header). placingOf (elements.spaceOf (tableOf table x) s n)) (r .header-is)
 
 -- ---- a tag that was read
--- the attributes that are no declarations
-kept-those : {A B : Type 0} (d : A → Bool) (g : A → B) (l : List A) → gather (keptOf d g) l ≡ map g (keep (λ (x : A). not (d x)) l)
-unfolding gather keep
-kept-those d g [] = refl
-kept-those {A} {B} d g (x ∷ l) = by (d x) (kept-those d g l)
-  where
-    by : (b : Bool) → gather (keptOf d g) l ≡ map g (keep (λ (y : A). not (d y)) l)
-        → cond b [] (g x ∷ []) ++ gather (keptOf d g) l ≡ map g (cond (not b) (x ∷ keep (λ (y : A). not (d y)) l) (keep (λ (y : A). not (d y)) l))
-    by true e = e
-    by false e = ap (λ (r : List B). g x ∷ r) e
-
-pub attributes-told : (s own outer : List ℕ) (l : List Coded) → attributesIn s own outer l ≡ map (λ (c : Coded). attribute (c .attr) (namespaceOf own outer (c .code))) (keep (delivered s) l)
-attributes-told s own outer l = kept-those (λ (c : Coded). isDeclaration (kindOf s (c .attr .name))) (λ (c : Coded). attribute (c .attr) (spaceOf own outer (foundIn (c .code)))) l
-
 -- their codes are small
 all-drop : {A : Type 0} (P : A → Type 0) (n : ℕ) (l : List A) → All P l → All P (drop n l)
 all-drop P zero l h = h
@@ -375,7 +361,7 @@ module _ (table : List ℕ) (header : Header) (index s : List ℕ) (head : Head)
           name-inside = omega (arith, n .inside, n .some, n .onward, n .begins);
           part-inside = omega (arith, n .inside, n .some);
           uri-inside = space-inside s (spaceOf own bindings f) (element-in .0);
-          attributes-inside = subst (All (λ (a : Attribute). SpanHeld s (a .part) × SpanHeld s (a .value) × SpanHeld s (uriSpan (a .namespace)))) (attributes-told s own bindings (coded all codes)) (each-map (AttributeHeld s) _ (λ a x. (x .part, x .value, space-inside s (a .namespace) (x .namespace))) (attributesIn s own bindings (coded all codes)) (element-in .1));
+          attributes-inside = subst (All (λ (a : Attribute). SpanHeld s (a .part) × SpanHeld s (a .value) × SpanHeld s (uriSpan (a .namespace)))) (kept-are s own bindings (coded all codes)) (each-map (AttributeHeld s) _ (λ a x. (x .part, x .value, space-inside s (a .namespace) (x .namespace))) (attributesIn s own bindings (coded all codes)) (element-in .1));
           few-codes = small-codes all codes codes-few;
         }
 
@@ -384,7 +370,7 @@ module _ (table : List ℕ) (header : Header) (index s : List ℕ) (head : Head)
     tag-plan =
         ap (planBy t₂ s z₂) (read-as ∙ ap (λ (x : Meant). startMeant at (opensOf (z₂ .scope)) tag (asMeaning own bindings (attributesIn s own bindings (coded all codes)) ds x)) q)
         ∙ ap (λ (as′ : List Attribute). startPlan t₂ s z₂ (record { at = at; name = wholeSpan (tag .name); part = partSpan (tag .name); namespace = spaceOf own bindings f; attributes = as′; empty = tag .empty }) ds (tag .next))
-        (attributes-told s own bindings (coded all codes))
+        (kept-are s own bindings (coded all codes))
 
   -- 5 and 6
   pub undeclared-plan : m ≡ told.Undeclared → planBy t₂ s z₂ (startRead s at (opensOf (z₂ .scope)) (tagAt s (at + 1)) (tagged.Got tag)) ≡ plan.refused 5 at

@@ -169,7 +169,7 @@ pub fn open_level(
         → placing ≡ placingOf (elements.spaceOf t s (spaceOf (now (own .entry)) (now (bindings .entry)) found))
         → DecidedAs t s z (elements.elementOf t s e) decided (now (words .entry)) (now (schemas .entry)) (now (attributes .entry)) (now (sections .entry))
         → stepBy r (now (levels .exit)) (now (bindings .exit)) (now (spaces .exit)) (now (strands .exit)) (now (out .exit))
-        ≡ planned (startPlan t s z e (record { name = wholeSpan (tag .name); declarations = ds }) (tag .next)) z (now (out .entry))
+        ≡ planned (startPlan t s z e ds (tag .next)) z (now (out .entry))
         )) ⌝ }
 {
     let number = decided.number;

@@ -55,7 +55,7 @@ fn element_turn(
         let t = decode (now (table .entry)) in
         let z = sessionOf head (now (levels .entry)) (now (bindings .entry)) (now (spaces .entry)) (now (strands .entry)) in
         stepBy r (now (levels .exit)) (now (bindings .exit)) (now (spaces .exit)) (now (strands .exit)) (now (out .exit))
-        ≡ planned (startPlan t s z (startOf s (now (bindings .entry)) (now (own .entry)) (now (attrs .entry)) (now (codes .entry)) at tag found) (record { name = wholeSpan (tag .name); declarations = declarationsOf s (attrsIn (now (attrs .entry)) (tag .count)) }) (tag .next)) z (now (out .entry))
+        ≡ planned (startPlan t s z (startOf s (now (bindings .entry)) (now (own .entry)) (now (attrs .entry)) (now (codes .entry)) at tag found) (declarationsOf s (attrsIn (now (attrs .entry)) (tag .count))) (tag .next)) z (now (out .entry))
         ) ⌝ }
 {
     if Session::DEPTH <= head.depth {

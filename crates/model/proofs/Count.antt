@@ -43,11 +43,11 @@ module _ {A B : Type 0} where
   total-gathered g f (x ∷ xs) = total-append g (f x) (gather f xs) ∙ rw (total-gathered g f xs)
 
 module _ {B U : Type 0} where
-  length-give : (t : Option U) (ps : List (Piece B)) → length (give t ps) ≡ elim t [ none ↦ 0 | some u ↦ length ps ]
+  pub length-give : (t : Option U) (ps : List (Piece B)) → length (give t ps) ≡ elim t [ none ↦ 0 | some u ↦ length ps ]
   length-give none ps = refl
   length-give (some u) ps = length-map ps (λ p. record { unit = u; piece = p })
 
-  length-attributes : (ν : ℕ → U) (j : ℕ) (xs : List (AttributeUnit B)) → length (attributesFrom ν j xs) ≡ total attributeCount xs
+  pub length-attributes : (ν : ℕ → U) (j : ℕ) (xs : List (AttributeUnit B)) → length (attributesFrom ν j xs) ≡ total attributeCount xs
   unfolding total
   length-attributes ν j [] = refl
   length-attributes ν j (a ∷ rest) =

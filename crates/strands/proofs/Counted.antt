@@ -19,7 +19,7 @@ use Rattle.table.specs.declared.Rule.{Rule}
 use Rattle.model.specs.Theory.{AttributeUnit, Piece, opens, holds}
 use Rattle.model.specs.Stream.{Entry, give, attributesFrom}
 use Rattle.model.specs.Records.{Body, virtualEnd}
-use Rattle.model.proofs.Count.{attributeCount, length-gathered}
+use Rattle.model.proofs.Count.{attributeCount, length-gathered, length-give, length-attributes}
 use Rattle.strands.specs.Packed.{strandIn, receives, isUnit}
 use Rattle.strands.specs.Rules.{rulesIn, opened, unitsFor}
 use Rattle.strands.specs.Attributes.{Sorted}
@@ -38,18 +38,6 @@ module _ {A : Type 0} where
   total-times g k (x ∷ xs) = ap (λ (n : ℕ). g x * k + n) (total-times g k xs) ∙ sym (add-mul (g x) (total g xs) k)
 
 -- ---- the records of attribute units
-length-give : (u : ℕ) (ps : List (Piece Body)) → length (give (some u) ps) ≡ length ps
-length-give u ps = length-map ps (λ (p : Piece Body). record { unit = u; piece = p })
-
-length-attributes : (ν : ℕ → ℕ) (u : ℕ) (xs : List (AttributeUnit Body)) → length (attributesFrom ν u xs) ≡ total attributeCount xs
-unfolding total
-length-attributes ν u [] = refl
-length-attributes ν u (a ∷ rest) =
-    let pieces : List (Piece Body) = opens (a .opening) ∷ map holds (a .held ++ (a .closing ∷ [])) in
-    let held : length (map holds (a .held ++ (a .closing ∷ []))) ≡ length (a .held) + 1 = length-map (a .held ++ (a .closing ∷ [])) holds ∙ length-append (a .held) (a .closing ∷ []) in
-    length-append (give (some (ν u)) pieces) (attributesFrom ν (suc u) rest)
-    ∙ omega (arith, held, length-give (ν u) pieces, length-attributes ν (suc u) rest)
-
 -- two records to an attribute
 bodies-length : (l : List Sorted) → length (gather sortedBodies l) ≡ 2 * length l
 unfolding gather
@@ -130,9 +118,9 @@ module _ (index : List ℕ) (at : ℕ) (b : Body) (l : List Sorted) where
       by : (t : Option ℕ) (here : Bool) → length (give t (opensWith at (e .schema) here ++ map holds (b ∷ bodies))) ≡ cond (isUnit t) (cond here 1 0 + (1 + 2 * length kept)) 0
       by none here = refl
       by (some u) true =
-          omega (arith, bodies-length kept, length-map bodies holds, length-give u (map holds bodies))
+          omega (arith, bodies-length kept, length-map bodies holds, length-give (some u) (map holds bodies))
       by (some u) false =
-          omega (arith, bodies-length kept, length-map bodies holds, length-give u (map holds bodies))
+          omega (arith, bodies-length kept, length-map bodies holds, length-give (some u) (map holds bodies))
 
   pub elements-length : (es : List Entry) → length (gather (elementRecords index at b l) es) ≡ total (elementCount index l) es
   elements-length = length-gathered (elementRecords index at b l) (elementCount index l) element-length

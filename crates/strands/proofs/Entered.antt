@@ -1,5 +1,5 @@
 -- The strands that the arrays hold at a start are the stream's.
---     rules-in, take-rules-are, before-root, stay-are       what the rules make, and what stays
+--     take-rules-are, before-root, stay-are       what the rules make, and what stays
 --     unnumbered-*, schemas-*, packable-*                    what holds of each
 --     here-count, entries-back, laid-back                    counted, and read back from the arrays
 --     allot-*                                                after the new units have their numbers
@@ -37,6 +37,7 @@ use Rattle.strands.specs.Packed.{strandIn, packed}
 use Rattle.strands.specs.Rules.{rulesIn}
 use Rattle.strands.specs.Entries.{madeBy, entriesBy, entriesFrom, stayEntry, strandWord, schemaWord, entryIn, entriesIn, aimedAt, hereCount, Unnumbered}
 use Rattle.strands.proofs.Packing.{Below, Packable, packed-back}
+use Rattle.strands.proofs.StartRecords.{rules-in}
 use Rattle.strands.proofs.UnitNumbers.{here-back, allot-yes, allot-no}
 
 -- five bits for a mode, sixteen for a target
@@ -58,15 +59,11 @@ root-back = refl
 
 -- ---- the model's
 module _ (table : List ℕ) (h : Header) (few : h .rules ≤ 128) where
-  pub rules-in : (mode kind class : ℕ) → mode < 32 → kind < 2 → class < 256 → rulesIn (indexOf table h) mode kind class ≡ rulesOf (tableOf table h) mode kind class
-  unfolding rulesIn
-  rules-in mode kind class m k c = chosen-rules table h few mode kind class m k c
-
   module _ (σ : Element) (c : σ .space .class < 256) where
     -- of a strand
     pub entries-are : (r : Strand ℕ) → r .mode < 32 → entriesBy (indexOf table h) (σ .space .class) r ≡ map (madeBy r) (taken (dispatch (tableOf table h)) (r .mode) σ)
     unfolding entriesBy
-    entries-are r m = ap (λ (rs : List Rule). map (madeBy r) (orElse rs (fallback 0 (r .mode) ∷ []))) (rules-in (r .mode) 0 (σ .space .class) m (omega arith) c)
+    entries-are r m = ap (λ (rs : List Rule). map (madeBy r) (orElse rs (fallback 0 (r .mode) ∷ []))) (rules-in table h few (r .mode) 0 (σ .space .class) m (omega arith) c)
 
     pub take-rules-are : (words : List ℕ) → entriesFrom (indexOf table h) (σ .space .class) words ≡ takeRules (dispatch (tableOf table h)) σ (map strandIn words)
     unfolding gather

@@ -22,6 +22,7 @@ use Rattle.laws.proofs.Lists.{tabulate-here, tabulate-done}
 use Rattle.compare.specs.Compare.{spanOf, xmlUri}
 use Rattle.compare.proofs.Equal.{same-refl}
 use Rattle.table.specs.Table.{Table, classOf}
+use Rattle.table.proofs.Namespaces.{class-nil, class-xml}
 use Rattle.lexer.specs.declared.Attr.{Attr}
 use Rattle.lexer.specs.Attrs.{attrIn, attrsIn}
 use Rattle.reader.specs.declared.Binding.{Binding}
@@ -37,14 +38,6 @@ use Rattle.strands.specs.declared.Placing.{Placing}
 use Rattle.strands.specs.Attributes.{Given, namespaceOf, givenOf, givenBy, placingOf, delivered, givensOf, numbersOf, laidGivens, givenIn, codeNamespaces}
 
 -- ---- namespaces
-class-nil : (t : Table) → classOf t [] ≡ 0
-unfolding classOf
-class-nil t = refl
-
-class-xml : (t : Table) → classOf t xmlUri ≡ 254
-unfolding classOf
-class-xml t = rw (same-refl xmlUri)
-
 abbrev pub placing : ℕ → ℕ → ℕ → Placing
 placing class at len = record { class = class; at = at; len = len }
 

@@ -2,6 +2,7 @@
 --     spans, places-inside, place-span     the part of the table at a listed URI's place is the URI
 --     class-of-listed, listed-of-class     in an accepted table the class of a listed URI is its place, from 1, and back
 --     one-class                            two URIs of one listed class are equal
+--     class-nil, class-xml                 the classes of no namespace and of xml's
 use Prim.Native.Nat.{ℕ, zero, suc, _+_, _-_, _*_, _≤_, _<_}
 use mathlib.Core.Path.{_≡_, refl, sym, ap, _∙_}
 use mathlib.Core.List.{List, [], _∷_, map}
@@ -26,6 +27,15 @@ use Rattle.table.specs.declared.Header.{Header}
 use Rattle.table.specs.declared.Listed.{Listed}
 use Rattle.table.proofs.Walk.{uriAt, last-uri, last-place, first-uri, first-place, place-inside}
 use Rattle.table.proofs.Accepted.{header-in, all-listed, no-pair, no-xml, not-empty, uri-in}
+
+-- the classes of no namespace and of xml's
+pub class-nil : (t : Table) → classOf t [] ≡ 0
+unfolding classOf
+class-nil t = refl
+
+pub class-xml : (t : Table) → classOf t xmlUri ≡ 254
+unfolding classOf
+class-xml t = rw (same-refl xmlUri)
 
 module _ (t : List ℕ) where
   abbrev pub spanAt : Listed → List ℕ
