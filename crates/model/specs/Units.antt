@@ -1,0 +1,25 @@
+-- 'Records': a unit of a document, its number, its records in the list. Definitions.
+use mathlib.Core.Path.{_≡_}
+use mathlib.Core.Bool.{Bool, cond}
+use mathlib.Core.List.{List, [], _∷_}
+use mathlib.Core.Logic.{_⊎_}
+use mathlib.Core.Option.{some}
+use Prim.Native.Nat.{ℕ}
+use Rattle.laws.specs.Gather.{gather}
+use Rattle.laws.specs.Members.{In}
+use Rattle.model.specs.Theory.{Piece, Record, Theory}
+use Rattle.model.specs.Tree.{Tree}
+use Rattle.model.specs.Model.{WholeUnit, Strand, Assigned, opened, numberIn, assigned, cells}
+
+-- The pieces of those records, in their order, whose unit passes a test.
+abbrev pub ofUnit : {B U : Type 0} → (U → Bool) → List (Record B U) → List (Piece B)
+ofUnit test = gather (λ p. cond (test (p .unit)) (p .piece ∷ []) [])
+
+module _ (Θ : Theory) where
+  -- A unit of a document: of some event an attribute unit, or the target of a strand.
+  abbrev pub UnitOf : Tree Θ → WholeUnit (Θ .Body) → Type 0
+  UnitOf t u = (x : Assigned (Θ .Body)) × In x (assigned Θ t) × (In u (x .attributes) ⊎ ((s : Strand (Θ .Body)) × In s (x .strands) × (s .target ≡ some u)))
+
+  -- "a unit's number is how many opens come before its own".
+  abbrev pub numberOf : Tree Θ → WholeUnit (Θ .Body) → ℕ
+  numberOf t u = numberIn (opened (gather (λ x. x) (cells Θ t))) (u .key)
