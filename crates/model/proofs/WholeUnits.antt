@@ -1,0 +1,214 @@
+-- Every unit of a document is in the list whole: event by event the list has what the unit has.
+use mathlib.Core.Path.{_≡_, refl, sym, ap, subst, _∙_}
+use mathlib.Core.Bool.{true, false, false≢true}
+use mathlib.Core.List.{List, [], _∷_, _++_, map, tail}
+use mathlib.Core.Logic.{inl, inr}
+use mathlib.Core.Option.{some, Option·some-injective, Option·none-ne-some}
+use Prim.Native.Nat.{ℕ, suc, _≤_, _<_}
+use native.Mathlib.Omega.{arith}
+use Rattle.laws.specs.Gather.{gather}
+use Rattle.laws.proofs.Members.{all-at, all-by}
+use Rattle.model.specs.Theory.{Attach, Unwrap, Validate, Action, Rule, Piece, opens, holds, Theory, taken}
+use Rattle.model.specs.Tree.{Tree}
+use Rattle.model.specs.Sections.{AttributeSection, Tags, Content, empty, ownText, ownElement, slot, tagsOf, size, divide, divideTree}
+use Rattle.model.specs.Model.{Key, attributeUnit, Marked, WholeUnit, marked, attributeUnitsFrom, startPieces, virtualPieces, attributePieces, filling, unitOf, Strand, Assigned, at, beforeRoot, along, enter, attributesOf, assign, recordsAt, assigned, cells, OneKeeps}
+use Rattle.model.specs.Units.{UnitOf}
+use Rattle.model.proofs.Lists.{In, gather-same-on, gather-map, map-gather, All, Distinct, all-append, all-weaken, all-both, all-gather, every, gather-distinct, keysFrom, OneAt, one-tagged, Consecutive, consecutive-append}
+use Rattle.model.proofs.Events.{atEvent, Within, within-widen, within-marked, at-before, at-behind, bracket, bracket-within, bracket-inside, Rising, rising-from, rising-marked, bracket-rising, event-by-event}
+use Rattle.model.proofs.Divide.{Divided, divided, divided-up}
+use Rattle.model.proofs.Slots.{filling-within, filling-rising, new-pieces}
+use Rattle.model.proofs.Keys.{eventOf, choicesOf, ofAttributes, attribute-keys-distinct, choices-bear, choices-distinct}
+use Rattle.model.proofs.Shown.{ofKey, of-gather, Shown, Other, ForTarget, shown-by-strand, shown-by-attribute, shown-nowhere, attributes-keyed, Made, made-target, enter-made, Nothing, Elsewhere, Holder, other-attributes, carried-shown, not-shown}
+use Rattle.model.proofs.Numbers.{StartsOpen}
+
+-- A unit that opens, and has its pieces in their order, at the events from lo on and before hi.
+pub record Spans {B : Type 0} (lo hi : ℕ) (u : WholeUnit B) : Type 0 where
+  pub from : lo ≤ eventOf (u .key)
+  pub before : eventOf (u .key) < hi
+  pub begins : StartsOpen (map (λ p. p .piece) (u .pieces))
+  pub within : Within lo hi (u .pieces)
+  pub rising : Rising lo (u .pieces)
+
+module _ {B : Type 0} where
+  spans-widen : (lo hi lo′ hi′ : ℕ) → lo′ ≤ lo → hi ≤ hi′ → (u : WholeUnit B) → Spans lo hi u → Spans lo′ hi′ u
+  spans-widen lo hi lo′ hi′ a b u s = record {
+    from = omega (arith, s .from);
+    before = omega (arith, s .before);
+    begins = s .begins;
+    within = within-widen lo hi lo′ hi′ a b (u .pieces) (s .within);
+    rising = rising-from lo lo′ a (u .pieces) (s .rising);
+  }
+
+  -- An element unit that opens before event i.
+  abbrev Old : ℕ → WholeUnit B → Type 0
+  Old i v = (eventOf (v .key) < i) × (ofAttributes (v .key) ≡ false)
+
+  -- What holds of every unit of an event.
+  abbrev Each : (WholeUnit B → Type 0) → Assigned B → Type 0
+  Each P x = All P (x .attributes) × All (ForTarget P) (x .strands)
+
+  old-later : (i j : ℕ) → i ≤ j → (ss : List (Strand B)) → All (ForTarget (Old i)) ss → All (ForTarget (Old j)) ss
+  old-later i j l = all-weaken (ForTarget (Old i)) (ForTarget (Old j)) (λ s h v p. (omega (arith, (h v p) .0), (h v p) .1))
+
+  old-other : (i : ℕ) (u : WholeUnit B) → i ≤ eventOf (u .key) → (ss : List (Strand B)) → All (ForTarget (Old i)) ss → All (ForTarget (Other u)) ss
+  old-other i u l = all-weaken (ForTarget (Old i)) (ForTarget (Other u)) (λ s h v p x. omega (arith, (h v p) .0, ap eventOf x))
+
+  attribute-other : (i : ℕ) (u : WholeUnit B) → ofAttributes (u .key) ≡ true → (ss : List (Strand B)) → All (ForTarget (Old i)) ss → All (ForTarget (Other u)) ss
+  attribute-other i u a = all-weaken (ForTarget (Old i)) (ForTarget (Other u)) (λ s h v p x. false≢true (sym ((h v p) .1) ∙ sym (ap ofAttributes x) ∙ a))
+
+  spans-before : (lo hi : ℕ) (u : WholeUnit B) → Spans lo hi u → (i n : ℕ) → n ≤ lo → Elsewhere u i n × Nothing u i n
+  spans-before lo hi u s i n l = (λ k a b x. omega (arith, s .from, x), λ k a b. at-before k lo hi (u .pieces) (omega arith) (s .within))
+
+  spans-behind : (lo hi : ℕ) (u : WholeUnit B) → Spans lo hi u → (i n : ℕ) → hi ≤ i → Elsewhere u i n × Nothing u i n
+  spans-behind lo hi u s i n l = (λ k a b x. omega (arith, s .before, x), λ k a b. at-behind k lo hi (u .pieces) (omega arith) (s .within))
+
+  -- Attribute units.
+  attributes-span : (i : ℕ) (cs : List ℕ) (j : ℕ) (xs : List (List (Piece B))) → All StartsOpen xs → All (Spans i (suc i)) (attributeUnitsFrom i cs j xs)
+  attributes-span i cs j [] h = tt
+  attributes-span i cs j (x ∷ xs) h = (record { from = omega arith; before = omega arith; begins = go x (h .0); within = within-marked i (suc i) i (omega arith) (omega arith) x; rising = rising-marked i x }, attributes-span i cs (suc j) xs (h .1))
+    where
+      go : (ps : List (Piece B)) → StartsOpen ps → StartsOpen (map (λ p. p .piece) (marked i ps))
+      go [] s = s
+      go (opens b ∷ ps) s = tt
+      go (holds b ∷ ps) s = s
+
+  attributes-keys : (i : ℕ) (cs : List ℕ) (j : ℕ) (xs : List (List (Piece B))) → map (λ v. v .key) (attributeUnitsFrom i cs j xs) ≡ keysFrom (attributeUnit i cs) j xs
+  attributes-keys i cs j [] = refl
+  attributes-keys i cs j (x ∷ xs) = rw (attributes-keys i cs (suc j) xs)
+
+  keyed-choices : (i : ℕ) (cs : List ℕ) (j : ℕ) (xs : List (List (Piece B))) → All (λ k. choicesOf k ≡ cs) (keysFrom (attributeUnit i cs) j xs)
+  keyed-choices i cs j [] = tt
+  keyed-choices i cs j (x ∷ xs) = (refl, keyed-choices i cs (suc j) xs)
+
+module _ (Θ : Theory) where
+  abbrev choicesOn : Strand (Θ .Body) → List ℕ
+  choicesOn s = s .choices
+
+  attributes-begin : (m : ℕ) (σ : Θ .StartInfo) (cs : List (AttributeSection Θ)) → All StartsOpen (attributePieces Θ m σ cs)
+  attributes-begin m σ cs = all-gather (StartsOpen {B = Θ .Body}) _ cs (every (λ c. all-gather (StartsOpen {B = Θ .Body}) _ (Θ .attributeRules m (c .first)) (every (λ q. go c (q .schema) (q .action)) (Θ .attributeRules m (c .first)))) cs)
+    where
+      go : (c : AttributeSection Θ) (schema : ℕ) (a : Action) → All (StartsOpen {B = Θ .Body}) (elim a [ Attach ↦ [] | Unwrap ↦ [] | Validate ↦ virtualPieces Θ σ c schema ∷ [] ])
+      go c schema Attach = tt
+      go c schema Unwrap = tt
+      go c schema Validate = (tt, tt)
+
+  element-attributes-span : (e : Tags Θ) (ss : List (Strand (Θ .Body))) → All (Spans (e .startAt) (suc (e .startAt))) (attributesOf Θ e ss)
+  element-attributes-span e ss = all-gather (Spans (e .startAt) (suc (e .startAt))) _ ss
+      (every (λ s. attributes-span (e .startAt) (s .choices) 0 (attributePieces Θ (s .mode) (e .start) (e .sections)) (attributes-begin (s .mode) (e .start) (e .sections))) ss)
+
+  attributes-distinct : (e : Tags Θ) (ss : List (Strand (Θ .Body))) → Distinct (map choicesOn ss) → Distinct (map (λ v. v .key) (attributesOf Θ e ss))
+  attributes-distinct e ss d =
+      let pieces : Strand (Θ .Body) → List (List (Piece (Θ .Body))) = λ s. attributePieces Θ (s .mode) (e .start) (e .sections) in
+      rw (map-gather (λ (v : WholeUnit (Θ .Body)). v .key) (λ s. attributeUnitsFrom (e .startAt) (s .choices) 0 (pieces s)) ss)
+      (gather-distinct (λ s. map (λ v. v .key) (attributeUnitsFrom (e .startAt) (s .choices) 0 (pieces s))) choicesOn choicesOf
+      (λ s. rw (attributes-keys (e .startAt) (s .choices) 0 (pieces s)) (keyed-choices (e .startAt) (s .choices) 0 (pieces s)))
+      (λ s. rw (attributes-keys (e .startAt) (s .choices) 0 (pieces s)) (attribute-keys-distinct (e .startAt) (s .choices) (pieces s))) ss d)
+
+  -- The strands of a section differ in their choices.
+  along-choices : (e : Tags Θ) (inner : Content Θ) (s : Strand (Θ .Body)) (j : ℕ) (qs : List Rule) → map choicesOn (along Θ e inner s j qs) ≡ keysFrom (λ n. n ∷ s .choices) j qs
+  along-choices e inner s j [] = refl
+  along-choices e inner s j (q ∷ qs) = rw (along-choices e inner s (suc j) qs)
+
+  enter-differs : (e : Tags Θ) (inner : Content Θ) (ss : List (Strand (Θ .Body))) → Distinct (map choicesOn ss) → Distinct (map choicesOn (enter Θ e inner ss))
+  enter-differs e inner ss d = rw (map-gather choicesOn (λ s. along Θ e inner s 0 (taken Θ (s .mode) (e .start))) ss)
+      (gather-distinct (λ s. map choicesOn (along Θ e inner s 0 (taken Θ (s .mode) (e .start)))) choicesOn (λ c. tail c)
+      (λ s. rw (along-choices e inner s 0 (taken Θ (s .mode) (e .start))) (choices-bear (s .choices) (taken Θ (s .mode) (e .start))))
+      (λ s. rw (along-choices e inner s 0 (taken Θ (s .mode) (e .start))) (choices-distinct (s .choices) (taken Θ (s .mode) (e .start)))) ss d)
+
+  -- The events of a content, one after the other.
+  pub in-turn : (c : Content Θ) (κ : Θ .Kept) (i n : ℕ) → Divided Θ κ i n c → (ss : List (Strand (Θ .Body))) → Consecutive (λ x. x .event) i n (assign Θ c ss)
+  in-turn empty κ i n d ss = d
+  in-turn (ownText k τ rest) κ i n d ss = (sym (d .0), subst (λ j. Consecutive (λ x. x .event) (suc j) n (assign Θ rest ss)) (sym (d .0)) (in-turn rest κ (suc k) n (d .1) ss))
+  in-turn (ownElement e inner rest) κ i n d ss = (
+    sym (d .0),
+    subst (λ j. Consecutive (λ x. x .event) (suc j) n (assign Θ inner ss ++ (at (e .endAt) [] ss ∷ assign Θ rest ss))) (sym (d .0))
+        (consecutive-append (λ x. x .event) (suc (e .startAt)) (e .endAt) n (assign Θ inner ss) (at (e .endAt) [] ss ∷ assign Θ rest ss) (in-turn inner (Θ .keep (e .start)) (suc (e .startAt)) (e .endAt) (d .2) ss) (refl, in-turn rest κ (suc (e .endAt)) n (d .3) ss)),
+  )
+  in-turn (slot e inner rest) κ i n d ss =
+      let new : List (Strand (Θ .Body)) = enter Θ e inner ss in (
+        sym (d .0),
+        subst (λ j. Consecutive (λ x. x .event) (suc j) n (assign Θ inner new ++ (at (e .endAt) [] new ∷ assign Θ rest ss))) (sym (d .0))
+            (consecutive-append (λ x. x .event) (suc (e .startAt)) (e .endAt) n (assign Θ inner new) (at (e .endAt) [] new ∷ assign Θ rest ss) (in-turn inner (Θ .keep (e .start)) (suc (e .startAt)) (e .endAt) (d .2) new) (refl, in-turn rest κ (suc (e .endAt)) n (d .3) ss)),
+      )
+
+  -- A unit that opens in a content, and what the list has of it there.
+  record Local (c : Content Θ) (i n : ℕ) (ss : List (Strand (Θ .Body))) (u : WholeUnit (Θ .Body)) : Type 0 where
+    spans : Spans i n u
+    shown : All (Shown u) (assign Θ c ss)
+
+  module _ (one : (m : ℕ) (σ : Θ .StartInfo) → OneKeeps (Θ .rulesFor m σ)) where
+    -- An element with the strands es, and what stands behind it with the strands ss.
+    module _ (e : Tags Θ) (inner rest : Content Θ) (κ : Θ .Kept) (n : ℕ) (di : Divided Θ (Θ .keep (e .start)) (suc (e .startAt)) (e .endAt) inner) (dr : Divided Θ κ (suc (e .endAt)) n rest)
+        (es ss : List (Strand (Θ .Body))) (oe : All (ForTarget (Old (suc (e .startAt)))) es) (os : All (ForTarget (Old (e .startAt))) ss) where
+      abbrev element : List (Assigned (Θ .Body))
+      element = at (e .startAt) (attributesOf Θ e es) es ∷ assign Θ inner es ++ (at (e .endAt) [] es ∷ assign Θ rest ss)
+
+      -- A unit that opens in it or behind it.
+      record InElement (u : WholeUnit (Θ .Body)) : Type 0 where
+        spans : Spans (e .startAt) n u
+        shown : All (Shown u) element
+
+      l : e .startAt < e .endAt
+      l = divided-up Θ inner (Θ .keep (e .start)) (suc (e .startAt)) (e .endAt) di
+
+      up : e .endAt < n
+      up = divided-up Θ rest κ (suc (e .endAt)) n dr
+
+      joined : (u : WholeUnit (Θ .Body)) → Shown u (at (e .startAt) (attributesOf Θ e es) es) → All (Shown u) (assign Θ inner es) → Shown u (at (e .endAt) [] es) → All (Shown u) (assign Θ rest ss) → All (Shown u) element
+      joined u a b c d = (a, all-append (Shown u) (assign Θ inner es) (at (e .endAt) [] es ∷ assign Θ rest ss) b (c, d))
+
+      not-behind : (lo hi : ℕ) (u : WholeUnit (Θ .Body)) → Spans lo hi u → e .startAt ≤ lo → hi ≤ suc (e .endAt) → All (Shown u) (assign Θ rest ss)
+      not-behind lo hi u s a b =
+          let x = spans-behind lo hi u s (suc (e .endAt)) n b in
+          not-shown Θ u one rest κ (suc (e .endAt)) n dr (x .0) (x .1) ss (old-other (e .startAt) u (omega (arith, s .from)) ss os)
+
+      inner-unit : (u : WholeUnit (Θ .Body)) → Local inner (suc (e .startAt)) (e .endAt) es u → InElement u
+      inner-unit u x =
+          let s = x .spans in
+          let others = old-other (suc (e .startAt)) u (s .from) es oe in
+          record {
+            spans = spans-widen (suc (e .startAt)) (e .endAt) (e .startAt) n (omega arith) (omega (arith, up)) u s;
+            shown = joined u
+                (shown-nowhere u (e .startAt) (attributesOf Θ e es) es (other-attributes Θ u e es (λ p. omega (arith, p, s .from))) others (at-before (e .startAt) (suc (e .startAt)) (e .endAt) (u .pieces) (omega arith) (s .within)))
+                (x .shown)
+                (shown-nowhere u (e .endAt) [] es tt others (at-behind (e .endAt) (suc (e .startAt)) (e .endAt) (u .pieces) (omega arith) (s .within)))
+                (not-behind (suc (e .startAt)) (e .endAt) u s (omega arith) (omega arith));
+          }
+
+      later-unit : (u : WholeUnit (Θ .Body)) → Local rest (suc (e .endAt)) n ss u → InElement u
+      later-unit u x =
+          let s = x .spans in
+          let others = old-other (suc (e .startAt)) u (omega (arith, l, s .from)) es oe in
+          let none = spans-before (suc (e .endAt)) n u s (suc (e .startAt)) (e .endAt) (omega arith) in
+          record {
+            spans = spans-widen (suc (e .endAt)) n (e .startAt) n (omega (arith, l)) (omega arith) u s;
+            shown = joined u
+                (shown-nowhere u (e .startAt) (attributesOf Θ e es) es (other-attributes Θ u e es (λ p. omega (arith, p, l, s .from))) others (at-before (e .startAt) (suc (e .endAt)) n (u .pieces) (omega (arith, l)) (s .within)))
+                (not-shown Θ u one inner (Θ .keep (e .start)) (suc (e .startAt)) (e .endAt) di (none .0) (none .1) es others)
+                (shown-nowhere u (e .endAt) [] es tt others (at-before (e .endAt) (suc (e .endAt)) n (u .pieces) (omega arith) (s .within)))
+                (x .shown);
+          }
+
+      attribute-unit : Distinct (map choicesOn es) → (u : WholeUnit (Θ .Body)) → In u (attributesOf Θ e es) → InElement u
+      attribute-unit d u m =
+          let us : List (WholeUnit (Θ .Body)) = attributesOf Θ e es in
+          let s : Spans (e .startAt) (suc (e .startAt)) u = all-at (Spans (e .startAt) (suc (e .startAt))) us (element-attributes-span e es) u m in
+          let kind : ofAttributes (u .key) ≡ true = all-at (λ v. ofAttributes (v .key) ≡ true) us (attributes-keyed Θ (λ k. ofAttributes k ≡ true) e (λ cs j. refl) es) u m in
+          let others = attribute-other (suc (e .startAt)) u kind es oe in
+          let none = spans-behind (e .startAt) (suc (e .startAt)) u s (suc (e .startAt)) (e .endAt) (omega arith) in
+          record {
+            spans = spans-widen (e .startAt) (suc (e .startAt)) (e .startAt) n (omega arith) (omega (arith, l, up)) u s;
+            shown = joined u
+                (shown-by-attribute u (e .startAt) us es (one-tagged (λ (v : WholeUnit (Θ .Body)). v .key) (Other u) (λ v. u ≡ v) (atEvent (e .startAt) (u .pieces) ≡ []) u us (attributes-distinct e es d) m (λ v p x. x) (λ v p. p)) others)
+                (not-shown Θ u one inner (Θ .keep (e .start)) (suc (e .startAt)) (e .endAt) di (none .0) (none .1) es others)
+                (shown-nowhere u (e .endAt) [] es tt others (at-behind (e .endAt) (e .startAt) (suc (e .startAt)) (u .pieces) l (s .within)))
+                (not-behind (e .startAt) (suc (e .startAt)) u s (omega arith) (omega (arith, l)));
+          }
+
+      element-units : Distinct (map choicesOn es) → (P : WholeUnit (Θ .Body) → Type 0) → ((u : WholeUnit (Θ .Body)) → InElement u → P u) → All (ForTarget P) es
+          → (((u : WholeUnit (Θ .Body)) → Local inner (suc (e .startAt)) (e .endAt) es u → P u) → All (Each P) (assign Θ inner es)) → (((u : WholeUnit (Θ .Body)) → Local rest (suc (e .endAt)) n ss u → P u) → All (Each P) (assign Θ rest ss))
+          → All (Each P) element
+      element-units d P lift h inside behind = (
+        (all-by P (attributesOf Θ e es) (λ u m. lift u (attribute-unit d u m)), h),
+        all-append (Each P) (assign Θ inner es) (at (e .endAt) [] es ∷ assign Θ rest ss) (inside (λ u x. lift u (inner-unit u x))) ((tt, h), behind (λ u x. lift u (later-unit u x))),
+      )
