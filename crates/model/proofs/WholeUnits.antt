@@ -2,7 +2,7 @@
 use mathlib.Core.Path.{_≡_, refl, sym, ap, subst, _∙_}
 use mathlib.Core.Bool.{true, false, false≢true}
 use mathlib.Core.List.{List, [], _∷_, _++_, map, tail}
-use mathlib.Core.Logic.{inl, inr}
+use mathlib.Core.Logic.{_⊎_, inl, inr}
 use mathlib.Core.Option.{some, Option·some-injective, Option·none-ne-some}
 use Prim.Native.Nat.{ℕ, suc, _≤_, _<_}
 use native.Mathlib.Omega.{arith}
@@ -131,6 +131,13 @@ module _ (Θ : Theory) where
             (consecutive-append (λ x. x .event) (suc (e .startAt)) (e .endAt) n (assign Θ inner new) (at (e .endAt) [] new ∷ assign Θ rest ss) (in-turn inner (Θ .keep (e .start)) (suc (e .startAt)) (e .endAt) (d .2) new) (refl, in-turn rest κ (suc (e .endAt)) n (d .3) ss)),
       )
 
+  pub document-in-turn : (t : Tree Θ) → Consecutive (λ x. x .event) 0 (suc (suc (size Θ (t .inside)))) (assigned Θ t)
+  document-in-turn t =
+      let inner : Content Θ = divide Θ (Θ .keep (t .rootStart)) 1 (t .inside) in
+      let last : ℕ = suc (size Θ (t .inside)) in
+      let new : List (Strand (Θ .Body)) = enter Θ (tagsOf Θ 0 (t .rootStart) last (t .rootEnd)) inner (beforeRoot Θ ∷ []) in
+      (refl, consecutive-append (λ x. x .event) 1 last (suc last) (assign Θ inner new) (at last [] new ∷ []) (in-turn inner (Θ .keep (t .rootStart)) 1 last (divided Θ (Θ .keep (t .rootStart)) 1 last (t .inside) (omega arith)) new) (refl, refl))
+
   -- A unit that opens in a content, and what the list has of it there.
   record Local (c : Content Θ) (i n : ℕ) (ss : List (Strand (Θ .Body))) (u : WholeUnit (Θ .Body)) : Type 0 where
     spans : Spans i n u
@@ -212,3 +219,139 @@ module _ (Θ : Theory) where
         (all-by P (attributesOf Θ e es) (λ u m. lift u (attribute-unit d u m)), h),
         all-append (Each P) (assign Θ inner es) (at (e .endAt) [] es ∷ assign Θ rest ss) (inside (λ u x. lift u (inner-unit u x))) ((tt, h), behind (λ u x. lift u (later-unit u x))),
       )
+
+    -- The unit that a validate rule opens.
+    new-spans : (e : Tags Θ) (inner : Content Θ) → Divided Θ (Θ .keep (e .start)) (suc (e .startAt)) (e .endAt) inner → (cs : List ℕ) (q : Rule) → Spans (e .startAt) (suc (e .endAt)) (unitOf Θ e inner cs q)
+    new-spans e inner d cs q =
+        let l = divided-up Θ inner (Θ .keep (e .start)) (suc (e .startAt)) (e .endAt) d in
+        let starts : List (Piece (Θ .Body)) = opens (Θ .openBody (q .schema) (e .start)) ∷ startPieces Θ (q .next) (e .start) (e .attributes) in
+        let ends : List (Piece (Θ .Body)) = holds (Θ .endBody (Θ .keep (e .start)) (e .end)) ∷ holds (Θ .closeBody) ∷ [] in
+        let f : List (Marked (Θ .Body)) = filling Θ inner true (q .next) in
+        let w : Within (suc (e .startAt)) (e .endAt) f = filling-within Θ inner (Θ .keep (e .start)) (suc (e .startAt)) (e .endAt) d true (q .next) in
+        let r : Rising (suc (e .startAt)) f = filling-rising Θ one inner (Θ .keep (e .start)) (suc (e .startAt)) (e .endAt) d true (q .next) in
+        record {
+          from = omega arith;
+          before = omega (arith, l);
+          begins = tt;
+          within = subst (Within (e .startAt) (suc (e .endAt))) (sym (new-pieces Θ e inner cs q)) (bracket-within true (e .startAt) (e .endAt) starts f ends l w);
+          rising = subst (Rising (e .startAt)) (sym (new-pieces Θ e inner cs q)) (bracket-rising true (e .startAt) (e .endAt) starts f ends l w r);
+        }
+
+    new-has : (e : Tags Θ) (inner : Content Θ) → Divided Θ (Θ .keep (e .start)) (suc (e .startAt)) (e .endAt) inner → (cs : List ℕ) (q : Rule) (k : ℕ) → suc (e .startAt) ≤ k → k < e .endAt → atEvent k ((unitOf Θ e inner cs q) .pieces) ≡ atEvent k (filling Θ inner true (q .next))
+    new-has e inner d cs q k a b = ap (atEvent k) (new-pieces Θ e inner cs q)
+        ∙ bracket-inside true (e .startAt) (e .endAt) (opens (Θ .openBody (q .schema) (e .start)) ∷ startPieces Θ (q .next) (e .start) (e .attributes)) (filling Θ inner true (q .next)) (holds (Θ .endBody (Θ .keep (e .start)) (e .end)) ∷ holds (Θ .closeBody) ∷ [])
+        (divided-up Θ inner (Θ .keep (e .start)) (suc (e .startAt)) (e .endAt) d) (filling-within Θ inner (Θ .keep (e .start)) (suc (e .startAt)) (e .endAt) d true (q .next)) k a b
+
+    -- A slot along the strands ss, and what stands behind it.
+    module _ (e : Tags Θ) (inner rest : Content Θ) (κ : Θ .Kept) (n : ℕ) (di : Divided Θ (Θ .keep (e .start)) (suc (e .startAt)) (e .endAt) inner) (dr : Divided Θ κ (suc (e .endAt)) n rest)
+        (ss : List (Strand (Θ .Body))) (d : Distinct (map choicesOn ss)) (os : All (ForTarget (Old (e .startAt))) ss) where
+      abbrev new : List (Strand (Θ .Body))
+      new = enter Θ e inner ss
+
+      made-old : All (Made Θ e inner (Old (e .startAt))) new
+      made-old = enter-made Θ e inner (Old (e .startAt)) ss os
+
+      pub on : All (ForTarget (Old (suc (e .startAt)))) new
+      on = all-weaken (Made Θ e inner (Old (e .startAt))) (ForTarget (Old (suc (e .startAt)))) (made-target Θ e inner (Old (e .startAt)) (Old (suc (e .startAt))) (λ v h. (omega (arith, h .0), h .1)) (λ cs q. (omega arith, refl))) new made-old
+
+      others-made : (cs : List ℕ) (q : Rule) (s : Strand (Θ .Body)) → Made Θ e inner (Old (e .startAt)) s → ¬ (cs ≡ s .choices) → ForTarget (Other (unitOf Θ e inner cs q)) s
+      others-made cs q s (inl h) x v p y = omega (arith, (h v p) .0, ap eventOf y)
+      others-made cs q s (inr h) x v p y = x (ap choicesOf (y ∙ ap (λ (w : WholeUnit (Θ .Body)). w .key) (Option·some-injective v (unitOf Θ e inner (s .choices) (h .0)) (sym p ∙ h .1))))
+
+      new-unit : (s : Strand (Θ .Body)) → In s new → (q : Rule) → s .target ≡ some (unitOf Θ e inner (s .choices) q) → s .mode ≡ q .next → InElement e inner rest κ n di dr new ss on os (unitOf Θ e inner (s .choices) q)
+      new-unit s m q t p =
+          let u : WholeUnit (Θ .Body) = unitOf Θ e inner (s .choices) q in
+          let sp : Spans (e .startAt) (suc (e .endAt)) u = new-spans e inner di (s .choices) q in
+          let only : (H : Strand (Θ .Body) → Type 0) (Z : Type 0) → H s → OneAt (ForTarget (Other u)) H Z new
+          = λ H Z h. one-tagged choicesOn (ForTarget (Other u)) H Z s new (enter-differs e inner ss d) m (λ y o x. others-made (s .choices) q y (all-at (Made Θ e inner (Old (e .startAt))) new made-old y o) x) (λ y x. subst H x h) in
+          let holder : Holder Θ u inner (suc (e .startAt)) (e .endAt) s
+          = record { target = t; own = true; has = λ k a b. new-has e inner di (s .choices) q k a b ∙ ap (λ w. atEvent k (filling Θ inner true w)) (sym p) } in
+          let after = divided-up Θ rest κ (suc (e .endAt)) n dr in
+          record {
+            spans = spans-widen (e .startAt) (suc (e .endAt)) (e .startAt) n (omega arith) after u sp;
+            shown = joined e inner rest κ n di dr new ss on os u
+                (shown-by-strand u (e .startAt) (attributesOf Θ e new) new (attributes-keyed Θ (λ k. ¬ (u .key ≡ k)) e (λ cs j x. false≢true (ap ofAttributes x)) new) (only (λ y. y .target ≡ some u) (atEvent (e .startAt) (u .pieces) ≡ []) t))
+                (carried-shown Θ u one inner (Θ .keep (e .start)) (suc (e .startAt)) (e .endAt) di (λ k a b x. omega arith) new (only (Holder Θ u inner (suc (e .startAt)) (e .endAt)) (Nothing u (suc (e .startAt)) (e .endAt)) holder))
+                (shown-by-strand u (e .endAt) [] new tt (only (λ y. y .target ≡ some u) (atEvent (e .endAt) (u .pieces) ≡ []) t))
+                (not-behind e inner rest κ n di dr new ss on os (e .startAt) (suc (e .endAt)) u sp (omega arith) (omega arith));
+          }
+
+      -- Every unit of its events, given that those of the strands ss are.
+      slot-units : (P : WholeUnit (Θ .Body) → Type 0) → All (ForTarget P) ss → ((u : WholeUnit (Θ .Body)) → InElement e inner rest κ n di dr new ss on os u → P u)
+          → (All (ForTarget P) new → ((u : WholeUnit (Θ .Body)) → Local inner (suc (e .startAt)) (e .endAt) new u → P u) → All (Each P) (assign Θ inner new)) → (((u : WholeUnit (Θ .Body)) → Local rest (suc (e .endAt)) n ss u → P u) → All (Each P) (assign Θ rest ss))
+          → All (Each P) (element e inner rest κ n di dr new ss on os)
+      slot-units P h lift inside behind =
+          let f : All (ForTarget P) new = all-by (ForTarget P) new (λ s m. targeted s m (all-at (Made Θ e inner P) new (enter-made Θ e inner P ss h) s m)) in
+          element-units e inner rest κ n di dr new ss on os (enter-differs e inner ss d) P lift f (inside f) behind
+        where
+          targeted : (s : Strand (Θ .Body)) → In s new → Made Θ e inner P s → ForTarget P s
+          targeted s m (inl x) v p = x v p
+          targeted s m (inr x) v p = subst P (Option·some-injective (unitOf Θ e inner (s .choices) (x .0)) v (sym (x .1) ∙ p)) (lift (unitOf Θ e inner (s .choices) (x .0)) (new-unit s m (x .0) (x .1) (x .2)))
+
+    units : (c : Content Θ) (κ : Θ .Kept) (i n : ℕ) → Divided Θ κ i n c → (ss : List (Strand (Θ .Body))) → Distinct (map choicesOn ss) → All (ForTarget (Old i)) ss
+        → (P : WholeUnit (Θ .Body) → Type 0) → All (ForTarget P) ss → ((u : WholeUnit (Θ .Body)) → Local c i n ss u → P u) → All (Each P) (assign Θ c ss)
+    units empty κ i n d ss dist os P h lift = tt
+    units (ownText k τ rest) κ i n d ss dist os P h lift =
+        let l : i ≤ suc k = omega (arith, d .0) in (
+          (tt, h),
+          units rest κ (suc k) n (d .1) ss dist (old-later i (suc k) l ss os) P h (λ u x. lift u (record {
+            spans = spans-widen (suc k) n i n l (omega arith) u (x .spans);
+            shown = (shown-nowhere u k [] ss tt (old-other i u (omega (arith, l, x .spans .from)) ss os) (at-before k (suc k) n (u .pieces) (omega arith) (x .spans .within)), x .shown);
+          })),
+        )
+    units (ownElement e inner rest) κ i n d ss dist os P h lift =
+        let l : i ≤ e .startAt = omega (arith, d .0) in
+        let up = divided-up Θ inner (Θ .keep (e .start)) (suc (e .startAt)) (e .endAt) (d .2) in
+        let here : All (ForTarget (Old (e .startAt))) ss = old-later i (e .startAt) l ss os in
+        let inside : All (ForTarget (Old (suc (e .startAt)))) ss = old-later i (suc (e .startAt)) (omega arith) ss os in
+        element-units e inner rest κ n (d .2) (d .3) ss ss inside here dist P
+        (λ u x. lift u (record { spans = spans-widen (e .startAt) n i n l (omega arith) u (x .spans); shown = x .shown })) h
+        (units inner (Θ .keep (e .start)) (suc (e .startAt)) (e .endAt) (d .2) ss dist inside P h)
+        (units rest κ (suc (e .endAt)) n (d .3) ss dist (old-later i (suc (e .endAt)) (omega (arith, up)) ss os) P h)
+    units (slot e inner rest) κ i n d ss dist os P h lift =
+        let l : i ≤ e .startAt = omega (arith, d .0) in
+        let up = divided-up Θ inner (Θ .keep (e .start)) (suc (e .startAt)) (e .endAt) (d .2) in
+        let here : All (ForTarget (Old (e .startAt))) ss = old-later i (e .startAt) l ss os in
+        slot-units e inner rest κ n (d .2) (d .3) ss dist here P h
+        (λ u x. lift u (record { spans = spans-widen (e .startAt) n i n l (omega arith) u (x .spans); shown = x .shown }))
+        (units inner (Θ .keep (e .start)) (suc (e .startAt)) (e .endAt) (d .2) (enter Θ e inner ss) (enter-differs e inner ss dist) (on e inner rest κ n (d .2) (d .3) ss dist here) P)
+        (units rest κ (suc (e .endAt)) n (d .3) ss dist (old-later i (suc (e .endAt)) (omega (arith, up)) ss os) P h)
+
+    -- A unit of the document, and what the list has of it.
+    pub record Whole (t : Tree Θ) (u : WholeUnit (Θ .Body)) : Type 0 where
+      pub spans : Spans 0 (suc (suc (size Θ (t .inside)))) u
+      pub shown : All (Shown u) (assigned Θ t)
+
+    document-units : (t : Tree Θ) → All (Each (Whole t)) (assigned Θ t)
+    document-units t =
+        let σ : Θ .StartInfo = t .rootStart in
+        let inner : Content Θ = divide Θ (Θ .keep σ) 1 (t .inside) in
+        let e : Tags Θ = tagsOf Θ 0 σ (suc (size Θ (t .inside))) (t .rootEnd) in
+        let n : ℕ = suc (e .endAt) in
+        let di : Divided Θ (Θ .keep σ) 1 (e .endAt) inner = divided Θ (Θ .keep σ) 1 (e .endAt) (t .inside) (omega arith) in
+        let ss : List (Strand (Θ .Body)) = beforeRoot Θ ∷ [] in
+        let os : All (ForTarget (Old 0)) ss = (λ v p. absurd (Option·none-ne-some v p), tt) in
+        slot-units e inner empty (Θ .keep σ) n di refl ss (tt, tt) os (Whole t) (λ v p. absurd (Option·none-ne-some v p), tt)
+        (λ u x. record { spans = x .spans; shown = x .shown })
+        (units inner (Θ .keep σ) 1 (e .endAt) di (enter Θ e inner ss) (enter-differs e inner ss (tt, tt)) (on e inner empty (Θ .keep σ) n di refl ss (tt, tt) os) (Whole t))
+        (λ f. tt)
+
+    pub unit-whole : (t : Tree Θ) (u : WholeUnit (Θ .Body)) → UnitOf Θ t u → Whole t u
+    unit-whole t u (x, m, k) = by k (all-at (Each (Whole t)) (assigned Θ t) (document-units t) x m)
+      where
+        by : In u (x .attributes) ⊎ ((s : Strand (Θ .Body)) × In s (x .strands) × (s .target ≡ some u)) → Each (Whole t) x → Whole t u
+        by (inl a) h = all-at (Whole t) (x .attributes) (h .0) u a
+        by (inr b) h = all-at (ForTarget (Whole t)) (x .strands) (h .1) (b .0) (b .1) u (b .2)
+
+    -- The pieces of a unit are what it has of each event of the document, one event after the other.
+    pub unit-in-turn : (t : Tree Θ) (u : WholeUnit (Θ .Body)) → Whole t u → gather (λ x. atEvent (x .event) (u .pieces)) (assigned Θ t) ≡ map (λ p. p .piece) (u .pieces)
+    unit-in-turn t u w = event-by-event (λ x. x .event) (assigned Θ t) 0 (suc (suc (size Θ (t .inside)))) (document-in-turn t) (u .pieces) (w .spans .rising) (w .spans .within)
+
+    -- The records of its key are its pieces.
+    pub unit-keyed : (t : Tree Θ) (u : WholeUnit (Θ .Body)) → Whole t u → ofKey (u .key) (gather (λ x. x) (cells Θ t)) ≡ map (λ p. p .piece) (u .pieces)
+    unfolding cells
+    unit-keyed t u w =
+        ap (ofKey (u .key)) (gather-map (λ x. x) recordsAt (assigned Θ t))
+        ∙ of-gather (u .key) recordsAt (assigned Θ t)
+        ∙ gather-same-on (λ x. ofKey (u .key) (recordsAt x)) (λ x. atEvent (x .event) (u .pieces)) (assigned Θ t) (w .shown)
+        ∙ unit-in-turn t u w
