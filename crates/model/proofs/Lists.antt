@@ -4,6 +4,8 @@ use mathlib.Core.List.{List, [], _∷_, _++_, map, map-append, append-nil}
 use mathlib.Core.Logic.{_⊎_, inl, inr}
 use Prim.Native.Nat.{ℕ, suc, _≤_, _<_}
 use native.Mathlib.Omega.{arith}
+use lib.ListN.{length}
+use Rattle.laws.specs.Lists.{tabulate}
 use Rattle.laws.specs.Gather.{gather}
 pub use Rattle.laws.specs.Members.{In, All}
 use Rattle.laws.proofs.Gather.{gather-append}
@@ -193,6 +195,16 @@ module _ {A C : Type 0} where
   one-tagged tag N H Z x (y ∷ ys) d (inr m) n h =
       inl (n y (inl refl) (λ r. all-at (λ w. ¬ (tag y ≡ tag w)) ys (all-unmap (λ t. ¬ (tag y ≡ t)) tag ys (d .0)) x m (sym r)), one-tagged tag N H Z x ys (d .1) m (λ z q. n z (inr q)) h)
 
+module _ {A C : Type 0} where
+  pub in-map : (f : A → C) (x : A) (xs : List A) → In x xs → In (f x) (map f xs)
+  in-map f x [] m = absurd m
+  in-map f x (y ∷ ys) (inl p) = inl (ap f p)
+  in-map f x (y ∷ ys) (inr m) = inr (in-map f x ys m)
+
+  pub map-same-on : (f g : A → C) (xs : List A) → All (λ x. f x ≡ g x) xs → map f xs ≡ map g xs
+  map-same-on f g [] h = refl
+  map-same-on f g (x ∷ xs) h = rw (h .0, map-same-on f g xs (h .1))
+
 module _ {A : Type 0} (f : A → ℕ) where
   -- The elements have the numbers i, i + 1, .., before n.
   abbrev pub Consecutive : ℕ → ℕ → List A → Type 0
@@ -206,3 +218,8 @@ module _ {A : Type 0} (f : A → ℕ) where
   pub consecutive-from : (i n : ℕ) (xs : List A) → Consecutive i n xs → All (λ x. i ≤ f x) xs
   consecutive-from i n [] c = tt
   consecutive-from i n (x ∷ xs) c = (omega (arith, c .0), all-weaken (λ y. suc i ≤ f y) (λ y. i ≤ f y) (λ y h. omega arith) xs (consecutive-from (suc i) n xs (c .1)))
+
+  pub consecutive-tabulate : {C : Type 0} (g : ℕ → C) (i n : ℕ) (xs : List A) → Consecutive i n xs → map (λ x. g (f x)) xs ≡ tabulate g i (length xs)
+  unfolding tabulate
+  consecutive-tabulate g i n [] c = refl
+  consecutive-tabulate g i n (x ∷ xs) c = rw (c .0, consecutive-tabulate g (suc i) n xs (c .1))

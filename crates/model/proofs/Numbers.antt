@@ -5,15 +5,16 @@ use mathlib.Core.List.{List, [], _∷_, _++_, map}
 use Prim.Native.Nat.{ℕ, suc, _<_}
 use native.Mathlib.Omega.{arith}
 use lib.Dec.{eqb}
-use lib.ListN.{length}
+use lib.ListN.{length, length-map}
 use borrow.Author.Tests.{eq-eqb, ne-eqb}
+use Rattle.laws.specs.Lists.{tabulate}
 use Rattle.laws.specs.Gather.{gather}
 use Rattle.model.specs.Theory.{Piece, opens, holds, Record}
 use Rattle.model.specs.Model.{Key, sameKey, opened, numberIn, list}
 use Rattle.model.specs.Units.{ofUnit}
-use Rattle.model.proofs.Lists.{map-gather, gather-map}
-use Rattle.model.proofs.Simulation.{renamed, openedBy}
-use Rattle.model.proofs.Keys.{same-key-refl, same-key-eq}
+use Rattle.model.proofs.Lists.{map-gather, gather-map, Distinct}
+use Rattle.model.proofs.Simulation.{Counts, renamed, openedBy}
+use Rattle.model.proofs.Keys.{same-key-refl, same-key-eq, counts-places}
 use Rattle.model.proofs.Shown.{ofKey}
 
 -- A number that is some open's belongs to one key.
@@ -26,6 +27,12 @@ number-own (o ∷ os) k l h e = go (sameKey o k) (sameKey o l) refl refl h e (nu
     go true false p q h e ih = absurd (omega arith)
     go false true p q h e ih = absurd (omega arith)
     go false false p q h e ih = ih (omega arith) (omega arith)
+
+-- Keys that are counted.
+counted : (ν : Key → ℕ) (u : ℕ) (ks : List Key) → Counts ν u ks → map ν ks ≡ tabulate (λ n. n) u (length ks)
+unfolding tabulate
+counted ν u [] c = refl
+counted ν u (k ∷ ks) c = rw (c .0, counted ν (suc u) ks (c .1))
 
 -- Pieces that begin with an open.
 abbrev pub StartsOpen : {B : Type 0} → List (Piece B) → Type 0
@@ -67,9 +74,23 @@ module _ {B : Type 0} where
       gather-map (λ x. x) (map (renamed ν)) rs ∙ sym (map-gather (renamed ν) (λ x. x) rs)
 
   -- The records with a unit's number are those with its key.
-  pub numbered-contents : (rs : List (List (Record B Key))) (k : Key) (ps : List (Piece B)) → StartsOpen ps → ofKey k (gather (λ x. x) rs) ≡ ps
-      → ofUnit (eqb (numberIn (opened (gather (λ x. x) rs)) k)) (gather (λ x. x) (list rs)) ≡ ps
-  numbered-contents rs k ps b e =
+  pub numbered : (rs : List (List (Record B Key))) (k : Key) → StartsOpen (ofKey k (gather (λ x. x) rs)) → (ps : List (Record B Key)) → ofUnit (eqb (numberIn (opened (gather (λ x. x) rs)) k)) (map (renamed (numberIn (opened (gather (λ x. x) rs)))) ps) ≡ ofKey k ps
+  numbered rs k b =
       let all : List (Record B Key) = gather (λ x. x) rs in
-      let within : numberIn (opened all) k < length (opened all) = number-in k all (rw e b) in
-      rw (joined-list rs) (of-number (numberIn (opened all)) k (λ l x. number-own (opened all) k l within x) all ∙ e)
+      of-number (numberIn (opened all)) k (λ l x. number-own (opened all) k l (number-in k all b) x)
+
+  -- The opens of a list in which no unit opens twice bear 0, 1, 2, ..
+  opened-renamed : (ν : Key → ℕ) (ps : List (Record B Key)) → opened (map (renamed ν) ps) ≡ map ν (opened ps)
+  unfolding gather
+  opened-renamed ν [] = refl
+  opened-renamed ν (p ∷ ps) = go (p .unit) (p .piece) (opened-renamed ν ps)
+    where
+      go : (k : Key) (c : Piece B) → opened (map (renamed ν) ps) ≡ map ν (opened ps) → elim c [ opens b ↦ ν k ∷ [] | holds b ↦ [] ] ++ opened (map (renamed ν) ps) ≡ map ν (openedBy k c ++ opened ps)
+      go k (opens b) e = ap (λ ns. ν k ∷ ns) e
+      go k (holds b) e = e
+
+  pub opens-counted : (rs : List (List (Record B Key))) → Distinct (opened (gather (λ x. x) rs)) → opened (gather (λ x. x) (list rs)) ≡ tabulate (λ n. n) 0 (length (opened (gather (λ x. x) (list rs))))
+  opens-counted rs d =
+      let ks : List Key = opened (gather (λ x. x) rs) in
+      let e : opened (gather (λ x. x) (list rs)) ≡ map (numberIn ks) ks = ap opened (joined-list rs) ∙ opened-renamed (numberIn ks) (gather (λ x. x) rs) in
+      e ∙ counted (numberIn ks) 0 ks (counts-places ks d) ∙ ap (tabulate (λ n. n) 0) (sym (ap length e ∙ length-map ks (numberIn ks)))
