@@ -10,7 +10,8 @@ use Rattle.model.specs.Theory.{Action, Attach, Unwrap, Validate, Rule, P
 use Rattle.model.specs.Sections.{Tags, Content, empty, ownText, ownElement, slot}
 use Rattle.model.specs.Model.{Marked, startPieces, startOf, textOf, endOf, filling, unitOf, OneKeeps}
 use Rattle.model.proofs.Lists.{All}
-use Rattle.model.proofs.Events.{atEvent, Within, within-widen, within-append, within-marked, within-cond, at-first, at-second, bracket, bracket-within, Rising, rising-from, rising-append, rising-marked, rising-cond, bracket-rising}
+use Rattle.model.proofs.Events.{atEvent, Within, within-widen, within-append, within-marked, within-cond, at-first, at-second, bracket, bracket-within}
+use Rattle.model.proofs.Order.{Rising, rising-from, rising-append, rising-marked, rising-cond, bracket-rising}
 use Rattle.model.proofs.Divide.{Divided, divided-up}
 
 -- Of the rules, at most one keeps the target.

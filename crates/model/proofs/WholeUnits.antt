@@ -1,122 +1,31 @@
 -- Every unit of a document is in the list whole: event by event the list has what the unit has.
 use mathlib.Core.Path.{_≡_, refl, sym, ap, subst, _∙_}
 use mathlib.Core.Bool.{true, false, false≢true}
-use mathlib.Core.List.{List, [], _∷_, _++_, map, tail}
+use mathlib.Core.List.{List, [], _∷_, _++_, map}
 use mathlib.Core.Logic.{_⊎_, inl, inr}
 use mathlib.Core.Option.{some, Option·some-injective, Option·none-ne-some}
 use Prim.Native.Nat.{ℕ, suc, _≤_, _<_}
 use native.Mathlib.Omega.{arith}
 use Rattle.laws.specs.Gather.{gather}
 use Rattle.laws.proofs.Members.{all-at, all-by}
-use Rattle.model.specs.Theory.{Attach, Unwrap, Validate, Action, Rule, Piece, opens, holds, Theory, taken}
+use Rattle.model.specs.Theory.{Rule, Piece, opens, holds, Theory}
 use Rattle.model.specs.Tree.{Tree}
-use Rattle.model.specs.Sections.{AttributeSection, Tags, Content, empty, ownText, ownElement, slot, tagsOf, size, divide, divideTree}
-use Rattle.model.specs.Model.{Key, attributeUnit, Marked, WholeUnit, marked, attributeUnitsFrom, startPieces, virtualPieces, attributePieces, filling, unitOf, Strand, Assigned, at, beforeRoot, along, enter, attributesOf, assign, recordsAt, assigned, cells, OneKeeps}
+use Rattle.model.specs.Sections.{Tags, Content, empty, ownText, ownElement, slot, tagsOf, size, divide}
+use Rattle.model.specs.Model.{Marked, WholeUnit, startPieces, filling, unitOf, Strand, Assigned, at, beforeRoot, enter, attributesOf, assign, recordsAt, assigned, cells, OneKeeps}
 use Rattle.model.specs.Units.{UnitOf}
-use Rattle.model.proofs.Lists.{In, gather-same-on, gather-map, map-gather, All, Distinct, all-append, all-weaken, all-both, all-gather, every, gather-distinct, keysFrom, OneAt, one-tagged, Consecutive, consecutive-append}
-use Rattle.model.proofs.Events.{atEvent, Within, within-widen, within-marked, at-before, at-behind, bracket, bracket-within, bracket-inside, Rising, rising-from, rising-marked, bracket-rising, event-by-event}
+use Rattle.model.proofs.Lists.{In, gather-same-on, gather-map, All, Distinct, all-append, all-weaken, OneAt, one-tagged, Consecutive, consecutive-append}
+use Rattle.model.proofs.Events.{atEvent, Within, at-before, at-behind, bracket-within, bracket-inside}
+use Rattle.model.proofs.Order.{Rising, bracket-rising, event-by-event}
 use Rattle.model.proofs.Divide.{Divided, divided, divided-up}
 use Rattle.model.proofs.Slots.{filling-within, filling-rising, new-pieces}
-use Rattle.model.proofs.Keys.{eventOf, choicesOf, ofAttributes, attribute-keys-distinct, choices-bear, choices-distinct}
-use Rattle.model.proofs.Shown.{ofKey, of-gather, Shown, Other, ForTarget, shown-by-strand, shown-by-attribute, shown-nowhere, attributes-keyed, Made, made-target, enter-made, Nothing, Elsewhere, Holder, other-attributes, carried-shown, not-shown}
-use Rattle.model.proofs.Numbers.{StartsOpen}
-
--- A unit that opens, and has its pieces in their order, at the events from lo on and before hi.
-pub record Spans {B : Type 0} (lo hi : ℕ) (u : WholeUnit B) : Type 0 where
-  pub from : lo ≤ eventOf (u .key)
-  pub before : eventOf (u .key) < hi
-  pub begins : StartsOpen (map (λ p. p .piece) (u .pieces))
-  pub within : Within lo hi (u .pieces)
-  pub rising : Rising lo (u .pieces)
-
-module _ {B : Type 0} where
-  spans-widen : (lo hi lo′ hi′ : ℕ) → lo′ ≤ lo → hi ≤ hi′ → (u : WholeUnit B) → Spans lo hi u → Spans lo′ hi′ u
-  spans-widen lo hi lo′ hi′ a b u s = record {
-    from = omega (arith, s .from);
-    before = omega (arith, s .before);
-    begins = s .begins;
-    within = within-widen lo hi lo′ hi′ a b (u .pieces) (s .within);
-    rising = rising-from lo lo′ a (u .pieces) (s .rising);
-  }
-
-  -- An element unit that opens before event i.
-  abbrev Old : ℕ → WholeUnit B → Type 0
-  Old i v = (eventOf (v .key) < i) × (ofAttributes (v .key) ≡ false)
-
-  -- What holds of every unit of an event.
-  abbrev Each : (WholeUnit B → Type 0) → Assigned B → Type 0
-  Each P x = All P (x .attributes) × All (ForTarget P) (x .strands)
-
-  old-later : (i j : ℕ) → i ≤ j → (ss : List (Strand B)) → All (ForTarget (Old i)) ss → All (ForTarget (Old j)) ss
-  old-later i j l = all-weaken (ForTarget (Old i)) (ForTarget (Old j)) (λ s h v p. (omega (arith, (h v p) .0), (h v p) .1))
-
-  old-other : (i : ℕ) (u : WholeUnit B) → i ≤ eventOf (u .key) → (ss : List (Strand B)) → All (ForTarget (Old i)) ss → All (ForTarget (Other u)) ss
-  old-other i u l = all-weaken (ForTarget (Old i)) (ForTarget (Other u)) (λ s h v p x. omega (arith, (h v p) .0, ap eventOf x))
-
-  attribute-other : (i : ℕ) (u : WholeUnit B) → ofAttributes (u .key) ≡ true → (ss : List (Strand B)) → All (ForTarget (Old i)) ss → All (ForTarget (Other u)) ss
-  attribute-other i u a = all-weaken (ForTarget (Old i)) (ForTarget (Other u)) (λ s h v p x. false≢true (sym ((h v p) .1) ∙ sym (ap ofAttributes x) ∙ a))
-
-  spans-before : (lo hi : ℕ) (u : WholeUnit B) → Spans lo hi u → (i n : ℕ) → n ≤ lo → Elsewhere u i n × Nothing u i n
-  spans-before lo hi u s i n l = (λ k a b x. omega (arith, s .from, x), λ k a b. at-before k lo hi (u .pieces) (omega arith) (s .within))
-
-  spans-behind : (lo hi : ℕ) (u : WholeUnit B) → Spans lo hi u → (i n : ℕ) → hi ≤ i → Elsewhere u i n × Nothing u i n
-  spans-behind lo hi u s i n l = (λ k a b x. omega (arith, s .before, x), λ k a b. at-behind k lo hi (u .pieces) (omega arith) (s .within))
-
-  -- Attribute units.
-  attributes-span : (i : ℕ) (cs : List ℕ) (j : ℕ) (xs : List (List (Piece B))) → All StartsOpen xs → All (Spans i (suc i)) (attributeUnitsFrom i cs j xs)
-  attributes-span i cs j [] h = tt
-  attributes-span i cs j (x ∷ xs) h = (record { from = omega arith; before = omega arith; begins = go x (h .0); within = within-marked i (suc i) i (omega arith) (omega arith) x; rising = rising-marked i x }, attributes-span i cs (suc j) xs (h .1))
-    where
-      go : (ps : List (Piece B)) → StartsOpen ps → StartsOpen (map (λ p. p .piece) (marked i ps))
-      go [] s = s
-      go (opens b ∷ ps) s = tt
-      go (holds b ∷ ps) s = s
-
-  attributes-keys : (i : ℕ) (cs : List ℕ) (j : ℕ) (xs : List (List (Piece B))) → map (λ v. v .key) (attributeUnitsFrom i cs j xs) ≡ keysFrom (attributeUnit i cs) j xs
-  attributes-keys i cs j [] = refl
-  attributes-keys i cs j (x ∷ xs) = rw (attributes-keys i cs (suc j) xs)
-
-  keyed-choices : (i : ℕ) (cs : List ℕ) (j : ℕ) (xs : List (List (Piece B))) → All (λ k. choicesOf k ≡ cs) (keysFrom (attributeUnit i cs) j xs)
-  keyed-choices i cs j [] = tt
-  keyed-choices i cs j (x ∷ xs) = (refl, keyed-choices i cs (suc j) xs)
+use Rattle.model.proofs.Keys.{eventOf, choicesOf, ofAttributes}
+use Rattle.model.proofs.Shown.{ofKey, of-gather, Shown, Other, ForTarget, shown-by-strand, shown-by-attribute, shown-nowhere, attributes-keyed, Made, made-target, enter-made, Nothing}
+use Rattle.model.proofs.Carried.{Holder, other-attributes, carried-shown, not-shown}
+use Rattle.model.proofs.Spans.{Spans, spans-widen, Old, Each, old-later, old-other, attribute-other, spans-before, spans-behind, choicesOn, element-attributes-span, attributes-distinct, enter-differs}
 
 module _ (Θ : Theory) where
-  abbrev choicesOn : Strand (Θ .Body) → List ℕ
-  choicesOn s = s .choices
-
-  attributes-begin : (m : ℕ) (σ : Θ .StartInfo) (cs : List (AttributeSection Θ)) → All StartsOpen (attributePieces Θ m σ cs)
-  attributes-begin m σ cs = all-gather (StartsOpen {B = Θ .Body}) _ cs (every (λ c. all-gather (StartsOpen {B = Θ .Body}) _ (Θ .attributeRules m (c .first)) (every (λ q. go c (q .schema) (q .action)) (Θ .attributeRules m (c .first)))) cs)
-    where
-      go : (c : AttributeSection Θ) (schema : ℕ) (a : Action) → All (StartsOpen {B = Θ .Body}) (elim a [ Attach ↦ [] | Unwrap ↦ [] | Validate ↦ virtualPieces Θ σ c schema ∷ [] ])
-      go c schema Attach = tt
-      go c schema Unwrap = tt
-      go c schema Validate = (tt, tt)
-
-  element-attributes-span : (e : Tags Θ) (ss : List (Strand (Θ .Body))) → All (Spans (e .startAt) (suc (e .startAt))) (attributesOf Θ e ss)
-  element-attributes-span e ss = all-gather (Spans (e .startAt) (suc (e .startAt))) _ ss
-      (every (λ s. attributes-span (e .startAt) (s .choices) 0 (attributePieces Θ (s .mode) (e .start) (e .sections)) (attributes-begin (s .mode) (e .start) (e .sections))) ss)
-
-  attributes-distinct : (e : Tags Θ) (ss : List (Strand (Θ .Body))) → Distinct (map choicesOn ss) → Distinct (map (λ v. v .key) (attributesOf Θ e ss))
-  attributes-distinct e ss d =
-      let pieces : Strand (Θ .Body) → List (List (Piece (Θ .Body))) = λ s. attributePieces Θ (s .mode) (e .start) (e .sections) in
-      rw (map-gather (λ (v : WholeUnit (Θ .Body)). v .key) (λ s. attributeUnitsFrom (e .startAt) (s .choices) 0 (pieces s)) ss)
-      (gather-distinct (λ s. map (λ v. v .key) (attributeUnitsFrom (e .startAt) (s .choices) 0 (pieces s))) choicesOn choicesOf
-      (λ s. rw (attributes-keys (e .startAt) (s .choices) 0 (pieces s)) (keyed-choices (e .startAt) (s .choices) 0 (pieces s)))
-      (λ s. rw (attributes-keys (e .startAt) (s .choices) 0 (pieces s)) (attribute-keys-distinct (e .startAt) (s .choices) (pieces s))) ss d)
-
-  -- The strands of a section differ in their choices.
-  along-choices : (e : Tags Θ) (inner : Content Θ) (s : Strand (Θ .Body)) (j : ℕ) (qs : List Rule) → map choicesOn (along Θ e inner s j qs) ≡ keysFrom (λ n. n ∷ s .choices) j qs
-  along-choices e inner s j [] = refl
-  along-choices e inner s j (q ∷ qs) = rw (along-choices e inner s (suc j) qs)
-
-  enter-differs : (e : Tags Θ) (inner : Content Θ) (ss : List (Strand (Θ .Body))) → Distinct (map choicesOn ss) → Distinct (map choicesOn (enter Θ e inner ss))
-  enter-differs e inner ss d = rw (map-gather choicesOn (λ s. along Θ e inner s 0 (taken Θ (s .mode) (e .start))) ss)
-      (gather-distinct (λ s. map choicesOn (along Θ e inner s 0 (taken Θ (s .mode) (e .start)))) choicesOn (λ c. tail c)
-      (λ s. rw (along-choices e inner s 0 (taken Θ (s .mode) (e .start))) (choices-bear (s .choices) (taken Θ (s .mode) (e .start))))
-      (λ s. rw (along-choices e inner s 0 (taken Θ (s .mode) (e .start))) (choices-distinct (s .choices) (taken Θ (s .mode) (e .start)))) ss d)
-
   -- The events of a content, one after the other.
-  pub in-turn : (c : Content Θ) (κ : Θ .Kept) (i n : ℕ) → Divided Θ κ i n c → (ss : List (Strand (Θ .Body))) → Consecutive (λ x. x .event) i n (assign Θ c ss)
+  in-turn : (c : Content Θ) (κ : Θ .Kept) (i n : ℕ) → Divided Θ κ i n c → (ss : List (Strand (Θ .Body))) → Consecutive (λ x. x .event) i n (assign Θ c ss)
   in-turn empty κ i n d ss = d
   in-turn (ownText k τ rest) κ i n d ss = (sym (d .0), subst (λ j. Consecutive (λ x. x .event) (suc j) n (assign Θ rest ss)) (sym (d .0)) (in-turn rest κ (suc k) n (d .1) ss))
   in-turn (ownElement e inner rest) κ i n d ss = (
@@ -199,14 +108,14 @@ module _ (Θ : Theory) where
       attribute-unit : Distinct (map choicesOn es) → (u : WholeUnit (Θ .Body)) → In u (attributesOf Θ e es) → InElement u
       attribute-unit d u m =
           let us : List (WholeUnit (Θ .Body)) = attributesOf Θ e es in
-          let s : Spans (e .startAt) (suc (e .startAt)) u = all-at (Spans (e .startAt) (suc (e .startAt))) us (element-attributes-span e es) u m in
+          let s : Spans (e .startAt) (suc (e .startAt)) u = all-at (Spans (e .startAt) (suc (e .startAt))) us (element-attributes-span Θ e es) u m in
           let kind : ofAttributes (u .key) ≡ true = all-at (λ v. ofAttributes (v .key) ≡ true) us (attributes-keyed Θ (λ k. ofAttributes k ≡ true) e (λ cs j. refl) es) u m in
           let others = attribute-other (suc (e .startAt)) u kind es oe in
           let none = spans-behind (e .startAt) (suc (e .startAt)) u s (suc (e .startAt)) (e .endAt) (omega arith) in
           record {
             spans = spans-widen (e .startAt) (suc (e .startAt)) (e .startAt) n (omega arith) (omega (arith, l, up)) u s;
             shown = joined u
-                (shown-by-attribute u (e .startAt) us es (one-tagged (λ (v : WholeUnit (Θ .Body)). v .key) (Other u) (λ v. u ≡ v) (atEvent (e .startAt) (u .pieces) ≡ []) u us (attributes-distinct e es d) m (λ v p x. x) (λ v p. p)) others)
+                (shown-by-attribute u (e .startAt) us es (one-tagged (λ (v : WholeUnit (Θ .Body)). v .key) (Other u) (λ v. u ≡ v) (atEvent (e .startAt) (u .pieces) ≡ []) u us (attributes-distinct Θ e es d) m (λ v p x. x) (λ v p. p)) others)
                 (not-shown Θ u one inner (Θ .keep (e .start)) (suc (e .startAt)) (e .endAt) di (none .0) (none .1) es others)
                 (shown-nowhere u (e .endAt) [] es tt others (at-behind (e .endAt) (e .startAt) (suc (e .startAt)) (u .pieces) l (s .within)))
                 (not-behind (e .startAt) (suc (e .startAt)) u s (omega arith) (omega (arith, l)));
@@ -263,7 +172,7 @@ module _ (Θ : Theory) where
           let u : WholeUnit (Θ .Body) = unitOf Θ e inner (s .choices) q in
           let sp : Spans (e .startAt) (suc (e .endAt)) u = new-spans e inner di (s .choices) q in
           let only : (H : Strand (Θ .Body) → Type 0) (Z : Type 0) → H s → OneAt (ForTarget (Other u)) H Z new
-          = λ H Z h. one-tagged choicesOn (ForTarget (Other u)) H Z s new (enter-differs e inner ss d) m (λ y o x. others-made (s .choices) q y (all-at (Made Θ e inner (Old (e .startAt))) new made-old y o) x) (λ y x. subst H x h) in
+          = λ H Z h. one-tagged choicesOn (ForTarget (Other u)) H Z s new (enter-differs Θ e inner ss d) m (λ y o x. others-made (s .choices) q y (all-at (Made Θ e inner (Old (e .startAt))) new made-old y o) x) (λ y x. subst H x h) in
           let holder : Holder Θ u inner (suc (e .startAt)) (e .endAt) s
           = record { target = t; own = true; has = λ k a b. new-has e inner di (s .choices) q k a b ∙ ap (λ w. atEvent k (filling Θ inner true w)) (sym p) } in
           let after = divided-up Θ rest κ (suc (e .endAt)) n dr in
@@ -282,7 +191,7 @@ module _ (Θ : Theory) where
           → All (Each P) (element e inner rest κ n di dr new ss on os)
       slot-units P h lift inside behind =
           let f : All (ForTarget P) new = all-by (ForTarget P) new (λ s m. targeted s m (all-at (Made Θ e inner P) new (enter-made Θ e inner P ss h) s m)) in
-          element-units e inner rest κ n di dr new ss on os (enter-differs e inner ss d) P lift f (inside f) behind
+          element-units e inner rest κ n di dr new ss on os (enter-differs Θ e inner ss d) P lift f (inside f) behind
         where
           targeted : (s : Strand (Θ .Body)) → In s new → Made Θ e inner P s → ForTarget P s
           targeted s m (inl x) v p = x v p
@@ -314,7 +223,7 @@ module _ (Θ : Theory) where
         let here : All (ForTarget (Old (e .startAt))) ss = old-later i (e .startAt) l ss os in
         slot-units e inner rest κ n (d .2) (d .3) ss dist here P h
         (λ u x. lift u (record { spans = spans-widen (e .startAt) n i n l (omega arith) u (x .spans); shown = x .shown }))
-        (units inner (Θ .keep (e .start)) (suc (e .startAt)) (e .endAt) (d .2) (enter Θ e inner ss) (enter-differs e inner ss dist) (on e inner rest κ n (d .2) (d .3) ss dist here) P)
+        (units inner (Θ .keep (e .start)) (suc (e .startAt)) (e .endAt) (d .2) (enter Θ e inner ss) (enter-differs Θ e inner ss dist) (on e inner rest κ n (d .2) (d .3) ss dist here) P)
         (units rest κ (suc (e .endAt)) n (d .3) ss dist (old-later i (suc (e .endAt)) (omega (arith, up)) ss os) P h)
 
     -- A unit of the document, and what the list has of it.
@@ -333,7 +242,7 @@ module _ (Θ : Theory) where
         let os : All (ForTarget (Old 0)) ss = (λ v p. absurd (Option·none-ne-some v p), tt) in
         slot-units e inner empty (Θ .keep σ) n di refl ss (tt, tt) os (Whole t) (λ v p. absurd (Option·none-ne-some v p), tt)
         (λ u x. record { spans = x .spans; shown = x .shown })
-        (units inner (Θ .keep σ) 1 (e .endAt) di (enter Θ e inner ss) (enter-differs e inner ss (tt, tt)) (on e inner empty (Θ .keep σ) n di refl ss (tt, tt) os) (Whole t))
+        (units inner (Θ .keep σ) 1 (e .endAt) di (enter Θ e inner ss) (enter-differs Θ e inner ss (tt, tt)) (on e inner empty (Θ .keep σ) n di refl ss (tt, tt) os) (Whole t))
         (λ f. tt)
 
     pub unit-whole : (t : Tree Θ) (u : WholeUnit (Θ .Body)) → UnitOf Θ t u → Whole t u
