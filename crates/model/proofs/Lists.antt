@@ -1,9 +1,15 @@
--- Lists: what each element gives, joined; a property of every element; no element twice. Nothing here knows of sections.
-use mathlib.Core.Path.{_≡_, refl, sym, _∙_}
-use mathlib.Core.List.{List, [], _∷_, _++_, map, map-append}
+-- Lists: what each element gives, joined; a property of every element; no element twice; one element apart; numbers that count. Nothing here knows of sections.
+use mathlib.Core.Path.{_≡_, refl, sym, ap, ap₂, subst, _∙_}
+use mathlib.Core.List.{List, [], _∷_, _++_, map, map-append, append-nil}
+use mathlib.Core.Logic.{_⊎_, inl, inr}
+use Prim.Native.Nat.{ℕ, suc, _≤_, _<_}
+use native.Mathlib.Omega.{arith}
+use lib.ListN.{length}
+use Rattle.laws.specs.Lists.{tabulate}
 use Rattle.laws.specs.Gather.{gather}
-pub use Rattle.laws.specs.Members.{All}
+pub use Rattle.laws.specs.Members.{In, All}
 use Rattle.laws.proofs.Gather.{gather-append}
+use Rattle.laws.proofs.Members.{all-at, all-by}
 
 module _ {A B : Type 0} where
   pub gather-same : (f g : A → List B) → ((x : A) → f x ≡ g x) → (xs : List A) → gather f xs ≡ gather g xs
@@ -15,6 +21,16 @@ module _ {A B : Type 0} where
   unfolding gather
   gather-nothing f h [] = refl
   gather-nothing f h (x ∷ xs) = rw (h x, gather-nothing f h xs)
+
+  pub gather-same-on : (f g : A → List B) (xs : List A) → All (λ x. f x ≡ g x) xs → gather f xs ≡ gather g xs
+  unfolding gather
+  gather-same-on f g [] h = refl
+  gather-same-on f g (x ∷ xs) h = rw (h .0, gather-same-on f g xs (h .1))
+
+  pub gather-nothing-on : (f : A → List B) (xs : List A) → All (λ x. f x ≡ []) xs → gather f xs ≡ []
+  unfolding gather
+  gather-nothing-on f [] h = refl
+  gather-nothing-on f (x ∷ xs) h = rw (h .0, gather-nothing-on f xs (h .1))
 
 module _ {A B C : Type 0} where
   pub map-gather : (g : B → C) (f : A → List B) (xs : List A) → map g (gather f xs) ≡ gather (λ x. map g (f x)) xs
@@ -113,3 +129,97 @@ module _ {A C G : Type 0} where
       (λ y n. all-weaken (λ c. tagOf c ≡ tag y) (λ c. ¬ (tagOf c ≡ tag x)) (λ c e e′. n (sym e′ ∙ e)) (f y) (bears y))
       xs (all-unmap (λ t. ¬ (tag x ≡ t)) tag xs (d .0))))
       (one x) (gather-distinct f tag tagOf bears one xs (d .1))
+
+-- f j, f (j + 1), .., as many as a list has elements.
+abbrev pub keysFrom : {A K : Type 0} → (ℕ → K) → ℕ → List A → List K
+keysFrom f j [] = []
+keysFrom f j (x ∷ xs) = f j ∷ keysFrom f (suc j) xs
+
+module _ {A K : Type 0} (f : ℕ → K) where
+  pub from-all : (P : K → Type 0) → ((j : ℕ) → P (f j)) → (j : ℕ) (xs : List A) → All P (keysFrom f j xs)
+  from-all P h j [] = tt
+  from-all P h j (x ∷ xs) = (h j, from-all P h (suc j) xs)
+
+  module _ (own : (m n : ℕ) → f m ≡ f n → m ≡ n) where
+    from-later : (m j : ℕ) (xs : List A) → m < j → All (λ k. ¬ (f m ≡ k)) (keysFrom f j xs)
+    from-later m j [] h = tt
+    from-later m j (x ∷ xs) h = (λ e. let z : m ≡ j = own m j e in omega arith, from-later m (suc j) xs (omega arith))
+
+    pub from-distinct : (j : ℕ) (xs : List A) → Distinct (keysFrom f j xs)
+    from-distinct j [] = tt
+    from-distinct j (x ∷ xs) = (from-later j (suc j) xs (omega arith), from-distinct (suc j) xs)
+
+module _ {A : Type 0} where
+  -- One element is of H and all others are of N; or all are of N, and Z.
+  abbrev pub OneAt : (A → Type 0) → (A → Type 0) → Type 0 → List A → Type 0
+  OneAt N H Z [] = Z
+  OneAt N H Z (x ∷ xs) = (N x × OneAt N H Z xs) ⊎ (H x × All N xs)
+
+  pub one-none : (N H : A → Type 0) (Z : Type 0) (xs : List A) → All N xs → Z → OneAt N H Z xs
+  one-none N H Z [] h z = z
+  one-none N H Z (x ∷ xs) h z = inl (h .0, one-none N H Z xs (h .1) z)
+
+  pub one-weaken : (N H K : A → Type 0) (Y Z : Type 0) → ((x : A) → H x → K x) → (Y → Z) → (xs : List A) → OneAt N H Y xs → OneAt N K Z xs
+  one-weaken N H K Y Z f g [] o = g o
+  one-weaken N H K Y Z f g (x ∷ xs) (inl o) = inl (o .0, one-weaken N H K Y Z f g xs (o .1))
+  one-weaken N H K Y Z f g (x ∷ xs) (inr o) = inr (f x (o .0), o .1)
+
+  one-left : (N H : A → Type 0) (Z : Type 0) (xs ys : List A) → OneAt N H Z xs → All N ys → OneAt N H Z (xs ++ ys)
+  one-left N H Z [] ys o h = one-none N H Z ys h o
+  one-left N H Z (x ∷ xs) ys (inl o) h = inl (o .0, one-left N H Z xs ys (o .1) h)
+  one-left N H Z (x ∷ xs) ys (inr o) h = inr (o .0, all-append N xs ys (o .1) h)
+
+  one-right : (N H : A → Type 0) (Z : Type 0) (xs ys : List A) → All N xs → OneAt N H Z ys → OneAt N H Z (xs ++ ys)
+  one-right N H Z [] ys h o = o
+  one-right N H Z (x ∷ xs) ys h o = inl (h .0, one-right N H Z xs ys (h .1) o)
+
+module _ {A C : Type 0} where
+  pub one-gather : (N H : A → Type 0) (Z : Type 0) (M K : C → Type 0) (Y : Type 0) (f : A → List C) → ((x : A) → N x → All M (f x)) → ((x : A) → H x → OneAt M K Y (f x)) → (Z → Y) → (xs : List A) → OneAt N H Z xs → OneAt M K Y (gather f xs)
+  unfolding gather
+  one-gather N H Z M K Y f n h z [] o = z o
+  one-gather N H Z M K Y f n h z (x ∷ xs) (inl o) = one-right M K Y (f x) (gather f xs) (n x (o .0)) (one-gather N H Z M K Y f n h z xs (o .1))
+  one-gather N H Z M K Y f n h z (x ∷ xs) (inr o) = one-left M K Y (f x) (gather f xs) (h x (o .0)) (all-gather M f xs (all-weaken N (λ y. All M (f y)) n xs (o .1)))
+
+  -- What is gathered where only that one gives anything.
+  pub one-gathers : (N H : A → Type 0) (Z : Type 0) (f : A → List C) (v : List C) → ((x : A) → N x → f x ≡ []) → ((x : A) → H x → f x ≡ v) → (Z → v ≡ []) → (xs : List A) → OneAt N H Z xs → gather f xs ≡ v
+  unfolding gather
+  one-gathers N H Z f v n h z [] o = sym (z o)
+  one-gathers N H Z f v n h z (x ∷ xs) (inl o) = rw (n x (o .0)) (one-gathers N H Z f v n h z xs (o .1))
+  one-gathers N H Z f v n h z (x ∷ xs) (inr o) = ap₂ (λ a b. a ++ b) (h x (o .0)) (gather-nothing-on f xs (all-weaken N (λ y. f y ≡ []) n xs (o .1))) ∙ append-nil v
+
+  -- One of some differently tagged elements.
+  pub one-tagged : (tag : A → C) (N H : A → Type 0) (Z : Type 0) (x : A) (xs : List A) → Distinct (map tag xs) → In x xs → ((y : A) → In y xs → ¬ (tag x ≡ tag y) → N y) → ((y : A) → x ≡ y → H y) → OneAt N H Z xs
+  one-tagged tag N H Z x [] d m n h = absurd m
+  one-tagged tag N H Z x (y ∷ ys) d (inl p) n h =
+      inr (h y p, all-by N ys (λ z q. n z (inr q) (λ r. all-at (λ w. ¬ (tag y ≡ tag w)) ys (all-unmap (λ t. ¬ (tag y ≡ t)) tag ys (d .0)) z q (ap tag (sym p) ∙ r))))
+  one-tagged tag N H Z x (y ∷ ys) d (inr m) n h =
+      inl (n y (inl refl) (λ r. all-at (λ w. ¬ (tag y ≡ tag w)) ys (all-unmap (λ t. ¬ (tag y ≡ t)) tag ys (d .0)) x m (sym r)), one-tagged tag N H Z x ys (d .1) m (λ z q. n z (inr q)) h)
+
+module _ {A C : Type 0} where
+  pub in-map : (f : A → C) (x : A) (xs : List A) → In x xs → In (f x) (map f xs)
+  in-map f x [] m = absurd m
+  in-map f x (y ∷ ys) (inl p) = inl (ap f p)
+  in-map f x (y ∷ ys) (inr m) = inr (in-map f x ys m)
+
+  pub map-same-on : (f g : A → C) (xs : List A) → All (λ x. f x ≡ g x) xs → map f xs ≡ map g xs
+  map-same-on f g [] h = refl
+  map-same-on f g (x ∷ xs) h = rw (h .0, map-same-on f g xs (h .1))
+
+module _ {A : Type 0} (f : A → ℕ) where
+  -- The elements have the numbers i, i + 1, .., before n.
+  abbrev pub Consecutive : ℕ → ℕ → List A → Type 0
+  Consecutive i n [] = i ≡ n
+  Consecutive i n (x ∷ xs) = (f x ≡ i) × Consecutive (suc i) n xs
+
+  pub consecutive-append : (i m n : ℕ) (xs ys : List A) → Consecutive i m xs → Consecutive m n ys → Consecutive i n (xs ++ ys)
+  consecutive-append i m n [] ys c d = subst (λ k. Consecutive k n ys) (sym c) d
+  consecutive-append i m n (x ∷ xs) ys c d = (c .0, consecutive-append (suc i) m n xs ys (c .1) d)
+
+  pub consecutive-from : (i n : ℕ) (xs : List A) → Consecutive i n xs → All (λ x. i ≤ f x) xs
+  consecutive-from i n [] c = tt
+  consecutive-from i n (x ∷ xs) c = (omega (arith, c .0), all-weaken (λ y. suc i ≤ f y) (λ y. i ≤ f y) (λ y h. omega arith) xs (consecutive-from (suc i) n xs (c .1)))
+
+  pub consecutive-tabulate : {C : Type 0} (g : ℕ → C) (i n : ℕ) (xs : List A) → Consecutive i n xs → map (λ x. g (f x)) xs ≡ tabulate g i (length xs)
+  unfolding tabulate
+  consecutive-tabulate g i n [] c = refl
+  consecutive-tabulate g i n (x ∷ xs) c = rw (c .0, consecutive-tabulate g (suc i) n xs (c .1))
