@@ -24,12 +24,13 @@ fn put_source(source: Source) {
 }
 
 // A line: class and span; which slice the URI is a part of, its place and length there; its bytes.
-fn look_up(table: &[u8], scene: &[u8], class: u8, at: usize, len: usize) {
+fn look_up<'a>(table: &'a [u8], scene: &'a [u8], class: u8, at: usize, len: usize) {
     io::print_decimal(STDOUT_FILENO, class as u64);
     put_numbers(at, len);
     put(b": ");
     let span = uri_span(table, scene, class, at, len);
-    put_source(span.source);
+    let source = span.source;
+    put_source(source);
     put_numbers(span.at, span.len);
     put(b" [");
     put(uri(table, scene, class, at, len));
@@ -37,7 +38,7 @@ fn look_up(table: &[u8], scene: &[u8], class: u8, at: usize, len: usize) {
 }
 
 // Listed classes, with any span; then classes that are neither listed nor 255.
-fn by_class(table: &[u8], scene: &[u8]) {
+fn by_class<'a>(table: &'a [u8], scene: &'a [u8]) {
     look_up(table, scene, 1, 0, 0);
     look_up(table, scene, 2, 100, 100);
     look_up(table, scene, 0, 27, 3);
@@ -48,7 +49,7 @@ fn by_class(table: &[u8], scene: &[u8]) {
 }
 
 // Class 255: spans inside the scene, empty ones too; then spans that are not.
-fn by_span(table: &[u8], scene: &[u8]) {
+fn by_span<'a>(table: &'a [u8], scene: &'a [u8]) {
     look_up(table, scene, 255, 27, 3);
     look_up(table, scene, 255, 0, 37);
     look_up(table, scene, 255, 27, 0);
