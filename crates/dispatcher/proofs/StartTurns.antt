@@ -142,17 +142,17 @@ module _ (table : List ℕ) (header : Header) (index s : List ℕ) (head : Head)
   few-bound = bound-few (decode table) s z clear
 
 -- ---- 21 and 22
-module _ (t : Table) (s : List ℕ) (head : Head) (levels bindings spaces strands : List ℕ) (e : Start) (o : Open) (place : ℕ) (out : List ℕ) where
+module _ (t : Table) (s : List ℕ) (head : Head) (levels bindings spaces strands : List ℕ) (e : Start) (own : List Binding) (place : ℕ) (out : List ℕ) where
   abbrev z₁ : Session
   z₁ = sessionOf head levels bindings spaces strands
 
-  pub deep-turn : 64 ≤ head .depth → stepBy (stopTurn 21 (e .at) head) levels bindings spaces strands out ≡ planned (startPlan t s z₁ e (o .declarations) place) z₁ out
+  pub deep-turn : 64 ≤ head .depth → stepBy (stopTurn 21 (e .at) head) levels bindings spaces strands out ≡ planned (startPlan t s z₁ e own place) z₁ out
   unfolding startPlan
   deep-turn h = rw (le-leb 64 (head .depth) h)
 
-  pub bound-turn : head .depth < 64 → 64 < head .bound + length (o .declarations) → stepBy (stopTurn 22 (e .at) head) levels bindings spaces strands out ≡ planned (startPlan t s z₁ e (o .declarations) place) z₁ out
+  pub bound-turn : head .depth < 64 → 64 < head .bound + length own → stepBy (stopTurn 22 (e .at) head) levels bindings spaces strands out ≡ planned (startPlan t s z₁ e own place) z₁ out
   unfolding startPlan
-  bound-turn h k = rw (lt-leb 64 (head .depth) h, lt-ltb 64 (head .bound + length (o .declarations)) k)
+  bound-turn h k = rw (lt-leb 64 (head .depth) h, lt-ltb 64 (head .bound + length own) k)
 
 -- ---- what is decided can be written
 map-each : {A B : Type 0} (P : B → Type 0) (f : A → B) (l : List A) → All P (map f l) → All (λ (x : A). P (f x)) l

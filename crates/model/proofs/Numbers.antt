@@ -11,7 +11,7 @@ use Rattle.laws.specs.Lists.{tabulate}
 use Rattle.laws.specs.Gather.{gather}
 use Rattle.model.specs.Theory.{Piece, opens, holds, Record}
 use Rattle.model.specs.Model.{Key, sameKey, opened, numberIn, list}
-use Rattle.model.specs.Units.{ofUnit}
+use Rattle.model.specs.Units.{OpensOnce, ofUnit}
 use Rattle.model.proofs.Lists.{map-gather, gather-map, Distinct}
 use Rattle.model.proofs.Simulation.{Counts, renamed, openedBy}
 use Rattle.model.proofs.Keys.{same-key-refl, same-key-eq, counts-places}
@@ -34,26 +34,20 @@ unfolding tabulate
 counted ν u [] c = refl
 counted ν u (k ∷ ks) c = rw (c .0, counted ν (suc u) ks (c .1))
 
--- Pieces that begin with an open.
-abbrev pub StartsOpen : {B : Type 0} → List (Piece B) → Type 0
-StartsOpen [] = ⊥
-StartsOpen (opens b ∷ ps) = Unit {0}
-StartsOpen (holds b ∷ ps) = ⊥
-
 module _ {B : Type 0} where
-  number-in : (k : Key) (ps : List (Record B Key)) → StartsOpen (ofKey k ps) → numberIn (opened ps) k < length (opened ps)
+  number-in : (k : Key) (ps : List (Record B Key)) → OpensOnce (ofKey k ps) → numberIn (opened ps) k < length (opened ps)
   unfolding gather
   number-in k [] s = absurd s
   number-in k (p ∷ ps) s = go (p .unit) (p .piece) (sameKey k (p .unit)) refl s (number-in k ps)
     where
-      behind : (l : Key) → (StartsOpen (ofKey k ps) → numberIn (opened ps) k < length (opened ps)) → StartsOpen (ofKey k ps) → cond (sameKey l k) 0 (suc (numberIn (opened ps) k)) < suc (length (opened ps))
+      behind : (l : Key) → (OpensOnce (ofKey k ps) → numberIn (opened ps) k < length (opened ps)) → OpensOnce (ofKey k ps) → cond (sameKey l k) 0 (suc (numberIn (opened ps) k)) < suc (length (opened ps))
       behind l ih s = at (sameKey l k)
         where
           at : (b : Bool) → cond b 0 (suc (numberIn (opened ps) k)) < suc (length (opened ps))
           at true = omega arith
           at false = omega (arith, ih s)
 
-      go : (l : Key) (c : Piece B) (b : Bool) → sameKey k l ≡ b → StartsOpen (cond b (c ∷ []) [] ++ ofKey k ps) → (StartsOpen (ofKey k ps) → numberIn (opened ps) k < length (opened ps)) → numberIn (openedBy l c ++ opened ps) k < length (openedBy l c ++ opened ps)
+      go : (l : Key) (c : Piece B) (b : Bool) → sameKey k l ≡ b → OpensOnce (cond b (c ∷ []) [] ++ ofKey k ps) → (OpensOnce (ofKey k ps) → numberIn (opened ps) k < length (opened ps)) → numberIn (openedBy l c ++ opened ps) k < length (openedBy l c ++ opened ps)
       go l (opens x) true e s ih = rw (← (same-key-eq k l e), same-key-refl k) (omega arith)
       go l (holds x) true e s ih = absurd s
       go l (opens x) false e s ih = behind l ih s
@@ -74,7 +68,7 @@ module _ {B : Type 0} where
       gather-map (λ x. x) (map (renamed ν)) rs ∙ sym (map-gather (renamed ν) (λ x. x) rs)
 
   -- The records with a unit's number are those with its key.
-  pub numbered : (rs : List (List (Record B Key))) (k : Key) → StartsOpen (ofKey k (gather (λ x. x) rs)) → (ps : List (Record B Key)) → ofUnit (eqb (numberIn (opened (gather (λ x. x) rs)) k)) (map (renamed (numberIn (opened (gather (λ x. x) rs)))) ps) ≡ ofKey k ps
+  pub numbered : (rs : List (List (Record B Key))) (k : Key) → OpensOnce (ofKey k (gather (λ x. x) rs)) → (ps : List (Record B Key)) → ofUnit (eqb (numberIn (opened (gather (λ x. x) rs)) k)) (map (renamed (numberIn (opened (gather (λ x. x) rs)))) ps) ≡ ofKey k ps
   numbered rs k b =
       let all : List (Record B Key) = gather (λ x. x) rs in
       of-number (numberIn (opened all)) k (λ l x. number-own (opened all) k l (number-in k all b) x)

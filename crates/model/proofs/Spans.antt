@@ -1,24 +1,26 @@
 -- The events at which a unit opens and has its pieces; the attribute units of an element; the choices of its strands.
-use mathlib.Core.Path.{_≡_, refl, sym, ap, _∙_}
+use mathlib.Core.Path.{_≡_, refl, sym, ap, _∙_, subst}
 use mathlib.Core.Bool.{true, false, false≢true}
-use mathlib.Core.List.{List, [], _∷_, map, tail}
+use mathlib.Core.List.{List, [], _∷_, _++_, map, tail}
 use Prim.Native.Nat.{ℕ, suc, _≤_, _<_}
 use native.Mathlib.Omega.{arith}
-use Rattle.model.specs.Theory.{Attach, Unwrap, Validate, Action, Rule, Piece, opens, holds, Theory, taken}
+use Rattle.laws.specs.Gather.{gather}
+use Rattle.model.specs.Theory.{Attach, Unwrap, Validate, Action, Rule, Piece, Theory, taken}
 use Rattle.model.specs.Sections.{AttributeSection, Tags, Content}
-use Rattle.model.specs.Model.{attributeUnit, WholeUnit, marked, attributeUnitsFrom, virtualPieces, attributePieces, Strand, Assigned, along, enter, attributesOf}
+use Rattle.model.specs.Model.{attributeUnit, WholeUnit, attributeUnitsFrom, virtualPieces, attributePieces, Strand, Assigned, along, enter, attributesOf}
 use Rattle.model.proofs.Lists.{map-gather, All, Distinct, all-weaken, all-gather, every, gather-distinct, keysFrom, from-all}
 use Rattle.model.proofs.Events.{Within, within-widen, within-marked, at-before, at-behind}
 use Rattle.model.proofs.Order.{Rising, rising-from, rising-marked}
 use Rattle.model.proofs.Keys.{eventOf, choicesOf, ofAttributes, attribute-keys-distinct, choices-bear, choices-distinct}
 use Rattle.model.proofs.Shown.{Other, ForTarget, Nothing, Elsewhere}
-use Rattle.model.proofs.Numbers.{StartsOpen}
+use Rattle.model.specs.Units.{OpensOnce}
+use Rattle.model.proofs.Opens.{held-bodies, marked-pieces}
 
 -- A unit that opens, and has its pieces in their order, at the events from lo on and before hi.
 pub record Spans {B : Type 0} (lo hi : ℕ) (u : WholeUnit B) : Type 0 where
   pub from : lo ≤ eventOf (u .key)
   pub before : eventOf (u .key) < hi
-  pub begins : StartsOpen (map (λ p. p .piece) (u .pieces))
+  pub opensOnce : OpensOnce (map (λ p. p .piece) (u .pieces))
   pub within : Within lo hi (u .pieces)
   pub rising : Rising lo (u .pieces)
 
@@ -27,7 +29,7 @@ module _ {B : Type 0} where
   spans-widen lo hi lo′ hi′ a b u s = record {
     from = omega (arith, s .from);
     before = omega (arith, s .before);
-    begins = s .begins;
+    opensOnce = s .opensOnce;
     within = within-widen lo hi lo′ hi′ a b (u .pieces) (s .within);
     rising = rising-from lo lo′ a (u .pieces) (s .rising);
   }
@@ -59,27 +61,22 @@ module _ {B : Type 0} where
   spans-behind lo hi u s i n l = (λ k a b x. omega (arith, s .before, x), λ k a b. at-behind k lo hi (u .pieces) (omega arith) (s .within))
 
   -- Attribute units.
-  attributes-span : (i : ℕ) (cs : List ℕ) (j : ℕ) (xs : List (List (Piece B))) → All StartsOpen xs → All (Spans i (suc i)) (attributeUnitsFrom i cs j xs)
+  attributes-span : (i : ℕ) (cs : List ℕ) (j : ℕ) (xs : List (List (Piece B))) → All OpensOnce xs → All (Spans i (suc i)) (attributeUnitsFrom i cs j xs)
   attributes-span i cs j [] h = tt
-  attributes-span i cs j (x ∷ xs) h = (record { from = omega arith; before = omega arith; begins = go x (h .0); within = within-marked i (suc i) i (omega arith) (omega arith) x; rising = rising-marked i x }, attributes-span i cs (suc j) xs (h .1))
-    where
-      go : (ps : List (Piece B)) → StartsOpen ps → StartsOpen (map (λ p. p .piece) (marked i ps))
-      go [] s = s
-      go (opens b ∷ ps) s = tt
-      go (holds b ∷ ps) s = s
+  attributes-span i cs j (x ∷ xs) h = (record { from = omega arith; before = omega arith; opensOnce = subst OpensOnce (sym (marked-pieces i x)) (h .0); within = within-marked i (suc i) i (omega arith) (omega arith) x; rising = rising-marked i x }, attributes-span i cs (suc j) xs (h .1))
 
   attributes-keys : (i : ℕ) (cs : List ℕ) (j : ℕ) (xs : List (List (Piece B))) → map (λ v. v .key) (attributeUnitsFrom i cs j xs) ≡ keysFrom (attributeUnit i cs) j xs
   attributes-keys i cs j [] = refl
   attributes-keys i cs j (x ∷ xs) = rw (attributes-keys i cs (suc j) xs)
 
 module _ (Θ : Theory) where
-  attributes-begin : (m : ℕ) (σ : Θ .StartInfo) (cs : List (AttributeSection Θ)) → All StartsOpen (attributePieces Θ m σ cs)
-  attributes-begin m σ cs = all-gather (StartsOpen {B = Θ .Body}) _ cs (every (λ c. all-gather (StartsOpen {B = Θ .Body}) _ (Θ .attributeRules m (c .first)) (every (λ q. go c (q .schema) (q .action)) (Θ .attributeRules m (c .first)))) cs)
+  attributes-begin : (m : ℕ) (σ : Θ .StartInfo) (cs : List (AttributeSection Θ)) → All OpensOnce (attributePieces Θ m σ cs)
+  attributes-begin m σ cs = all-gather (OpensOnce {B = Θ .Body}) _ cs (every (λ c. all-gather (OpensOnce {B = Θ .Body}) _ (Θ .attributeRules m (c .first)) (every (λ q. go c (q .schema) (q .action)) (Θ .attributeRules m (c .first)))) cs)
     where
-      go : (c : AttributeSection Θ) (schema : ℕ) (a : Action) → All (StartsOpen {B = Θ .Body}) (elim a [ Attach ↦ [] | Unwrap ↦ [] | Validate ↦ virtualPieces Θ σ c schema ∷ [] ])
+      go : (c : AttributeSection Θ) (schema : ℕ) (a : Action) → All (OpensOnce {B = Θ .Body}) (elim a [ Attach ↦ [] | Unwrap ↦ [] | Validate ↦ virtualPieces Θ σ c schema ∷ [] ])
       go c schema Attach = tt
       go c schema Unwrap = tt
-      go c schema Validate = (tt, tt)
+      go c schema Validate = (held-bodies (Θ .virtualStart ∷ gather (Θ .attributeBodies) (c .first ∷ c .others) ++ (Θ .virtualEnd ∷ Θ .closeBody ∷ [])), tt)
 
   pub element-attributes-span : (e : Tags Θ) (ss : List (Strand (Θ .Body))) → All (Spans (e .startAt) (suc (e .startAt))) (attributesOf Θ e ss)
   element-attributes-span e ss = all-gather (Spans (e .startAt) (suc (e .startAt))) _ ss

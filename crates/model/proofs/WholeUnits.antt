@@ -21,6 +21,7 @@ use Rattle.model.proofs.Slots.{filling-within, filling-rising, new-piec
 use Rattle.model.proofs.Keys.{eventOf, choicesOf, ofAttributes}
 use Rattle.model.proofs.Shown.{ofKey, of-gather, Shown, Other, ForTarget, shown-by-strand, shown-by-attribute, shown-nowhere, attributes-keyed, Made, made-target, enter-made, Nothing}
 use Rattle.model.proofs.Carried.{Holder, other-attributes, carried-shown, not-shown}
+use Rattle.model.proofs.Opens.{new-opens}
 use Rattle.model.proofs.Spans.{Spans, spans-widen, Old, Each, old-later, old-other, attribute-other, spans-before, spans-behind, choicesOn, element-attributes-span, attributes-distinct, enter-differs}
 
 module _ (Θ : Theory) where
@@ -141,7 +142,7 @@ module _ (Θ : Theory) where
         record {
           from = omega arith;
           before = omega (arith, l);
-          begins = tt;
+          opensOnce = new-opens Θ e inner cs q;
           within = subst (Within (e .startAt) (suc (e .endAt))) (sym (new-pieces Θ e inner cs q)) (bracket-within true (e .startAt) (e .endAt) starts f ends l w);
           rising = subst (Rising (e .startAt)) (sym (new-pieces Θ e inner cs q)) (bracket-rising true (e .startAt) (e .endAt) starts f ends l w r);
         }

@@ -7,8 +7,8 @@ use mathlib.Core.Option.{some}
 use Prim.Native.Nat.{ℕ}
 use lib.Dec.{eqb}
 use Rattle.laws.specs.Gather.{gather}
-use Rattle.laws.specs.Members.{In}
-use Rattle.model.specs.Theory.{Piece, Record, Theory}
+use Rattle.laws.specs.Members.{In, All}
+use Rattle.model.specs.Theory.{Piece, opens, holds, Record, Theory}
 use Rattle.model.specs.Tree.{Tree}
 use Rattle.model.specs.Model.{WholeUnit, Strand, Assigned, opened, numberIn, assigned, cells}
 
@@ -19,6 +19,17 @@ ofUnit test = gather (λ p. cond (test (p .unit)) (p .piece ∷ []) [])
 -- The pieces that a unit has of event k.
 abbrev pub piecesAt : {B : Type 0} → WholeUnit B → ℕ → List (Piece B)
 piecesAt u k = gather (λ p. cond (eqb (p .event) k) (p .piece ∷ []) []) (u .pieces)
+
+-- A piece other than an open.
+abbrev pub IsHeld : {B : Type 0} → Piece B → Type 0
+IsHeld (opens b) = ⊥
+IsHeld (holds b) = Unit {0}
+
+-- Pieces of which the first is an open, and no other.
+abbrev pub OpensOnce : {B : Type 0} → List (Piece B) → Type 0
+OpensOnce [] = ⊥
+OpensOnce (opens b ∷ ps) = All IsHeld ps
+OpensOnce (holds b ∷ ps) = ⊥
 
 module _ (Θ : Theory) where
   -- A unit of a document: of some event an attribute unit, or the target of a strand.
