@@ -40,7 +40,7 @@ use Rattle.demands.specs.Scenes.{readerAfter}
 use Rattle.demands.specs.Limits.{depthAt, boundAt, strandsAt, unitsAt, passed, WithinFirst, firstPast}
 use Rattle.demands.proofs.Goes.{Onward, goes-on, event-goes}
 use Rattle.demands.proofs.Prefixes.{toldFirst, told-first-on}
-use Rattle.demands.proofs.Measures.{streamAfter, reader-after, levels-length, bound-is, depth-is, strands-are, units-are, within-passed}
+use Rattle.demands.proofs.Measures.{numberBy, streamAfter, reader-after, levels-length, bound-is, depth-is, strands-are, units-are, within-passed}
 use Rattle.demands.proofs.Reached.{Reached, reached-fresh, few-events, reached-step}
 
 -- an event is planned
@@ -50,9 +50,6 @@ pub record Planned (t : Table) (s : List ℕ) (z : Session) (p : ℕ) : Type 0 w
   pub is : planOf t s z ≡ event p records session
 
 -- the first of the tests that holds, as a number and as a plan
-abbrev numberBy : Bool → Bool → Bool → Bool → ℕ
-numberBy a b c d = cond a 21 (cond b 22 (cond c 23 (cond d 24 0)))
-
 abbrev planBehind : Bool → Bool → Bool → Bool → Plan → ℕ → Plan
 planBehind a b c d x p = cond a (refused 21 p) (cond b (refused 22 p) (cond c (refused 23 p) (cond d (refused 24 p) x)))
 

@@ -3,3 +3,4 @@ pub mod Scenes
 pub mod Limits
 pub mod Runs
 pub mod CallExamples
+pub mod LimitExamples
