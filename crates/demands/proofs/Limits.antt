@@ -1,9 +1,10 @@
 -- Numbers 21 to 24 of a step, by the model: the limit that the next event passes.
 --     limited-step     behind k events: refused by the limit that the k-th passes, at its place; an event where it passes none
+--     limited-answer   the same as a step's answer
 --     only-starts      texts and ends pass none
 --     first-start      the first event of a scene to pass a limit is a start
 --     first-past       that event is what `firstPast` gives
-use Prim.Native.Nat.{ℕ, zero, suc, _+_, _≤_, _<_}
+use Prim.Native.Nat.{ℕ, zero, suc, _+_, _*_, _≤_, _<_}
 use mathlib.Core.Path.{_≡_, refl, sym, ap, subst, _∙_}
 use mathlib.Core.List.{List, [], _∷_, _++_, map}
 use mathlib.Core.Bool.{Bool, true, false, cond}
@@ -17,7 +18,7 @@ use lib.Dec.{leb, ltb, eqb, leb·suc-suc}
 use Rattle.laws.specs.Reading.{le-or-lt}
 use Rattle.laws.proofs.Holds.{holds-cond}
 use Rattle.table.specs.Table.{Table, decode}
-use Rattle.table.specs.Judge.{Accepted}
+use Rattle.table.specs.Judge.{judged, Accepted}
 use Rattle.reader.specs.Events as scene
 use Rattle.reader.specs.Events.{ReaderState, freshReader, bindingsOf, next, events}
 use Rattle.reader.specs.Spans.{span}
@@ -34,11 +35,14 @@ use Rattle.model.proofs.Steps as stream
 use Rattle.model.proofs.Assigned.{modesAt}
 use Rattle.model.proofs.Tables.{one}
 use Rattle.dispatcher.specs.Sessions.{readerOf, stateOf, freshOf, withPlace, withEnd}
-use Rattle.dispatcher.specs.Stepping.{eventPlace, Plan, refused, event, startPlan, opensPlan, planBy, planOf}
+use Rattle.dispatcher.specs.Stepping.{eventPlace, Plan, refused, event, startPlan, opensPlan, planBy, planOf, planned, Step, refusedStep, stepOf}
 use Rattle.dispatcher.specs.declared.Session.{Session}
+use Rattle.dispatcher.proofs.SoundCoherent.{sound-coherent}
 use Rattle.demands.specs.Scenes.{readerAfter}
 use Rattle.demands.specs.Limits.{depthAt, boundAt, strandsAt, unitsAt, passed, WithinFirst, firstPast}
 use Rattle.demands.proofs.Goes.{Onward, goes-on, event-goes}
+use Rattle.demands.proofs.Refusals as step
+use Rattle.demands.proofs.Refusals.{Ready, answered-so, step-planned}
 use Rattle.demands.proofs.Prefixes.{toldFirst, told-first-on}
 use Rattle.demands.proofs.Measures.{numberBy, streamAfter, reader-after, levels-length, bound-is, depth-is, strands-are, units-are, within-passed}
 use Rattle.demands.proofs.Reached.{Reached, reached-fresh, few-events, reached-step}
@@ -155,6 +159,23 @@ module _ (table : List ℕ) (ok : Accepted table ≡ true) (s : List ℕ) (short
       let state = stateOf t s z in
       let r = by-limits (leb 64 (z .scope .depth)) (ltb 64 (z .scope .bound + length (o .declarations))) (ltb 16 (length (enter (dispatch t) (state .levels) σ))) (ltb 65536 (after (dispatch t) state (start σ) .units)) _ (e .at) in
       (λ n. plan ∙ r .0 (λ x. n (number ∙ x)) ∙ ap (λ (m : ℕ). refused m (e .at)) (sym number), λ n. record { records = _; session = _; is = plan ∙ r .1 (sym number ∙ n) })
+
+  pub reached-ready : Ready table s z
+  reached-ready = record { accepted = eqb-true (judged table .number) 0 ok; short = short; fits = sound-coherent t s z (h .sound) }
+
+  pub limited-answer : k < length (events s) → (d : scene.Event) (out : List ℕ) →
+      ((passed t s k ≡ 0 → ⊥) → stepOf table s z out ≡ refusedStep (passed t s k) (eventPlace (getD (events s) k d)) z out)
+      × (passed t s k ≡ 0 → (stepOf table s z out .answer .number ≡ 0) ⊎ (stepOf table s z out .answer .number ≡ 25))
+  limited-answer lt d out =
+      let x = event-next t s z k rs h lt d in
+      let l = limited-step (getD (events s) k d) (x .0) (x .1) in
+      (
+        λ n. step-planned table s z out reached-ready ∙ ap (λ (y : Plan). planned y z out) (l .0 n),
+        λ n. let p = l .1 n in ⊎-elim
+        (λ le. inl (ap (λ (r : Step). r .answer .number) (answered-so table s z out (step.written reached-ready _ (p .records) (p .session) (p .is) le))))
+        (λ gt. inr (ap (λ (r : Step). r .answer .number) (answered-so table s z out (step.no-room reached-ready _ (p .records) (p .session) (p .is) gt))))
+        (le-or-lt (16 * length (p .records)) (length out)),
+      )
 
 -- ---- a scene's events
 module _ (table : List ℕ) (ok : Accepted table ≡ true) (s : List ℕ) (short : length s ≤ 16777215) where
