@@ -168,13 +168,12 @@ module _ (table : List ℕ) (ok : Accepted table ≡ true) (s : List ℕ) (short
       × (passed t s k ≡ 0 → (stepOf table s z out .answer .number ≡ 0) ⊎ (stepOf table s z out .answer .number ≡ 25))
   limited-answer lt d out =
       let x = event-next t s z k rs h lt d in
-      let l = limited-step (getD (events s) k d) (x .0) (x .1) in
-      (
+      let l = limited-step (getD (events s) k d) (x .0) (x .1) in (
         λ n. step-planned table s z out reached-ready ∙ ap (λ (y : Plan). planned y z out) (l .0 n),
         λ n. let p = l .1 n in ⊎-elim
-        (λ le. inl (ap (λ (r : Step). r .answer .number) (answered-so table s z out (step.written reached-ready _ (p .records) (p .session) (p .is) le))))
-        (λ gt. inr (ap (λ (r : Step). r .answer .number) (answered-so table s z out (step.no-room reached-ready _ (p .records) (p .session) (p .is) gt))))
-        (le-or-lt (16 * length (p .records)) (length out)),
+            (λ le. inl (ap (λ (r : Step). r .answer .number) (answered-so table s z out (step.written reached-ready _ (p .records) (p .session) (p .is) le))))
+            (λ gt. inr (ap (λ (r : Step). r .answer .number) (answered-so table s z out (step.no-room reached-ready _ (p .records) (p .session) (p .is) gt))))
+            (le-or-lt (16 * length (p .records)) (length out)),
       )
 
 -- ---- a scene's events
