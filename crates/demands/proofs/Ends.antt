@@ -27,11 +27,11 @@ use Rattle.dispatcher.specs.declared.Session.{Session}
 use Rattle.demands.specs.Scenes.{modelCount}
 use Rattle.demands.specs.Limits.{passed, WithinFirst, Within, FirstLimit, firstPast, End, readEnd, endOf}
 use Rattle.demands.proofs.Goes.{goes-on}
-use Rattle.demands.proofs.Limits.{passed-number, next-event, FirstPast, first-past}
+use Rattle.demands.proofs.Limits.{passed-number, next-event, taken-passed, FirstPast, first-past}
 use Rattle.demands.proofs.Refusals as step
 use Rattle.demands.proofs.Refusals.{Ready, Starts, Answered, bad-table, long-scene, bad-session, unread, all-read, no-room, written, answered-by, exactly-9}
 use Rattle.demands.proofs.Runs.{Ended, run-ended, scenes}
-use Rattle.demands.proofs.Accepted.{few, ready, last, past, limited, stopped, through, reads}
+use Rattle.demands.proofs.Accepted.{few, ready, last, limited, stopped, through, reads}
 
 -- ---- every run
 -- what the run answers is what its last step answers
@@ -45,10 +45,13 @@ module _ (table s out : List ℕ) (e : Ended table s out (runOf table s out)) wh
   events-are : runOf table s out .answer .events ≡ e .events
   events-are = ap (λ (r : Run). r .answer .events) (e .is)
 
-pub taken-within : (table s out : List ℕ) → Accepted table ≡ true → length s ≤ 16777215 → WithinFirst (decode table) s (runOf table s out .answer .events)
-taken-within table s out ok short =
+  past : Accepted table ≡ true → WithinFirst (decode table) s (e .events)
+  past ok = taken-passed table ok s (e .session) (e .events) (e .records) (e .reached)
+
+pub taken-within : (table s out : List ℕ) → Accepted table ≡ true → WithinFirst (decode table) s (runOf table s out .answer .events)
+taken-within table s out ok =
     let e = run-ended table s out in
-    subst (WithinFirst (decode table) s) (sym (events-are table s out e)) (past table s out ok short e)
+    subst (WithinFirst (decode table) s) (sym (events-are table s out e)) (past table s out e ok)
 
 accepted-by : (table s : List ℕ) (z : Session) → Ready table s z → Accepted table ≡ true
 accepted-by table s z r = eq-eqb (judged table .number) 0 (r .accepted)
@@ -60,7 +63,7 @@ whole-within table s out nine =
     let said : e .number ≡ 9 = sym (number-is table s out e) ∙ nine in
     let r = exactly-9 table s (e .session) (drop (16 * length (e .records)) out) .only (ap (λ (x : Step). x .answer .number) (e .last) ∙ said) in
     let all = scenes table s out .whole nine .0 in
-    subst (WithinFirst (decode table) s) all (taken-within table s out (accepted-by table s (e .session) (r .0)) (r .0 .short))
+    subst (WithinFirst (decode table) s) all (taken-within table s out (accepted-by table s (e .session) (r .0)))
 
 -- a step that gives 21 to 24 read a start
 record AtStart (table s : List ℕ) (z : Session) : Type 0 where
@@ -105,7 +108,7 @@ limited-run table s out lo hi = by (run-ended table s out)
         let so = limited table s out ok short e lt some-limit d in
         record {
           before = e .events;
-          earlier = past table s out ok short e;
+          earlier = past table s out e ok;
           tag = a .tag;
           event-is = is;
           number-is = number ∙ ap (λ (r : Step). r .answer .number) so;
@@ -158,7 +161,7 @@ module _ (table s out : List ℕ) (ok : Accepted table ≡ true) (short : length
   ends-by (some k) f =
       let e = run-ended table s out in
       let le = through table s out ok short e k (omega (arith, f .0)) (f .2) room in
-      let here : e .events ≡ k = ⊎-elim (λ ge. omega arith) (λ lt. absurd (f .1 (past table s out ok short e k lt))) (le-or-lt (e .events) k) in
+      let here : e .events ≡ k = ⊎-elim (λ ge. omega arith) (λ lt. absurd (f .1 (past table s out e ok k lt))) (le-or-lt (e .events) k) in
       let so = limited table s out ok short e (omega (arith, f .0)) (subst (λ (i : ℕ). passed t s i ≡ 0 → ⊥) (sym here) (f .1)) (scene.text (span 0 0)) in (
         number-is table s out e ∙ ap (λ (x : Step). x .answer .number) so ∙ ap (passed t s) here,
         place-is table s out e ∙ ap (λ (x : Step). x .answer .place) so ∙ ap (λ (i : ℕ). eventPlace (getD (events s) i (scene.text (span 0 0)))) here,
@@ -192,5 +195,5 @@ module _ (table s out : List ℕ) (ok : Accepted table ≡ true) (short : length
       let w = events-end s in
       let i = numbered s (w .0) (state-held s (w .0) (length (events s)) freshReader (w .1) (held-fresh s)) n p (w .2 ∙ is) in (
         λ h. let x = ends-by none h in (x .0 ∙ ap (λ (y : scene.Next). readEnd y .number) is, x .1 ∙ ap (λ (y : scene.Next). readEnd y .place) is),
-        λ q. subst (WithinFirst t s) (scenes table s out .read (omega (arith, i .few)) .0) (taken-within table s out ok short),
+        λ q. subst (WithinFirst t s) (scenes table s out .read (omega (arith, i .few)) .0) (taken-within table s out ok),
       )

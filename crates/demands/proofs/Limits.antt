@@ -1,4 +1,5 @@
 -- Numbers 21 to 24 of a step, by the model: the limit that the next event passes.
+--     taken-passed     the events that steps took pass none
 --     limited-step     behind k events: refused by the limit that the k-th passes, at its place; an event where it passes none
 --     limited-answer   the same as a step's answer
 --     only-starts      texts and ends pass none
@@ -6,7 +7,7 @@
 --     first-past       that event is what `firstPast` gives
 use Prim.Native.Nat.{ℕ, zero, suc, _+_, _*_, _≤_, _<_}
 use mathlib.Core.Path.{_≡_, refl, sym, ap, subst, _∙_}
-use mathlib.Core.List.{List, [], _∷_, _++_, map}
+use mathlib.Core.List.{List, [], _∷_, _++_}
 use mathlib.Core.Bool.{Bool, true, false, cond}
 use mathlib.Core.Logic.{_⊎_, inl, inr, ⊎-elim}
 use mathlib.Core.Option.{Option, none, some}
@@ -40,7 +41,7 @@ use Rattle.dispatcher.specs.declared.Session.{Session}
 use Rattle.dispatcher.proofs.SoundCoherent.{sound-coherent}
 use Rattle.demands.specs.Scenes.{readerAfter}
 use Rattle.demands.specs.Limits.{depthAt, boundAt, strandsAt, unitsAt, passed, WithinFirst, firstPast}
-use Rattle.demands.proofs.Goes.{Onward, goes-on, event-goes}
+use Rattle.demands.proofs.Goes.{goes-on, event-goes}
 use Rattle.demands.proofs.Refusals as step
 use Rattle.demands.proofs.Refusals.{Ready, answered-so, step-planned}
 use Rattle.demands.proofs.Prefixes.{toldFirst, told-first-on}
@@ -89,6 +90,11 @@ module _ (t : Table) (s : List ℕ) (z : Session) (k : ℕ) (rs : List (Record B
       let n = event-next (goes-on s k (readerOf z) e z′ (h .reader) q .inside) d in
       let same : scene.event (getD (events s) k d) (n .0) ≡ scene.event e z′ = sym (n .1) ∙ q in
       cc
+
+-- the events that steps took pass no limit
+pub taken-passed : (table : List ℕ) → Accepted table ≡ true → (s : List ℕ) (z : Session) (k : ℕ) (rs : List (Record Body ℕ)) → Reached (decode table) s z k rs → WithinFirst (decode table) s k
+taken-passed table ok s z k rs h i lt =
+    within-passed (decode table) s i (omega (arith, few-events (decode table) s z k rs h)) (one table ok) (h .within i (omega arith)) (h .within (suc i) (omega arith))
 
 module _ (table : List ℕ) (ok : Accepted table ≡ true) (s : List ℕ) (short : length s ≤ 16777215) (z : Session) (k : ℕ) (rs : List (Record Body ℕ)) (h : Reached (decode table) s z k rs) where
   abbrev t : Table
