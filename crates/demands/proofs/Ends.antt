@@ -2,11 +2,12 @@
 --     taken-within     the events that a run took pass no limit
 --     whole-within     a run that gives 9 passes no limit
 --     limited-run      one that gives 21 to 24 stopped at the first start that passes a limit, by that
---     run-ends         where the output has room, number and place are those of `endOf`
---     finished-exactly, limited-exactly, refused-exactly     where it has room: which number exactly when
-use Prim.Native.Nat.{ℕ, _*_, _≤_, _<_}
+--     run-ends         where the output has room for the events before the first limit, number and place are those of `endOf`
+--     run-full         where it has not: 25
+--     finished-exactly, limited-exactly, refused-exactly     where it has room for all events: which number exactly when
+use Prim.Native.Nat.{ℕ, _+_, _*_, _-_, _≤_, _<_}
 use mathlib.Core.Path.{_≡_, refl, sym, ap, subst, _∙_}
-use mathlib.Core.List.{List}
+use mathlib.Core.List.{List, _++_}
 use mathlib.Core.Bool.{true}
 use mathlib.Core.Logic.{⊎-elim}
 use mathlib.Core.Option.{Option, none, some}
@@ -21,18 +22,21 @@ use Rattle.reader.specs.Events.{freshReader, events, lastOf}
 use Rattle.reader.specs.Spans.{span}
 use Rattle.reader.proofs.Held.{held-fresh, numbered}
 use Rattle.reader.proofs.EventsFirst.{state-held, events-end}
+use Rattle.model.specs.Dispatch.{expected}
+use Rattle.model.proofs.Tables.{one}
 use Rattle.dispatcher.specs.Sessions.{readerOf}
-use Rattle.dispatcher.specs.Stepping.{eventPlace, Step, refusedStep, Run, runOf}
+use Rattle.dispatcher.specs.Stepping.{eventPlace, Step, answered, refusedStep, Run, runOf}
 use Rattle.dispatcher.specs.declared.Session.{Session}
 use Rattle.demands.specs.Scenes.{modelCount}
-use Rattle.demands.specs.Limits.{passed, WithinFirst, Within, FirstLimit, firstPast, End, readEnd, endOf}
+use Rattle.demands.specs.Limits.{passed, WithinFirst, Within, FirstLimit, firstPast, eventsWithin, End, readEnd, endOf}
 use Rattle.demands.proofs.Goes.{goes-on}
-use Rattle.demands.proofs.Limits.{passed-number, next-event, FirstPast, first-past}
+use Rattle.demands.proofs.Expected.{count-grows}
+use Rattle.demands.proofs.Limits.{passed-number, next-event, taken-passed, FirstPast, first-past}
 use Rattle.demands.specs.Answers as step
 use Rattle.demands.specs.Answers.{Ready, Starts, Answered, bad-table, long-scene, bad-session, unread, all-read, no-room, written}
 use Rattle.demands.proofs.Refusals.{answered-by, exactly-9}
 use Rattle.demands.proofs.Runs.{Ended, run-ended, scenes}
-use Rattle.demands.proofs.Accepted.{few, ready, last, past, limited, stopped, through, reads}
+use Rattle.demands.proofs.Accepted.{few, ready, last, limited, stopped, through, reads, no-room-first}
 
 -- ---- every run
 -- what the run answers is what its last step answers
@@ -46,10 +50,13 @@ module _ (table s out : List ℕ) (e : Ended table s out (runOf table s out)) wh
   events-are : runOf table s out .answer .events ≡ e .events
   events-are = ap (λ (r : Run). r .answer .events) (e .is)
 
-pub taken-within : (table s out : List ℕ) → Accepted table ≡ true → length s ≤ 16777215 → WithinFirst (decode table) s (runOf table s out .answer .events)
-taken-within table s out ok short =
+  past : Accepted table ≡ true → WithinFirst (decode table) s (e .events)
+  past ok = taken-passed table ok s (e .session) (e .events) (e .records) (e .reached)
+
+pub taken-within : (table s out : List ℕ) → Accepted table ≡ true → WithinFirst (decode table) s (runOf table s out .answer .events)
+taken-within table s out ok =
     let e = run-ended table s out in
-    subst (WithinFirst (decode table) s) (sym (events-are table s out e)) (past table s out ok short e)
+    subst (WithinFirst (decode table) s) (sym (events-are table s out e)) (past table s out e ok)
 
 accepted-by : (table s : List ℕ) (z : Session) → Ready table s z → Accepted table ≡ true
 accepted-by table s z r = eq-eqb (judged table .number) 0 (r .accepted)
@@ -61,7 +68,7 @@ whole-within table s out nine =
     let said : e .number ≡ 9 = sym (number-is table s out e) ∙ nine in
     let r = exactly-9 table s (e .session) (drop (16 * length (e .records)) out) .only (ap (λ (x : Step). x .answer .number) (e .last) ∙ said) in
     let all = scenes table s out .whole nine .0 in
-    subst (WithinFirst (decode table) s) all (taken-within table s out (accepted-by table s (e .session) (r .0)) (r .0 .short))
+    subst (WithinFirst (decode table) s) all (taken-within table s out (accepted-by table s (e .session) (r .0)))
 
 -- a step that gives 21 to 24 read a start
 record AtStart (table s : List ℕ) (z : Session) : Type 0 where
@@ -106,7 +113,7 @@ limited-run table s out lo hi = by (run-ended table s out)
         let so = limited table s out ok short e lt some-limit d in
         record {
           before = e .events;
-          earlier = past table s out ok short e;
+          earlier = past table s out e ok;
           tag = a .tag;
           event-is = is;
           number-is = number ∙ ap (λ (r : Step). r .answer .number) so;
@@ -127,12 +134,16 @@ limit-past t s n p f w = omega (arith, f .number-is, f .lowest, w (f .before) in
         (le-or-lt (length (events s)) (f .before))
 
 -- ---- where the output has room
-module _ (table s out : List ℕ) (ok : Accepted table ≡ true) (short : length s ≤ 16777215) (room : 16 * modelCount (decode table) s (length (events s)) ≤ length out) where
+module _ (table s out : List ℕ) (ok : Accepted table ≡ true) (short : length s ≤ 16777215) where
   abbrev t : Table
   t = decode table
 
   abbrev r : Run
   r = runOf table s out
+
+  -- the first event past a limit, if there is one: how many come before, and what it says
+  abbrev beforeBy : Option ℕ → ℕ
+  beforeBy o = elim o [ none ↦ length (events s) | some k ↦ k ]
 
   abbrev endBy : Option ℕ → End
   endBy o = elim o [ none ↦ readEnd (lastOf s) | some k ↦ record { number = passed t s k; place = eventPlace (getD (events s) k (scene.text (span 0 0))) } ]
@@ -151,47 +162,73 @@ module _ (table s out : List ℕ) (ok : Accepted table ≡ true) (short : length
       let so = last table s out ok short e (all-read (ready table s out ok short e) p (reads table s out ok short e all ∙ is)) in
       (ap (λ (x : Step). x .answer .number) so, ap (λ (x : Step). x .answer .place) so)
 
-  ends-by : (o : Option ℕ) → FirstPast t s o → (r .answer .number ≡ endBy o .number) × (r .answer .place ≡ endBy o .place)
-  ends-by none f =
+  ends-by : (o : Option ℕ) → FirstPast t s o → 16 * modelCount t s (beforeBy o) ≤ length out → (r .answer .number ≡ endBy o .number) × (r .answer .place ≡ endBy o .place) × (r .answer .events ≡ beforeBy o)
+  ends-by none f room =
       let e = run-ended table s out in
-      let x = read-by e (omega (arith, few table s out ok short e, through table s out ok short e (length (events s)) (omega arith) f room)) (lastOf s) refl in
-      (number-is table s out e ∙ x .0, place-is table s out e ∙ x .1)
-  ends-by (some k) f =
+      let all : e .events ≡ length (events s) = omega (arith, few table s out ok short e, through table s out ok short e (length (events s)) (omega arith) f room) in
+      let x = read-by e all (lastOf s) refl in
+      (number-is table s out e ∙ x .0, place-is table s out e ∙ x .1, events-are table s out e ∙ all)
+  ends-by (some k) f room =
       let e = run-ended table s out in
       let le = through table s out ok short e k (omega (arith, f .0)) (f .2) room in
-      let here : e .events ≡ k = ⊎-elim (λ ge. omega arith) (λ lt. absurd (f .1 (past table s out ok short e k lt))) (le-or-lt (e .events) k) in
+      let here : e .events ≡ k = ⊎-elim (λ ge. omega arith) (λ lt. absurd (f .1 (past table s out e ok k lt))) (le-or-lt (e .events) k) in
       let so = limited table s out ok short e (omega (arith, f .0)) (subst (λ (i : ℕ). passed t s i ≡ 0 → ⊥) (sym here) (f .1)) (scene.text (span 0 0)) in (
         number-is table s out e ∙ ap (λ (x : Step). x .answer .number) so ∙ ap (passed t s) here,
         place-is table s out e ∙ ap (λ (x : Step). x .answer .place) so ∙ ap (λ (i : ℕ). eventPlace (getD (events s) i (scene.text (span 0 0)))) here,
+        events-are table s out e ∙ here,
       )
 
-  pub run-ends : (r .answer .number ≡ endOf t s .number) × (r .answer .place ≡ endOf t s .place)
-  unfolding endOf
-  run-ends = ends-by (firstPast t s (length (events s)) 0) (first-past t s)
+  -- with room for the records of the events before the first limit: number, place and events
+  pub run-ends : 16 * modelCount t s (eventsWithin t s) ≤ length out → (r .answer .number ≡ endOf t s .number) × (r .answer .place ≡ endOf t s .place) × (r .answer .events ≡ eventsWithin t s)
+  unfolding endOf eventsWithin
+  run-ends room = ends-by (firstPast t s (length (events s)) 0) (first-past t s) room
 
-  -- 9 exactly where no event passes a limit, of a scene that the reader finishes
-  pub finished-exactly : lastOf s ≡ scene.finished (length s) → (Within t s → r .answer .number ≡ 9) × (r .answer .number ≡ 9 → Within t s)
-  finished-exactly fin = (λ w. ends-by none w .0 ∙ ap (λ (x : scene.Next). readEnd x .number) fin, whole-within table s out)
-
-  -- 21 to 24 exactly where some event passes a limit; then at the first start that does
-  pub limited-exactly : ((Within t s → ⊥) → FirstLimit t s (r .answer .number) (r .answer .place)) × (21 ≤ r .answer .number → r .answer .number ≤ 24 → Within t s → ⊥)
-  limited-exactly = (
-    λ n. by n (firstPast t s (length (events s)) 0) (first-past t s),
-    λ lo hi. limit-past t s (r .answer .number) (r .answer .place) (limited-run table s out lo hi),
-  )
+  -- without: 25 at the first event whose records do not fit
+  pub run-full : length out < 16 * modelCount t s (eventsWithin t s) → (d : scene.Event) →
+      (k : ℕ) × (k < eventsWithin t s) × (16 * modelCount t s k ≤ length out) × (length out < 16 * modelCount t s (k + 1))
+      × (r ≡ record { answer = answered 25 (eventPlace (getD (events s) k d)) k (modelCount t s k); output = expected t s k ++ drop (16 * modelCount t s k) out })
+  unfolding eventsWithin
+  run-full full d = by (firstPast t s (length (events s)) 0) (first-past t s) full
     where
-      by : (Within t s → ⊥) → (o : Option ℕ) → FirstPast t s o → FirstLimit t s (r .answer .number) (r .answer .place)
-      by n none f = absurd (n f)
-      by n (some k) f =
-          let i = passed-number t s k (f .1) in
-          let so = ends-by (some k) f .0 in
-          limited-run table s out (omega (arith, i .0)) (omega (arith, i .1))
+      by : (o : Option ℕ) → FirstPast t s o → length out < 16 * modelCount t s (beforeBy o) →
+          (k : ℕ) × (k < beforeBy o) × (16 * modelCount t s k ≤ length out) × (length out < 16 * modelCount t s (k + 1))
+          × (r ≡ record { answer = answered 25 (eventPlace (getD (events s) k d)) k (modelCount t s k); output = expected t s k ++ drop (16 * modelCount t s k) out })
+      by none f full = no-room-first table s out ok short (length (events s)) (omega arith) f full d
+      by (some n) f full = no-room-first table s out ok short n (omega (arith, f .0)) (f .2) full d
 
-  -- the reader's number and place exactly where no event passes a limit, of a scene that it refuses
-  pub refused-exactly : (n p : ℕ) → lastOf s ≡ scene.refusal n p → (Within t s → (r .answer .number ≡ n) × (r .answer .place ≡ p)) × (r .answer .number ≡ n → Within t s)
-  refused-exactly n p is =
-      let w = events-end s in
-      let i = numbered s (w .0) (state-held s (w .0) (length (events s)) freshReader (w .1) (held-fresh s)) n p (w .2 ∙ is) in (
-        λ h. let x = ends-by none h in (x .0 ∙ ap (λ (y : scene.Next). readEnd y .number) is, x .1 ∙ ap (λ (y : scene.Next). readEnd y .place) is),
-        λ q. subst (WithinFirst t s) (scenes table s out .read (omega (arith, i .few)) .0) (taken-within table s out ok short),
-      )
+  -- with room for the records of all events
+  module _ (room : 16 * modelCount t s (length (events s)) ≤ length out) where
+    ends-so : (o : Option ℕ) → FirstPast t s o → (r .answer .number ≡ endBy o .number) × (r .answer .place ≡ endBy o .place)
+    ends-so none f = let x = ends-by none f room in (x .0, x .1)
+    ends-so (some k) f =
+        let rise = count-grows t s (one table ok) k (length (events s) - k) (omega (arith, f .0)) in
+        let same : modelCount t s (k + (length (events s) - k)) ≡ modelCount t s (length (events s)) = ap (modelCount t s) (omega (arith, f .0)) in
+        let x = ends-by (some k) f (omega arith) in
+        (x .0, x .1)
+
+    -- 9 exactly where no event passes a limit, of a scene that the reader finishes
+    pub finished-exactly : lastOf s ≡ scene.finished (length s) → (Within t s → r .answer .number ≡ 9) × (r .answer .number ≡ 9 → Within t s)
+    finished-exactly fin = (λ w. ends-so none w .0 ∙ ap (λ (x : scene.Next). readEnd x .number) fin, whole-within table s out)
+
+    -- 21 to 24 exactly where some event passes a limit; then at the first start that does
+    pub limited-exactly : ((Within t s → ⊥) → FirstLimit t s (r .answer .number) (r .answer .place)) × (21 ≤ r .answer .number → r .answer .number ≤ 24 → Within t s → ⊥)
+    limited-exactly = (
+      λ n. by n (firstPast t s (length (events s)) 0) (first-past t s),
+      λ lo hi. limit-past t s (r .answer .number) (r .answer .place) (limited-run table s out lo hi),
+    )
+      where
+        by : (Within t s → ⊥) → (o : Option ℕ) → FirstPast t s o → FirstLimit t s (r .answer .number) (r .answer .place)
+        by n none f = absurd (n f)
+        by n (some k) f =
+            let i = passed-number t s k (f .1) in
+            let so = ends-so (some k) f .0 in
+            limited-run table s out (omega (arith, i .0)) (omega (arith, i .1))
+
+    -- the reader's number and place exactly where no event passes a limit, of a scene that it refuses
+    pub refused-exactly : (n p : ℕ) → lastOf s ≡ scene.refusal n p → (Within t s → (r .answer .number ≡ n) × (r .answer .place ≡ p)) × (r .answer .number ≡ n → Within t s)
+    refused-exactly n p is =
+        let w = events-end s in
+        let i = numbered s (w .0) (state-held s (w .0) (length (events s)) freshReader (w .1) (held-fresh s)) n p (w .2 ∙ is) in (
+          λ h. let x = ends-so none h in (x .0 ∙ ap (λ (y : scene.Next). readEnd y .number) is, x .1 ∙ ap (λ (y : scene.Next). readEnd y .place) is),
+          λ q. subst (WithinFirst t s) (scenes table s out .read (omega (arith, i .few)) .0) (taken-within table s out ok),
+        )

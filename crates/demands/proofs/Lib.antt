@@ -11,9 +11,9 @@ pub mod Expected
 pub mod Measures
 pub mod Reached
 pub mod Outcomes
-pub mod Steps
 pub mod Runs
 pub mod Limits
+pub mod Steps
 pub mod Accepted
 pub mod Ends
 pub mod Samples

@@ -1,11 +1,13 @@
 -- Numbers 21 to 24 of a step, by the model: the limit that the next event passes.
+--     taken-passed     the events that steps took pass none
 --     limited-step     behind k events: refused by the limit that the k-th passes, at its place; an event where it passes none
+--     limited-answer   the same as a step's answer
 --     only-starts      texts and ends pass none
 --     first-start      the first event of a scene to pass a limit is a start
 --     first-past       that event is what `firstPast` gives
-use Prim.Native.Nat.{ℕ, zero, suc, _+_, _≤_, _<_}
+use Prim.Native.Nat.{ℕ, zero, suc, _+_, _*_, _≤_, _<_}
 use mathlib.Core.Path.{_≡_, refl, sym, ap, subst, _∙_}
-use mathlib.Core.List.{List, [], _∷_, _++_, map}
+use mathlib.Core.List.{List, [], _∷_, _++_}
 use mathlib.Core.Bool.{Bool, true, false, cond}
 use mathlib.Core.Logic.{_⊎_, inl, inr, ⊎-elim}
 use mathlib.Core.Option.{Option, none, some}
@@ -17,7 +19,7 @@ use lib.Dec.{leb, ltb, eqb, leb·suc-suc}
 use Rattle.laws.specs.Reading.{le-or-lt}
 use Rattle.laws.proofs.Holds.{holds-cond}
 use Rattle.table.specs.Table.{Table, decode}
-use Rattle.table.specs.Judge.{Accepted}
+use Rattle.table.specs.Judge.{judged, Accepted}
 use Rattle.reader.specs.Events as scene
 use Rattle.reader.specs.Events.{ReaderState, freshReader, bindingsOf, next, events}
 use Rattle.reader.specs.Spans.{span}
@@ -34,13 +36,17 @@ use Rattle.model.proofs.Steps as stream
 use Rattle.model.proofs.Assigned.{modesAt}
 use Rattle.model.proofs.Tables.{one}
 use Rattle.dispatcher.specs.Sessions.{readerOf, stateOf, freshOf, withPlace, withEnd}
-use Rattle.dispatcher.specs.Stepping.{eventPlace, Plan, refused, event, startPlan, ownDeclarations, planBy, planOf}
+use Rattle.dispatcher.specs.Stepping.{eventPlace, Plan, refused, event, startPlan, ownDeclarations, planBy, planOf, planned, Step, refusedStep, stepOf}
 use Rattle.dispatcher.specs.declared.Session.{Session}
+use Rattle.dispatcher.proofs.SoundCoherent.{sound-coherent}
 use Rattle.demands.specs.Scenes.{readerAfter}
 use Rattle.demands.specs.Limits.{depthAt, boundAt, strandsAt, unitsAt, passed, WithinFirst, firstPast}
-use Rattle.demands.proofs.Goes.{Onward, goes-on, event-goes}
+use Rattle.demands.proofs.Goes.{goes-on, event-goes}
+use Rattle.demands.specs.Answers as step
+use Rattle.demands.specs.Answers.{Ready}
+use Rattle.demands.proofs.Refusals.{answered-so, step-planned}
 use Rattle.demands.proofs.Prefixes.{toldFirst, told-first-on}
-use Rattle.demands.proofs.Measures.{streamAfter, reader-after, levels-length, bound-is, depth-is, strands-are, units-are, within-passed}
+use Rattle.demands.proofs.Measures.{numberBy, streamAfter, reader-after, levels-length, bound-is, depth-is, strands-are, units-are, within-passed}
 use Rattle.demands.proofs.Reached.{Reached, reached-fresh, few-events, reached-step}
 
 -- an event is planned
@@ -50,9 +56,6 @@ pub record Planned (t : Table) (s : List ℕ) (z : Session) (p : ℕ) : Type 0 w
   pub is : planOf t s z ≡ event p records session
 
 -- the first of the tests that holds, as a number and as a plan
-abbrev numberBy : Bool → Bool → Bool → Bool → ℕ
-numberBy a b c d = cond a 21 (cond b 22 (cond c 23 (cond d 24 0)))
-
 abbrev planBehind : Bool → Bool → Bool → Bool → Plan → ℕ → Plan
 planBehind a b c d x p = cond a (refused 21 p) (cond b (refused 22 p) (cond c (refused 23 p) (cond d (refused 24 p) x)))
 
@@ -88,6 +91,11 @@ module _ (t : Table) (s : List ℕ) (z : Session) (k : ℕ) (rs : List (Record B
       let n = event-next (goes-on s k (readerOf z) e z′ (h .reader) q .inside) d in
       let same : scene.event (getD (events s) k d) (n .0) ≡ scene.event e z′ = sym (n .1) ∙ q in
       cc
+
+-- the events that steps took pass no limit
+pub taken-passed : (table : List ℕ) → Accepted table ≡ true → (s : List ℕ) (z : Session) (k : ℕ) (rs : List (Record Body ℕ)) → Reached (decode table) s z k rs → WithinFirst (decode table) s k
+taken-passed table ok s z k rs h i lt =
+    within-passed (decode table) s i (omega (arith, few-events (decode table) s z k rs h)) (one table ok) (h .within i (omega arith)) (h .within (suc i) (omega arith))
 
 module _ (table : List ℕ) (ok : Accepted table ≡ true) (s : List ℕ) (short : length s ≤ 16777215) (z : Session) (k : ℕ) (rs : List (Record Body ℕ)) (h : Reached (decode table) s z k rs) where
   abbrev t : Table
@@ -158,6 +166,22 @@ module _ (table : List ℕ) (ok : Accepted table ≡ true) (s : List ℕ) (short
       let state = stateOf t s z in
       let r = by-limits (leb 64 (z .scope .depth)) (ltb 64 (z .scope .bound + length (o .declarations))) (ltb 16 (length (enter (dispatch t) (state .levels) σ))) (ltb 65536 (after (dispatch t) state (start σ) .units)) _ (e .at) in
       (λ n. plan ∙ r .0 (λ x. n (number ∙ x)) ∙ ap (λ (m : ℕ). refused m (e .at)) (sym number), λ n. record { records = _; session = _; is = plan ∙ r .1 (sym number ∙ n) })
+
+  pub reached-ready : Ready table s z
+  reached-ready = record { accepted = eqb-true (judged table .number) 0 ok; short = short; fits = sound-coherent t s z (h .sound) }
+
+  pub limited-answer : k < length (events s) → (d : scene.Event) (out : List ℕ) →
+      ((passed t s k ≡ 0 → ⊥) → stepOf table s z out ≡ refusedStep (passed t s k) (eventPlace (getD (events s) k d)) z out)
+      × (passed t s k ≡ 0 → (stepOf table s z out .answer .number ≡ 0) ⊎ (stepOf table s z out .answer .number ≡ 25))
+  limited-answer lt d out =
+      let x = event-next t s z k rs h lt d in
+      let l = limited-step (getD (events s) k d) (x .0) (x .1) in (
+        λ n. step-planned table s z out reached-ready ∙ ap (λ (y : Plan). planned y z out) (l .0 n),
+        λ n. let p = l .1 n in ⊎-elim
+            (λ le. inl (ap (λ (r : Step). r .answer .number) (answered-so table s z out (step.written reached-ready _ (p .records) (p .session) (p .is) le))))
+            (λ gt. inr (ap (λ (r : Step). r .answer .number) (answered-so table s z out (step.no-room reached-ready _ (p .records) (p .session) (p .is) gt))))
+            (le-or-lt (16 * length (p .records)) (length out)),
+      )
 
 -- ---- a scene's events
 module _ (table : List ℕ) (ok : Accepted table ≡ true) (s : List ℕ) (short : length s ≤ 16777215) where

@@ -5,6 +5,7 @@
 use Prim.Native.Nat.{ℕ, zero, suc, _+_, _≤_, _<_}
 use mathlib.Core.Path.{_≡_, refl, sym, ap, subst, _∙_}
 use mathlib.Core.List.{List, [], _∷_, _++_, map, map-append}
+use mathlib.Core.Bool.{Bool, false, cond}
 use mathlib.Core.Logic.{⊎-elim}
 use mathlib.Core.Option.{some}
 use native.Mathlib.Omega.{arith}
@@ -105,6 +106,13 @@ sound-within t s z k h reader state =
     few [] a = omega arith
     few (l ∷ ls) a = a .0 .few-strands
 
+-- the number of the first of four tests that holds
+abbrev pub numberBy : Bool → Bool → Bool → Bool → ℕ
+numberBy a b c d = cond a 21 (cond b 22 (cond c 23 (cond d 24 0)))
+
+none-passed : (a b c d : Bool) → a ≡ false → b ≡ false → c ≡ false → d ≡ false → numberBy a b c d ≡ 0
+none-passed a b c d p q r u = rw (p, q, r, u)
+
 -- ---- the model's measures
 take-told : {A B : Type 0} (f : A → B) (n : ℕ) (l : List A) → take n (map f l) ≡ map f (take n l)
 take-told f zero l = refl
@@ -166,9 +174,8 @@ module _ (t : Table) (s : List ℕ) where
           let e = getD (events s) k d in
           let more : toldFirst t s (suc k) ≡ toldFirst t s k ++ (told t s e ∷ []) = ap (map (told t s)) (take-suc (events s) k d lt) ∙ map-append (told t s) (take k (events s)) (e ∷ []) in
           let on : streamAfter t s (suc k) ≡ after (dispatch t) (streamAfter t s k) (told t s e) = ap (reached (dispatch t)) more ∙ reached-step (dispatch t) (toldFirst t s k) (told t s e) in
-          rw (
-            le-ltb 64 (depthAt t s k) (omega (arith, depth-is, w′ .levels)),
-            le-ltb 64 (boundAt s k) (w′ .bindings),
-            le-ltb 16 (strandsAt t s k) (omega (arith, strands-are d, few-strands e on w w′)),
-            le-ltb 65536 (unitsAt t s k) (omega (arith, units-are, w′ .units)),
-          )
+          none-passed _ _ _ _
+          (le-ltb _ (depthAt t s k) (omega (arith, depth-is, w′ .levels)))
+          (le-ltb _ (boundAt s k) (omega (arith, w′ .bindings)))
+          (le-ltb _ (strandsAt t s k) (omega (arith, strands-are d, few-strands e on w w′)))
+          (le-ltb _ (unitsAt t s k) (omega (arith, units-are, w′ .units)))

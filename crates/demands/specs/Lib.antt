@@ -4,3 +4,4 @@ pub mod Answers
 pub mod Limits
 pub mod Runs
 pub mod CallExamples
+pub mod LimitExamples

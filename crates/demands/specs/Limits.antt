@@ -69,6 +69,10 @@ unfoldable pub firstPast : Table → List ℕ → ℕ → ℕ → Option ℕ
 firstPast t s zero k = none
 firstPast t s (suc n) k = cond (eqb (passed t s k) 0) (firstPast t s n (suc k)) (some k)
 
+-- how many events come before it
+unfoldable pub eventsWithin : Table → List ℕ → ℕ
+eventsWithin t s = elim (firstPast t s (length (events s)) 0) [ none ↦ length (events s) | some k ↦ k ]
+
 -- How a run ends: a number and its place
 pub record End : Type 0 where
   pub number : ℕ

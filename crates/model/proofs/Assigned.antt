@@ -14,7 +14,7 @@ use Rattle.model.specs.Tree.{Event, start, text, end, Tree, eventsThen, 
 use Rattle.model.specs.Sections.{Tags, Content, empty, ownText, ownElement, slot, size, divideTree}
 use Rattle.model.specs.Stream as stream
 use Rattle.model.specs.Stream.{Level, State, Entry, allot, takeRules, after, fresh, reached, byRule, stay}
-use Rattle.model.specs.Model.{Strand, Assigned, at, beforeRoot, along, enter, assign, assigned, assignedOf}
+use Rattle.model.specs.Model.{Strand, Assigned, at, beforeRoot, along, enter, assign, assignedOf}
 use Rattle.model.proofs.Lists.{gather-same, map-gather, gather-map}
 use Rattle.model.proofs.Divide.{erase, erase-divide, Divided, divided}
 use Rattle.model.proofs.Cut.{IsPrefix, eventsOf, addedEnds, tree-events, completed-prefix}

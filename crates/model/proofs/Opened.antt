@@ -10,7 +10,7 @@ use native.Mathlib.Omega.{arith}
 use lib.ListN.{length, take, length-append}
 use Rattle.laws.specs.Gather.{gather, total}
 use Rattle.laws.proofs.Gather.{gather-append}
-use Rattle.model.specs.Theory.{Action, Attach, Unwrap, Validate, Rule, AttributeUnit, Piece, opens, holds, Record, Theory, taken}
+use Rattle.model.specs.Theory.{Action, Attach, Unwrap, Validate, Rule, AttributeUnit, opens, holds, Record, Theory, taken}
 use Rattle.model.specs.Tree.{Event, start, text, end, stillOpen, completed, treeOf}
 use Rattle.model.specs.Stream.{Level, State, Entry, allot, newUnits, takeRules, enter, unitsOf, entered, startRecords, textRecords, endRecords, written, after, fresh, reached, streamFrom, streamOf, Strand, beforeRoot, stay, byRule, receiver, give, attributesFrom, opening, closing}
 use Rattle.model.specs.Model.{opened, modelOf, OneKeeps}
