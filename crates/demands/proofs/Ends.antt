@@ -198,13 +198,20 @@ module _ (table s out : List ℕ) (ok : Accepted table ≡ true) (short : length
 
   -- with room for the records of all events
   module _ (room : 16 * modelCount t s (length (events s)) ≤ length out) where
-    ends-so : (o : Option ℕ) → FirstPast t s o → (r .answer .number ≡ endBy o .number) × (r .answer .place ≡ endBy o .place)
-    ends-so none f = let x = ends-by none f room in (x .0, x .1)
-    ends-so (some k) f =
+    room-for : (o : Option ℕ) → FirstPast t s o → 16 * modelCount t s (beforeBy o) ≤ length out
+    room-for none f = room
+    room-for (some k) f =
         let rise = count-grows t s (one table ok) k (length (events s) - k) (omega (arith, f .0)) in
         let same : modelCount t s (k + (length (events s) - k)) ≡ modelCount t s (length (events s)) = ap (modelCount t s) (omega (arith, f .0)) in
-        let x = ends-by (some k) f (omega arith) in
-        (x .0, x .1)
+        omega arith
+
+    -- so that `run-ends` is of it
+    pub room-within : 16 * modelCount t s (eventsWithin t s) ≤ length out
+    unfolding eventsWithin
+    room-within = room-for (firstPast t s (length (events s)) 0) (first-past t s)
+
+    ends-so : (o : Option ℕ) → FirstPast t s o → (r .answer .number ≡ endBy o .number) × (r .answer .place ≡ endBy o .place)
+    ends-so o f = let x = ends-by o f (room-for o f) in (x .0, x .1)
 
     -- 9 exactly where no event passes a limit, of a scene that the reader finishes
     pub finished-exactly : lastOf s ≡ scene.finished (length s) → (Within t s → r .answer .number ≡ 9) × (r .answer .number ≡ 9 → Within t s)
