@@ -135,21 +135,15 @@ limit-past t s n p f w = omega (arith, f .number-is, f .lowest, w (f .before) in
 
 -- ---- where the output has room
 module _ (table s out : List ℕ) (ok : Accepted table ≡ true) (short : length s ≤ 16777215) where
-  abbrev t : Table
-  t = decode table
-
-  abbrev r : Run
-  r = runOf table s out
-
   -- the first event past a limit, if there is one: how many come before, and what it says
   abbrev beforeBy : Option ℕ → ℕ
   beforeBy o = elim o [ none ↦ length (events s) | some k ↦ k ]
 
   abbrev endBy : Option ℕ → End
-  endBy o = elim o [ none ↦ readEnd (lastOf s) | some k ↦ record { number = passed t s k; place = eventPlace (getD (events s) k (scene.text (span 0 0))) } ]
+  endBy o = elim o [ none ↦ readEnd (lastOf s) | some k ↦ record { number = passed (decode table) s k; place = eventPlace (getD (events s) k (scene.text (span 0 0))) } ]
 
   -- behind all events, as reading ends
-  read-by : (e : Ended table s out r) → e .events ≡ length (events s) → (x : scene.Next) → lastOf s ≡ x → (e .number ≡ readEnd x .number) × (e .place ≡ readEnd x .place)
+  read-by : (e : Ended table s out (runOf table s out)) → e .events ≡ length (events s) → (x : scene.Next) → lastOf s ≡ x → (e .number ≡ readEnd x .number) × (e .place ≡ readEnd x .place)
   read-by e all (scene.event v z′) is =
       let q : scene.next s (readerOf (e .session)) ≡ scene.event v z′ = reads table s out ok short e all ∙ is in
       absurd (omega (arith, goes-on s (e .events) (readerOf (e .session)) v z′ (e .reached .reader) q .inside))
@@ -162,7 +156,7 @@ module _ (table s out : List ℕ) (ok : Accepted table ≡ true) (short : length
       let so = last table s out ok short e (all-read (ready table s out ok short e) p (reads table s out ok short e all ∙ is)) in
       (ap (λ (x : Step). x .answer .number) so, ap (λ (x : Step). x .answer .place) so)
 
-  ends-by : (o : Option ℕ) → FirstPast t s o → 16 * modelCount t s (beforeBy o) ≤ length out → (r .answer .number ≡ endBy o .number) × (r .answer .place ≡ endBy o .place) × (r .answer .events ≡ beforeBy o)
+  ends-by : (o : Option ℕ) → FirstPast (decode table) s o → 16 * modelCount (decode table) s (beforeBy o) ≤ length out → (runOf table s out .answer .number ≡ endBy o .number) × (runOf table s out .answer .place ≡ endBy o .place) × (runOf table s out .answer .events ≡ beforeBy o)
   ends-by none f room =
       let e = run-ended table s out in
       let all : e .events ≡ length (events s) = omega (arith, few table s out ok short e, through table s out ok short e (length (events s)) (omega arith) f room) in
@@ -172,70 +166,70 @@ module _ (table s out : List ℕ) (ok : Accepted table ≡ true) (short : length
       let e = run-ended table s out in
       let le = through table s out ok short e k (omega (arith, f .0)) (f .2) room in
       let here : e .events ≡ k = ⊎-elim (λ ge. omega arith) (λ lt. absurd (f .1 (past table s out e ok k lt))) (le-or-lt (e .events) k) in
-      let so = limited table s out ok short e (omega (arith, f .0)) (subst (λ (i : ℕ). passed t s i ≡ 0 → ⊥) (sym here) (f .1)) (scene.text (span 0 0)) in (
-        number-is table s out e ∙ ap (λ (x : Step). x .answer .number) so ∙ ap (passed t s) here,
+      let so = limited table s out ok short e (omega (arith, f .0)) (subst (λ (i : ℕ). passed (decode table) s i ≡ 0 → ⊥) (sym here) (f .1)) (scene.text (span 0 0)) in (
+        number-is table s out e ∙ ap (λ (x : Step). x .answer .number) so ∙ ap (passed (decode table) s) here,
         place-is table s out e ∙ ap (λ (x : Step). x .answer .place) so ∙ ap (λ (i : ℕ). eventPlace (getD (events s) i (scene.text (span 0 0)))) here,
         events-are table s out e ∙ here,
       )
 
   -- with room for the records of the events before the first limit: number, place and events
-  pub run-ends : 16 * modelCount t s (eventsWithin t s) ≤ length out → (r .answer .number ≡ endOf t s .number) × (r .answer .place ≡ endOf t s .place) × (r .answer .events ≡ eventsWithin t s)
+  pub run-ends : 16 * modelCount (decode table) s (eventsWithin (decode table) s) ≤ length out → (runOf table s out .answer .number ≡ endOf (decode table) s .number) × (runOf table s out .answer .place ≡ endOf (decode table) s .place) × (runOf table s out .answer .events ≡ eventsWithin (decode table) s)
   unfolding endOf eventsWithin
-  run-ends room = ends-by (firstPast t s (length (events s)) 0) (first-past t s) room
+  run-ends room = ends-by (firstPast (decode table) s (length (events s)) 0) (first-past (decode table) s) room
 
   -- without: 25 at the first event whose records do not fit
-  pub run-full : length out < 16 * modelCount t s (eventsWithin t s) → (d : scene.Event) →
-      (k : ℕ) × (k < eventsWithin t s) × (16 * modelCount t s k ≤ length out) × (length out < 16 * modelCount t s (k + 1))
-      × (r ≡ record { answer = answered 25 (eventPlace (getD (events s) k d)) k (modelCount t s k); output = expected t s k ++ drop (16 * modelCount t s k) out })
+  pub run-full : length out < 16 * modelCount (decode table) s (eventsWithin (decode table) s) → (d : scene.Event) →
+      (k : ℕ) × (k < eventsWithin (decode table) s) × (16 * modelCount (decode table) s k ≤ length out) × (length out < 16 * modelCount (decode table) s (k + 1))
+      × (runOf table s out ≡ record { answer = answered 25 (eventPlace (getD (events s) k d)) k (modelCount (decode table) s k); output = expected (decode table) s k ++ drop (16 * modelCount (decode table) s k) out })
   unfolding eventsWithin
-  run-full full d = by (firstPast t s (length (events s)) 0) (first-past t s) full
+  run-full full d = by (firstPast (decode table) s (length (events s)) 0) (first-past (decode table) s) full
     where
-      by : (o : Option ℕ) → FirstPast t s o → length out < 16 * modelCount t s (beforeBy o) →
-          (k : ℕ) × (k < beforeBy o) × (16 * modelCount t s k ≤ length out) × (length out < 16 * modelCount t s (k + 1))
-          × (r ≡ record { answer = answered 25 (eventPlace (getD (events s) k d)) k (modelCount t s k); output = expected t s k ++ drop (16 * modelCount t s k) out })
+      by : (o : Option ℕ) → FirstPast (decode table) s o → length out < 16 * modelCount (decode table) s (beforeBy o) →
+          (k : ℕ) × (k < beforeBy o) × (16 * modelCount (decode table) s k ≤ length out) × (length out < 16 * modelCount (decode table) s (k + 1))
+          × (runOf table s out ≡ record { answer = answered 25 (eventPlace (getD (events s) k d)) k (modelCount (decode table) s k); output = expected (decode table) s k ++ drop (16 * modelCount (decode table) s k) out })
       by none f full = no-room-first table s out ok short (length (events s)) (omega arith) f full d
       by (some n) f full = no-room-first table s out ok short n (omega (arith, f .0)) (f .2) full d
 
   -- with room for the records of all events
-  module _ (room : 16 * modelCount t s (length (events s)) ≤ length out) where
-    room-for : (o : Option ℕ) → FirstPast t s o → 16 * modelCount t s (beforeBy o) ≤ length out
+  module _ (room : 16 * modelCount (decode table) s (length (events s)) ≤ length out) where
+    room-for : (o : Option ℕ) → FirstPast (decode table) s o → 16 * modelCount (decode table) s (beforeBy o) ≤ length out
     room-for none f = room
     room-for (some k) f =
-        let rise = count-grows t s (one table ok) k (length (events s) - k) (omega (arith, f .0)) in
-        let same : modelCount t s (k + (length (events s) - k)) ≡ modelCount t s (length (events s)) = ap (modelCount t s) (omega (arith, f .0)) in
+        let rise = count-grows (decode table) s (one table ok) k (length (events s) - k) (omega (arith, f .0)) in
+        let same : modelCount (decode table) s (k + (length (events s) - k)) ≡ modelCount (decode table) s (length (events s)) = ap (modelCount (decode table) s) (omega (arith, f .0)) in
         omega arith
 
     -- so that `run-ends` is of it
-    pub room-within : 16 * modelCount t s (eventsWithin t s) ≤ length out
+    pub room-within : 16 * modelCount (decode table) s (eventsWithin (decode table) s) ≤ length out
     unfolding eventsWithin
-    room-within = room-for (firstPast t s (length (events s)) 0) (first-past t s)
+    room-within = room-for (firstPast (decode table) s (length (events s)) 0) (first-past (decode table) s)
 
-    ends-so : (o : Option ℕ) → FirstPast t s o → (r .answer .number ≡ endBy o .number) × (r .answer .place ≡ endBy o .place)
+    ends-so : (o : Option ℕ) → FirstPast (decode table) s o → (runOf table s out .answer .number ≡ endBy o .number) × (runOf table s out .answer .place ≡ endBy o .place)
     ends-so o f = let x = ends-by o f (room-for o f) in (x .0, x .1)
 
     -- 9 exactly where no event passes a limit, of a scene that the reader finishes
-    pub finished-exactly : lastOf s ≡ scene.finished (length s) → (Within t s → r .answer .number ≡ 9) × (r .answer .number ≡ 9 → Within t s)
+    pub finished-exactly : lastOf s ≡ scene.finished (length s) → (Within (decode table) s → runOf table s out .answer .number ≡ 9) × (runOf table s out .answer .number ≡ 9 → Within (decode table) s)
     finished-exactly fin = (λ w. ends-so none w .0 ∙ ap (λ (x : scene.Next). readEnd x .number) fin, whole-within table s out)
 
     -- 21 to 24 exactly where some event passes a limit; then at the first start that does
-    pub limited-exactly : ((Within t s → ⊥) → FirstLimit t s (r .answer .number) (r .answer .place)) × (21 ≤ r .answer .number → r .answer .number ≤ 24 → Within t s → ⊥)
+    pub limited-exactly : ((Within (decode table) s → ⊥) → FirstLimit (decode table) s (runOf table s out .answer .number) (runOf table s out .answer .place)) × (21 ≤ runOf table s out .answer .number → runOf table s out .answer .number ≤ 24 → Within (decode table) s → ⊥)
     limited-exactly = (
-      λ n. by n (firstPast t s (length (events s)) 0) (first-past t s),
-      λ lo hi. limit-past t s (r .answer .number) (r .answer .place) (limited-run table s out lo hi),
+      λ n. by n (firstPast (decode table) s (length (events s)) 0) (first-past (decode table) s),
+      λ lo hi. limit-past (decode table) s (runOf table s out .answer .number) (runOf table s out .answer .place) (limited-run table s out lo hi),
     )
       where
-        by : (Within t s → ⊥) → (o : Option ℕ) → FirstPast t s o → FirstLimit t s (r .answer .number) (r .answer .place)
+        by : (Within (decode table) s → ⊥) → (o : Option ℕ) → FirstPast (decode table) s o → FirstLimit (decode table) s (runOf table s out .answer .number) (runOf table s out .answer .place)
         by n none f = absurd (n f)
         by n (some k) f =
-            let i = passed-number t s k (f .1) in
+            let i = passed-number (decode table) s k (f .1) in
             let so = ends-so (some k) f .0 in
             limited-run table s out (omega (arith, i .0)) (omega (arith, i .1))
 
     -- the reader's number and place exactly where no event passes a limit, of a scene that it refuses
-    pub refused-exactly : (n p : ℕ) → lastOf s ≡ scene.refusal n p → (Within t s → (r .answer .number ≡ n) × (r .answer .place ≡ p)) × (r .answer .number ≡ n → Within t s)
+    pub refused-exactly : (n p : ℕ) → lastOf s ≡ scene.refusal n p → (Within (decode table) s → (runOf table s out .answer .number ≡ n) × (runOf table s out .answer .place ≡ p)) × (runOf table s out .answer .number ≡ n → Within (decode table) s)
     refused-exactly n p is =
         let w = events-end s in
         let i = numbered s (w .0) (state-held s (w .0) (length (events s)) freshReader (w .1) (held-fresh s)) n p (w .2 ∙ is) in (
           λ h. let x = ends-so none h in (x .0 ∙ ap (λ (y : scene.Next). readEnd y .number) is, x .1 ∙ ap (λ (y : scene.Next). readEnd y .place) is),
-          λ q. subst (WithinFirst t s) (scenes table s out .read (omega (arith, i .few)) .0) (taken-within table s out ok),
+          λ q. subst (WithinFirst (decode table) s) (scenes table s out .read (omega (arith, i .few)) .0) (taken-within table s out ok),
         )
