@@ -14,8 +14,8 @@ use Rattle.lexer.specs.Tags.{wanted, equalsEnd, quotedAt, attributeAt, slashAt,
 use Rattle.reader.specs.Spans.{kindOf}
 use Rattle.reader.specs.Namespaces.{sameNamespace, refusedBinding, lookUp, ofPrefix, ofElement, resolved, meaningOf}
 use Rattle.reader.specs.Events.{bindingsOf, colonEnd, partOf, next, eventsFrom, events}
-use Rattle.model.specs.Elements.{spaceOf, attributeOf, elementOf, placed, sectionsFrom, sectionsOf}
-use Rattle.model.specs.Records.{attributeUnits, kept, startBodies}
+use Rattle.model.specs.Elements.{spaceOf, attributeOf, elementOf}
+use Rattle.model.specs.Groups.{placed, sectionsFrom, sectionsOf, attributeUnits, kept, startBodies}
 use Rattle.model.specs.Model.{model, cells}
 use Rattle.demands.specs.Scenes.{readerAfter}
 use Rattle.demands.specs.Limits.{passed, firstPast, endOf}
