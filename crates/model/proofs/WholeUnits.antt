@@ -6,20 +6,19 @@ use mathlib.Core.Logic.{_⊎_, inl, inr}
 use mathlib.Core.Option.{some, Option·some-injective, Option·none-ne-some}
 use Prim.Native.Nat.{ℕ, suc, _≤_, _<_}
 use native.Mathlib.Omega.{arith}
-use Rattle.laws.specs.Gather.{gather}
 use Rattle.laws.proofs.Members.{all-at, all-by}
 use Rattle.model.specs.Theory.{Rule, Piece, opens, holds, Theory}
 use Rattle.model.specs.Tree.{Tree}
 use Rattle.model.specs.Sections.{Tags, Content, empty, ownText, ownElement, slot, tagsOf, size, divide}
-use Rattle.model.specs.Model.{Marked, WholeUnit, startPieces, filling, unitOf, Strand, Assigned, at, beforeRoot, enter, attributesOf, assign, recordsAt, assigned, cells, OneKeeps}
+use Rattle.model.specs.Model.{Marked, WholeUnit, startPieces, filling, unitOf, Strand, Assigned, at, beforeRoot, enter, attributesOf, assign, assigned, OneKeeps}
 use Rattle.model.specs.Units.{UnitOf}
-use Rattle.model.proofs.Lists.{In, gather-same-on, gather-map, All, Distinct, all-append, all-weaken, OneAt, one-tagged, Consecutive, consecutive-append}
+use Rattle.model.proofs.Lists.{In, All, Distinct, all-append, all-weaken, OneAt, one-tagged, Consecutive, consecutive-append}
 use Rattle.model.proofs.Events.{atEvent, Within, at-before, at-behind, bracket-within, bracket-inside}
-use Rattle.model.proofs.Order.{Rising, bracket-rising, event-by-event}
+use Rattle.model.proofs.Order.{Rising, bracket-rising}
 use Rattle.model.proofs.Divide.{Divided, divided, divided-up}
 use Rattle.model.proofs.Slots.{filling-within, filling-rising, new-pieces}
 use Rattle.model.proofs.Keys.{eventOf, choicesOf, ofAttributes}
-use Rattle.model.proofs.Shown.{ofKey, of-gather, Shown, Other, ForTarget, shown-by-strand, shown-by-attribute, shown-nowhere, attributes-keyed, Made, made-target, enter-made, Nothing}
+use Rattle.model.proofs.Shown.{Shown, Other, ForTarget, shown-by-strand, shown-by-attribute, shown-nowhere, attributes-keyed, Made, made-target, enter-made, Nothing}
 use Rattle.model.proofs.Carried.{Holder, other-attributes, carried-shown, not-shown}
 use Rattle.model.proofs.Opens.{new-opens}
 use Rattle.model.proofs.Spans.{Spans, spans-widen, Old, Each, old-later, old-other, attribute-other, spans-before, spans-behind, choicesOn, element-attributes-span, attributes-distinct, enter-differs}
@@ -52,6 +51,11 @@ module _ (Θ : Theory) where
   record Local (c : Content Θ) (i n : ℕ) (ss : List (Strand (Θ .Body))) (u : WholeUnit (Θ .Body)) : Type 0 where
     spans : Spans i n u
     shown : All (Shown u) (assign Θ c ss)
+
+  -- A unit of the document, and what the list has of it.
+  pub record Whole (t : Tree Θ) (u : WholeUnit (Θ .Body)) : Type 0 where
+    pub spans : Spans 0 (suc (suc (size Θ (t .inside)))) u
+    pub shown : All (Shown u) (assigned Θ t)
 
   module _ (one : (m : ℕ) (σ : Θ .StartInfo) → OneKeeps (Θ .rulesFor m σ)) where
     -- An element with the strands es, and what stands behind it with the strands ss.
@@ -227,11 +231,6 @@ module _ (Θ : Theory) where
         (units inner (Θ .keep (e .start)) (suc (e .startAt)) (e .endAt) (d .2) (enter Θ e inner ss) (enter-differs Θ e inner ss dist) (on e inner rest κ n (d .2) (d .3) ss dist here) P)
         (units rest κ (suc (e .endAt)) n (d .3) ss dist (old-later i (suc (e .endAt)) (omega (arith, up)) ss os) P h)
 
-    -- A unit of the document, and what the list has of it.
-    pub record Whole (t : Tree Θ) (u : WholeUnit (Θ .Body)) : Type 0 where
-      pub spans : Spans 0 (suc (suc (size Θ (t .inside)))) u
-      pub shown : All (Shown u) (assigned Θ t)
-
     document-units : (t : Tree Θ) → All (Each (Whole t)) (assigned Θ t)
     document-units t =
         let σ : Θ .StartInfo = t .rootStart in
@@ -252,16 +251,3 @@ module _ (Θ : Theory) where
         by : In u (x .attributes) ⊎ ((s : Strand (Θ .Body)) × In s (x .strands) × (s .target ≡ some u)) → Each (Whole t) x → Whole t u
         by (inl a) h = all-at (Whole t) (x .attributes) (h .0) u a
         by (inr b) h = all-at (ForTarget (Whole t)) (x .strands) (h .1) (b .0) (b .1) u (b .2)
-
-    -- The pieces of a unit are what it has of each event of the document, one event after the other.
-    pub unit-in-turn : (t : Tree Θ) (u : WholeUnit (Θ .Body)) → Whole t u → gather (λ x. atEvent (x .event) (u .pieces)) (assigned Θ t) ≡ map (λ p. p .piece) (u .pieces)
-    unit-in-turn t u w = event-by-event (λ x. x .event) (assigned Θ t) 0 (suc (suc (size Θ (t .inside)))) (document-in-turn t) (u .pieces) (w .spans .rising) (w .spans .within)
-
-    -- The records of its key are its pieces.
-    pub unit-keyed : (t : Tree Θ) (u : WholeUnit (Θ .Body)) → Whole t u → ofKey (u .key) (gather (λ x. x) (cells Θ t)) ≡ map (λ p. p .piece) (u .pieces)
-    unfolding cells
-    unit-keyed t u w =
-        ap (ofKey (u .key)) (gather-map (λ x. x) recordsAt (assigned Θ t))
-        ∙ of-gather (u .key) recordsAt (assigned Θ t)
-        ∙ gather-same-on (λ x. ofKey (u .key) (recordsAt x)) (λ x. atEvent (x .event) (u .pieces)) (assigned Θ t) (w .shown)
-        ∙ unit-in-turn t u w
