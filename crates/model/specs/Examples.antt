@@ -3,24 +3,16 @@
 use Prim.Native.Nat.{ℕ, _+_}
 use mathlib.Core.Path.{_≡_, refl}
 use mathlib.Core.List.{List, [], _∷_, _++_, map}
-use Rattle.laws.specs.Lists.{sameList, any, anyPair, keep, tabulate}
-use Rattle.laws.specs.Gather.{gather, total}
 use Rattle.laws.specs.Text.{bytes}
-use Rattle.laws.specs.Reading.{run}
-use Rattle.table.specs.Table.{decode, urisFrom, rulesOf, listedFrom, classOf}
+use Rattle.table.specs.Table.{decode}
 use Rattle.table.specs.Examples.{T, T2, packed, listed}
-use Rattle.lexer.specs.Names.{startLen, nameLen, spacesEnd, partEnd, prefixedAt, nameAt}
-use Rattle.lexer.specs.Values.{common, wholeOf, furthest, noReference, referenceEnd, valueEnd}
-use Rattle.lexer.specs.Tags.{wanted, equalsEnd, quotedAt, attributeAt, slashAt, turnBehind, turnAt, attrsFrom, tagAt, endTagAt, tagBegins, beginInside, beginOutside, beginAt}
-use Rattle.reader.specs.Spans.{kindOf}
-use Rattle.reader.specs.Namespaces.{sameNamespace, refusedBinding, lookUp, ofPrefix, ofElement, resolved, meaningOf}
-use Rattle.reader.specs.Events.{bindingsOf, colonEnd, partOf, next, eventsFrom, events}
+use Rattle.reader.specs.Events.{events}
 use Rattle.model.specs.Theory.{Record}
-use Rattle.model.specs.Model.{model, cells, cutModel}
-use Rattle.model.specs.Stream.{written, after, streamFrom, streamOf}
-use Rattle.model.specs.Elements.{spaceOf, attributeOf, elementOf, placed, sectionsFrom, sectionsOf}
-use Rattle.model.specs.Records.{Body, attributeUnits, kept, startBodies}
+use Rattle.model.specs.Model.{cutModel}
+use Rattle.model.specs.Stream.{streamOf}
+use Rattle.model.specs.Records.{Body}
 use Rattle.model.specs.Dispatch.{dispatch, told, pieceBody}
+use Rattle.model.specs.Computing.{computing}
 
 -- A record's seven fields
 pub record Row : Type 0 where
@@ -113,11 +105,11 @@ sample-A-records =
     ∷ []
 
 sample-A : modelRows T (bytes "<r xmlns=\"u\">a<x/></r>") ≡ sample-A-records
-unfolding model cells streamOf streamFrom written after rulesOf listedFrom classOf urisFrom keep tabulate total attributeUnits startBodies kept placed sectionsFrom sectionsOf spaceOf attributeOf elementOf events eventsFrom next bindingsOf colonEnd partOf meaningOf resolved ofElement ofPrefix lookUp sameNamespace refusedBinding kindOf sameList any anyPair gather beginAt beginOutside beginInside tagBegins endTagAt tagAt attrsFrom turnAt turnBehind slashAt attributeAt quotedAt equalsEnd wanted valueEnd referenceEnd noReference furthest wholeOf common nameAt prefixedAt partEnd nameLen startLen spacesEnd run
+unfolding computing
 sample-A = refl
 
 sample-A-streamed : streamRows T (bytes "<r xmlns=\"u\">a<x/></r>") ≡ sample-A-records
-unfolding model cells streamOf streamFrom written after rulesOf listedFrom classOf urisFrom keep tabulate total attributeUnits startBodies kept placed sectionsFrom sectionsOf spaceOf attributeOf elementOf events eventsFrom next bindingsOf colonEnd partOf meaningOf resolved ofElement ofPrefix lookUp sameNamespace refusedBinding kindOf sameList any anyPair gather beginAt beginOutside beginInside tagBegins endTagAt tagAt attrsFrom turnAt turnBehind slashAt attributeAt quotedAt equalsEnd wanted valueEnd referenceEnd noReference furthest wholeOf common nameAt prefixedAt partEnd nameLen startLen spacesEnd run
+unfolding computing
 sample-A-streamed = refl
 
 -- Sample D: x in units 1 and 0, in that order
@@ -130,11 +122,11 @@ sample-D-records =
     ∷ []
 
 sample-D : modelRows T2 (bytes "<r xmlns=\"u\"><x xmlns=\"v\"/></r>") ≡ sample-D-records
-unfolding model cells streamOf streamFrom written after rulesOf listedFrom classOf urisFrom keep tabulate total attributeUnits startBodies kept placed sectionsFrom sectionsOf spaceOf attributeOf elementOf events eventsFrom next bindingsOf colonEnd partOf meaningOf resolved ofElement ofPrefix lookUp sameNamespace refusedBinding kindOf sameList any anyPair gather beginAt beginOutside beginInside tagBegins endTagAt tagAt attrsFrom turnAt turnBehind slashAt attributeAt quotedAt equalsEnd wanted valueEnd referenceEnd noReference furthest wholeOf common nameAt prefixedAt partEnd nameLen startLen spacesEnd run
+unfolding computing
 sample-D = refl
 
 sample-D-streamed : streamRows T2 (bytes "<r xmlns=\"u\"><x xmlns=\"v\"/></r>") ≡ sample-D-records
-unfolding model cells streamOf streamFrom written after rulesOf listedFrom classOf urisFrom keep tabulate total attributeUnits startBodies kept placed sectionsFrom sectionsOf spaceOf attributeOf elementOf events eventsFrom next bindingsOf colonEnd partOf meaningOf resolved ofElement ofPrefix lookUp sameNamespace refusedBinding kindOf sameList any anyPair gather beginAt beginOutside beginInside tagBegins endTagAt tagAt attrsFrom turnAt turnBehind slashAt attributeAt quotedAt equalsEnd wanted valueEnd referenceEnd noReference furthest wholeOf common nameAt prefixedAt partEnd nameLen startLen spacesEnd run
+unfolding computing
 sample-D-streamed = refl
 
 -- Sample E: unit 0 gets r, a, x, c and not b, the text of the unwrapped wrapper
@@ -152,11 +144,11 @@ sample-E-records =
     ∷ []
 
 sample-E : modelRows T2 (bytes "<r xmlns=\"u\">a<w xmlns=\"q\">b<x xmlns=\"v\"/></w>c</r>") ≡ sample-E-records
-unfolding model cells streamOf streamFrom written after rulesOf listedFrom classOf urisFrom keep tabulate total attributeUnits startBodies kept placed sectionsFrom sectionsOf spaceOf attributeOf elementOf events eventsFrom next bindingsOf colonEnd partOf meaningOf resolved ofElement ofPrefix lookUp sameNamespace refusedBinding kindOf sameList any anyPair gather beginAt beginOutside beginInside tagBegins endTagAt tagAt attrsFrom turnAt turnBehind slashAt attributeAt quotedAt equalsEnd wanted valueEnd referenceEnd noReference furthest wholeOf common nameAt prefixedAt partEnd nameLen startLen spacesEnd run
+unfolding computing
 sample-E = refl
 
 sample-E-streamed : streamRows T2 (bytes "<r xmlns=\"u\">a<w xmlns=\"q\">b<x xmlns=\"v\"/></w>c</r>") ≡ sample-E-records
-unfolding model cells streamOf streamFrom written after rulesOf listedFrom classOf urisFrom keep tabulate total attributeUnits startBodies kept placed sectionsFrom sectionsOf spaceOf attributeOf elementOf events eventsFrom next bindingsOf colonEnd partOf meaningOf resolved ofElement ofPrefix lookUp sameNamespace refusedBinding kindOf sameList any anyPair gather beginAt beginOutside beginInside tagBegins endTagAt tagAt attrsFrom turnAt turnBehind slashAt attributeAt quotedAt equalsEnd wanted valueEnd referenceEnd noReference furthest wholeOf common nameAt prefixedAt partEnd nameLen startLen spacesEnd run
+unfolding computing
 sample-E-streamed = refl
 
 -- Figs. 6 to 11: unit 0 is ex, e1, its text and e, which the unwrapped e2 held; unit 1 the virtual element with b and c
@@ -174,11 +166,11 @@ figure-11-records =
     ∷ []
 
 figure-11 : modelRows figureTable (bytes "<ex xmlns=\"ns\" xmlns:ns1=\"ns1\" xmlns:ns2=\"ns2\"><e1 ns2:b=\"b\" ns2:c=\"c\">t1</e1><ns1:e2><e/></ns1:e2></ex>") ≡ figure-11-records
-unfolding model cells streamOf streamFrom written after rulesOf listedFrom classOf urisFrom keep tabulate total attributeUnits startBodies kept placed sectionsFrom sectionsOf spaceOf attributeOf elementOf events eventsFrom next bindingsOf colonEnd partOf meaningOf resolved ofElement ofPrefix lookUp sameNamespace refusedBinding kindOf sameList any anyPair gather beginAt beginOutside beginInside tagBegins endTagAt tagAt attrsFrom turnAt turnBehind slashAt attributeAt quotedAt equalsEnd wanted valueEnd referenceEnd noReference furthest wholeOf common nameAt prefixedAt partEnd nameLen startLen spacesEnd run
+unfolding computing
 figure-11 = refl
 
 figure-11-streamed : streamRows figureTable (bytes "<ex xmlns=\"ns\" xmlns:ns1=\"ns1\" xmlns:ns2=\"ns2\"><e1 ns2:b=\"b\" ns2:c=\"c\">t1</e1><ns1:e2><e/></ns1:e2></ex>") ≡ figure-11-records
-unfolding model cells streamOf streamFrom written after rulesOf listedFrom classOf urisFrom keep tabulate total attributeUnits startBodies kept placed sectionsFrom sectionsOf spaceOf attributeOf elementOf events eventsFrom next bindingsOf colonEnd partOf meaningOf resolved ofElement ofPrefix lookUp sameNamespace refusedBinding kindOf sameList any anyPair gather beginAt beginOutside beginInside tagBegins endTagAt tagAt attrsFrom turnAt turnBehind slashAt attributeAt quotedAt equalsEnd wanted valueEnd referenceEnd noReference furthest wholeOf common nameAt prefixedAt partEnd nameLen startLen spacesEnd run
+unfolding computing
 figure-11-streamed = refl
 
 -- Two attribute sections whose attributes alternate, one unlisted, and several strands: sections by first attribute, members in tag order; the units of attributes are numbered before those of the tag; each strand keeps by its own mode
@@ -189,11 +181,11 @@ interleaved-records =
     ∷ []
 
 interleaved : modelRows mixedTable (bytes "<p:r xmlns:p=\"u\" xmlns:a=\"v\" xmlns:b=\"w\" a:i=\"1\" b:j=\"2\" k=\"3\" a:l=\"4\" p:m=\"5\"/>") ≡ interleaved-records
-unfolding model cells streamOf streamFrom written after rulesOf listedFrom classOf urisFrom keep tabulate total attributeUnits startBodies kept placed sectionsFrom sectionsOf spaceOf attributeOf elementOf events eventsFrom next bindingsOf colonEnd partOf meaningOf resolved ofElement ofPrefix lookUp sameNamespace refusedBinding kindOf sameList any anyPair gather beginAt beginOutside beginInside tagBegins endTagAt tagAt attrsFrom turnAt turnBehind slashAt attributeAt quotedAt equalsEnd wanted valueEnd referenceEnd noReference furthest wholeOf common nameAt prefixedAt partEnd nameLen startLen spacesEnd run
+unfolding computing
 interleaved = refl
 
 interleaved-streamed : streamRows mixedTable (bytes "<p:r xmlns:p=\"u\" xmlns:a=\"v\" xmlns:b=\"w\" a:i=\"1\" b:j=\"2\" k=\"3\" a:l=\"4\" p:m=\"5\"/>") ≡ interleaved-records
-unfolding model cells streamOf streamFrom written after rulesOf listedFrom classOf urisFrom keep tabulate total attributeUnits startBodies kept placed sectionsFrom sectionsOf spaceOf attributeOf elementOf events eventsFrom next bindingsOf colonEnd partOf meaningOf resolved ofElement ofPrefix lookUp sameNamespace refusedBinding kindOf sameList any anyPair gather beginAt beginOutside beginInside tagBegins endTagAt tagAt attrsFrom turnAt turnBehind slashAt attributeAt quotedAt equalsEnd wanted valueEnd referenceEnd noReference furthest wholeOf common nameAt prefixedAt partEnd nameLen startLen spacesEnd run
+unfolding computing
 interleaved-streamed = refl
 
 -- The strand's own mode for attributes, not the parent's: schema 2
@@ -204,11 +196,11 @@ own-mode-records =
     ∷ []
 
 own-mode : modelRows modesTable (bytes "<r xmlns=\"u\" xmlns:q=\"w\" q:a=\"\"/>") ≡ own-mode-records
-unfolding model cells streamOf streamFrom written after rulesOf listedFrom classOf urisFrom keep tabulate total attributeUnits startBodies kept placed sectionsFrom sectionsOf spaceOf attributeOf elementOf events eventsFrom next bindingsOf colonEnd partOf meaningOf resolved ofElement ofPrefix lookUp sameNamespace refusedBinding kindOf sameList any anyPair gather beginAt beginOutside beginInside tagBegins endTagAt tagAt attrsFrom turnAt turnBehind slashAt attributeAt quotedAt equalsEnd wanted valueEnd referenceEnd noReference furthest wholeOf common nameAt prefixedAt partEnd nameLen startLen spacesEnd run
+unfolding computing
 own-mode = refl
 
 own-mode-streamed : streamRows modesTable (bytes "<r xmlns=\"u\" xmlns:q=\"w\" q:a=\"\"/>") ≡ own-mode-records
-unfolding model cells streamOf streamFrom written after rulesOf listedFrom classOf urisFrom keep tabulate total attributeUnits startBodies kept placed sectionsFrom sectionsOf spaceOf attributeOf elementOf events eventsFrom next bindingsOf colonEnd partOf meaningOf resolved ofElement ofPrefix lookUp sameNamespace refusedBinding kindOf sameList any anyPair gather beginAt beginOutside beginInside tagBegins endTagAt tagAt attrsFrom turnAt turnBehind slashAt attributeAt quotedAt equalsEnd wanted valueEnd referenceEnd noReference furthest wholeOf common nameAt prefixedAt partEnd nameLen startLen spacesEnd run
+unfolding computing
 own-mode-streamed = refl
 
 -- URIs are compared, not classes: Q inside P is a section of its own, though both are unlisted; another prefix of one URI is not; D8: the URI span is that of the element's own look-up
@@ -225,11 +217,11 @@ uris-compared-records =
     ∷ []
 
 uris-compared : modelRows anyTable (bytes "<r xmlns=\"P\"><x xmlns=\"Q\" xmlns:q=\"Q\"><q:y/></x><z xmlns=\"P\"/></r>") ≡ uris-compared-records
-unfolding model cells streamOf streamFrom written after rulesOf listedFrom classOf urisFrom keep tabulate total attributeUnits startBodies kept placed sectionsFrom sectionsOf spaceOf attributeOf elementOf events eventsFrom next bindingsOf colonEnd partOf meaningOf resolved ofElement ofPrefix lookUp sameNamespace refusedBinding kindOf sameList any anyPair gather beginAt beginOutside beginInside tagBegins endTagAt tagAt attrsFrom turnAt turnBehind slashAt attributeAt quotedAt equalsEnd wanted valueEnd referenceEnd noReference furthest wholeOf common nameAt prefixedAt partEnd nameLen startLen spacesEnd run
+unfolding computing
 uris-compared = refl
 
 uris-compared-streamed : streamRows anyTable (bytes "<r xmlns=\"P\"><x xmlns=\"Q\" xmlns:q=\"Q\"><q:y/></x><z xmlns=\"P\"/></r>") ≡ uris-compared-records
-unfolding model cells streamOf streamFrom written after rulesOf listedFrom classOf urisFrom keep tabulate total attributeUnits startBodies kept placed sectionsFrom sectionsOf spaceOf attributeOf elementOf events eventsFrom next bindingsOf colonEnd partOf meaningOf resolved ofElement ofPrefix lookUp sameNamespace refusedBinding kindOf sameList any anyPair gather beginAt beginOutside beginInside tagBegins endTagAt tagAt attrsFrom turnAt turnBehind slashAt attributeAt quotedAt equalsEnd wanted valueEnd referenceEnd noReference furthest wholeOf common nameAt prefixedAt partEnd nameLen startLen spacesEnd run
+unfolding computing
 uris-compared-streamed = refl
 
 -- A naming rule hides the any rules: x is attached, and not validated too; w is validated
@@ -244,11 +236,11 @@ naming-hides-any-records =
     ∷ []
 
 naming-hides-any : modelRows namingTable (bytes "<r xmlns=\"u\"><x xmlns=\"v\"/><w xmlns=\"w\"/></r>") ≡ naming-hides-any-records
-unfolding model cells streamOf streamFrom written after rulesOf listedFrom classOf urisFrom keep tabulate total attributeUnits startBodies kept placed sectionsFrom sectionsOf spaceOf attributeOf elementOf events eventsFrom next bindingsOf colonEnd partOf meaningOf resolved ofElement ofPrefix lookUp sameNamespace refusedBinding kindOf sameList any anyPair gather beginAt beginOutside beginInside tagBegins endTagAt tagAt attrsFrom turnAt turnBehind slashAt attributeAt quotedAt equalsEnd wanted valueEnd referenceEnd noReference furthest wholeOf common nameAt prefixedAt partEnd nameLen startLen spacesEnd run
+unfolding computing
 naming-hides-any = refl
 
 naming-hides-any-streamed : streamRows namingTable (bytes "<r xmlns=\"u\"><x xmlns=\"v\"/><w xmlns=\"w\"/></r>") ≡ naming-hides-any-records
-unfolding model cells streamOf streamFrom written after rulesOf listedFrom classOf urisFrom keep tabulate total attributeUnits startBodies kept placed sectionsFrom sectionsOf spaceOf attributeOf elementOf events eventsFrom next bindingsOf colonEnd partOf meaningOf resolved ofElement ofPrefix lookUp sameNamespace refusedBinding kindOf sameList any anyPair gather beginAt beginOutside beginInside tagBegins endTagAt tagAt attrsFrom turnAt turnBehind slashAt attributeAt quotedAt equalsEnd wanted valueEnd referenceEnd noReference furthest wholeOf common nameAt prefixedAt partEnd nameLen startLen spacesEnd run
+unfolding computing
 naming-hides-any-streamed = refl
 
 -- D12: a grandchild in its grandparent's namespace starts a section; D1: with no rule the strand unwraps and its target stays
@@ -267,11 +259,11 @@ grandchild-records =
     ∷ []
 
 grandchild : modelRows figureTable (bytes "<ex xmlns=\"ns\" xmlns:q=\"q\"><q:w>t<ns1:e2 xmlns:ns1=\"ns1\"><e>u</e></ns1:e2></q:w></ex>") ≡ grandchild-records
-unfolding model cells streamOf streamFrom written after rulesOf listedFrom classOf urisFrom keep tabulate total attributeUnits startBodies kept placed sectionsFrom sectionsOf spaceOf attributeOf elementOf events eventsFrom next bindingsOf colonEnd partOf meaningOf resolved ofElement ofPrefix lookUp sameNamespace refusedBinding kindOf sameList any anyPair gather beginAt beginOutside beginInside tagBegins endTagAt tagAt attrsFrom turnAt turnBehind slashAt attributeAt quotedAt equalsEnd wanted valueEnd referenceEnd noReference furthest wholeOf common nameAt prefixedAt partEnd nameLen startLen spacesEnd run
+unfolding computing
 grandchild = refl
 
 grandchild-streamed : streamRows figureTable (bytes "<ex xmlns=\"ns\" xmlns:q=\"q\"><q:w>t<ns1:e2 xmlns:ns1=\"ns1\"><e>u</e></ns1:e2></q:w></ex>") ≡ grandchild-records
-unfolding model cells streamOf streamFrom written after rulesOf listedFrom classOf urisFrom keep tabulate total attributeUnits startBodies kept placed sectionsFrom sectionsOf spaceOf attributeOf elementOf events eventsFrom next bindingsOf colonEnd partOf meaningOf resolved ofElement ofPrefix lookUp sameNamespace refusedBinding kindOf sameList any anyPair gather beginAt beginOutside beginInside tagBegins endTagAt tagAt attrsFrom turnAt turnBehind slashAt attributeAt quotedAt equalsEnd wanted valueEnd referenceEnd noReference furthest wholeOf common nameAt prefixedAt partEnd nameLen startLen spacesEnd run
+unfolding computing
 grandchild-streamed = refl
 
 -- D9: an attribute in xml's namespace stays with an element of it
@@ -284,9 +276,9 @@ xml-stays-records =
     ∷ []
 
 xml-stays : modelRows xmlTable (bytes "<xml:r xml:a='v'><x xml:b=''/></xml:r>") ≡ xml-stays-records
-unfolding model cells streamOf streamFrom written after rulesOf listedFrom classOf urisFrom keep tabulate total attributeUnits startBodies kept placed sectionsFrom sectionsOf spaceOf attributeOf elementOf events eventsFrom next bindingsOf colonEnd partOf meaningOf resolved ofElement ofPrefix lookUp sameNamespace refusedBinding kindOf sameList any anyPair gather beginAt beginOutside beginInside tagBegins endTagAt tagAt attrsFrom turnAt turnBehind slashAt attributeAt quotedAt equalsEnd wanted valueEnd referenceEnd noReference furthest wholeOf common nameAt prefixedAt partEnd nameLen startLen spacesEnd run
+unfolding computing
 xml-stays = refl
 
 xml-stays-streamed : streamRows xmlTable (bytes "<xml:r xml:a='v'><x xml:b=''/></xml:r>") ≡ xml-stays-records
-unfolding model cells streamOf streamFrom written after rulesOf listedFrom classOf urisFrom keep tabulate total attributeUnits startBodies kept placed sectionsFrom sectionsOf spaceOf attributeOf elementOf events eventsFrom next bindingsOf colonEnd partOf meaningOf resolved ofElement ofPrefix lookUp sameNamespace refusedBinding kindOf sameList any anyPair gather beginAt beginOutside beginInside tagBegins endTagAt tagAt attrsFrom turnAt turnBehind slashAt attributeAt quotedAt equalsEnd wanted valueEnd referenceEnd noReference furthest wholeOf common nameAt prefixedAt partEnd nameLen startLen spacesEnd run
+unfolding computing
 xml-stays-streamed = refl

@@ -4,213 +4,208 @@ use mathlib.Core.Path.{_≡_, refl}
 use mathlib.Core.List.{List, [], _∷_, _++_, map}
 use mathlib.Core.Bool.{true, false}
 use lib.ListN.{replicate}
-use Rattle.laws.specs.Lists.{sameList, any, anyPair}
-use Rattle.laws.specs.Gather.{gather}
 use Rattle.laws.specs.Text.{bytes}
-use Rattle.laws.specs.Reading.{run}
-use Rattle.lexer.specs.Names.{startLen, nameLen, spacesEnd, partEnd, prefixedAt, nameAt}
-use Rattle.lexer.specs.Values.{common, wholeOf, furthest, noReference, referenceEnd, valueEnd}
-use Rattle.lexer.specs.Tags.{wanted, equalsEnd, quotedAt, attributeAt, slashAt, turnBehind, turnAt, attrsFrom, tagAt, endTagAt, tagBegins, beginInside, beginOutside, beginAt}
-use Rattle.reader.specs.Spans.{span, kindOf}
-use Rattle.reader.specs.Namespaces.{Namespace, nothing, xml, declared, Attribute, sameNamespace, refusedBinding, lookUp, ofPrefix, ofElement, resolved, meaningOf}
-use Rattle.reader.specs.Events.{Event, start, text, end, refusal, finished, bindingsOf, colonEnd, partOf, next, eventsFrom, events, lastFrom, lastOf}
+use Rattle.reader.specs.Spans.{span}
+use Rattle.reader.specs.Namespaces.{Namespace, nothing, xml, declared, Attribute, sameNamespace}
+use Rattle.reader.specs.Events.{Event, start, text, end, refusal, finished, events, lastOf}
+use Rattle.reader.specs.Computing.{computing}
 
 -- B1: space is any run of space bytes
 spaces : lastOf (bytes "<r  a = ''\n\t/>") ≡ finished 14
-unfolding lastOf lastFrom next bindingsOf colonEnd partOf meaningOf resolved ofElement ofPrefix lookUp sameNamespace refusedBinding kindOf sameList any anyPair gather beginAt beginOutside beginInside tagBegins endTagAt tagAt attrsFrom turnAt turnBehind slashAt attributeAt quotedAt equalsEnd wanted valueEnd referenceEnd noReference furthest wholeOf common nameAt prefixedAt partEnd nameLen startLen spacesEnd run
+unfolding computing
 spaces = refl
 
 -- B2: the first byte with which none of the five goes on; the scene's end inside one
 no-reference : lastOf (bytes "<r>&x</r>") ≡ refusal 2 4
-unfolding lastOf lastFrom next bindingsOf colonEnd partOf meaningOf resolved ofElement ofPrefix lookUp sameNamespace refusedBinding kindOf sameList any anyPair gather beginAt beginOutside beginInside tagBegins endTagAt tagAt attrsFrom turnAt turnBehind slashAt attributeAt quotedAt equalsEnd wanted valueEnd referenceEnd noReference furthest wholeOf common nameAt prefixedAt partEnd nameLen startLen spacesEnd run
+unfolding computing
 no-reference = refl
 
 reference-and-more : lastOf (bytes "<r>&ampx") ≡ refusal 2 7
-unfolding lastOf lastFrom next bindingsOf colonEnd partOf meaningOf resolved ofElement ofPrefix lookUp sameNamespace refusedBinding kindOf sameList any anyPair gather beginAt beginOutside beginInside tagBegins endTagAt tagAt attrsFrom turnAt turnBehind slashAt attributeAt quotedAt equalsEnd wanted valueEnd referenceEnd noReference furthest wholeOf common nameAt prefixedAt partEnd nameLen startLen spacesEnd run
+unfolding computing
 reference-and-more = refl
 
 reference-then-tag : lastOf (bytes "<r>&<") ≡ refusal 2 4
-unfolding lastOf lastFrom next bindingsOf colonEnd partOf meaningOf resolved ofElement ofPrefix lookUp sameNamespace refusedBinding kindOf sameList any anyPair gather beginAt beginOutside beginInside tagBegins endTagAt tagAt attrsFrom turnAt turnBehind slashAt attributeAt quotedAt equalsEnd wanted valueEnd referenceEnd noReference furthest wholeOf common nameAt prefixedAt partEnd nameLen startLen spacesEnd run
+unfolding computing
 reference-then-tag = refl
 
 reference-cut : lastOf (bytes "<r>&lt") ≡ refusal 1 6
-unfolding lastOf lastFrom next bindingsOf colonEnd partOf meaningOf resolved ofElement ofPrefix lookUp sameNamespace refusedBinding kindOf sameList any anyPair gather beginAt beginOutside beginInside tagBegins endTagAt tagAt attrsFrom turnAt turnBehind slashAt attributeAt quotedAt equalsEnd wanted valueEnd referenceEnd noReference furthest wholeOf common nameAt prefixedAt partEnd nameLen startLen spacesEnd run
+unfolding computing
 reference-cut = refl
 
 -- B3: a 65th byte of a part that could go on with it; 64 are fine
 long-part : lastOf (bytes "<" ++ replicate 65 0x61) ≡ refusal 3 65
-unfolding lastOf lastFrom next bindingsOf colonEnd partOf meaningOf resolved ofElement ofPrefix lookUp sameNamespace refusedBinding kindOf sameList any anyPair gather beginAt beginOutside beginInside tagBegins endTagAt tagAt attrsFrom turnAt turnBehind slashAt attributeAt quotedAt equalsEnd wanted valueEnd referenceEnd noReference furthest wholeOf common nameAt prefixedAt partEnd nameLen startLen spacesEnd run
+unfolding computing
 long-part = refl
 
 longest-part : lastOf (bytes "<" ++ replicate 64 0x61 ++ bytes "/>") ≡ finished 67
-unfolding lastOf lastFrom next bindingsOf colonEnd partOf meaningOf resolved ofElement ofPrefix lookUp sameNamespace refusedBinding kindOf sameList any anyPair gather beginAt beginOutside beginInside tagBegins endTagAt tagAt attrsFrom turnAt turnBehind slashAt attributeAt quotedAt equalsEnd wanted valueEnd referenceEnd noReference furthest wholeOf common nameAt prefixedAt partEnd nameLen startLen spacesEnd run
+unfolding computing
 longest-part = refl
 
 -- B5: an end tag with nothing open
 end-of-nothing : lastOf (bytes "</r>") ≡ refusal 2 1
-unfolding lastOf lastFrom next bindingsOf colonEnd partOf meaningOf resolved ofElement ofPrefix lookUp sameNamespace refusedBinding kindOf sameList any anyPair gather beginAt beginOutside beginInside tagBegins endTagAt tagAt attrsFrom turnAt turnBehind slashAt attributeAt quotedAt equalsEnd wanted valueEnd referenceEnd noReference furthest wholeOf common nameAt prefixedAt partEnd nameLen startLen spacesEnd run
+unfolding computing
 end-of-nothing = refl
 
 -- B6: after the root every byte but space
 second-root : lastOf (bytes "<r/><s/>") ≡ refusal 2 4
-unfolding lastOf lastFrom next bindingsOf colonEnd partOf meaningOf resolved ofElement ofPrefix lookUp sameNamespace refusedBinding kindOf sameList any anyPair gather beginAt beginOutside beginInside tagBegins endTagAt tagAt attrsFrom turnAt turnBehind slashAt attributeAt quotedAt equalsEnd wanted valueEnd referenceEnd noReference furthest wholeOf common nameAt prefixedAt partEnd nameLen startLen spacesEnd run
+unfolding computing
 second-root = refl
 
 space-after-the-root : lastOf (bytes "<r/>  ") ≡ finished 6
-unfolding lastOf lastFrom next bindingsOf colonEnd partOf meaningOf resolved ofElement ofPrefix lookUp sameNamespace refusedBinding kindOf sameList any anyPair gather beginAt beginOutside beginInside tagBegins endTagAt tagAt attrsFrom turnAt turnBehind slashAt attributeAt quotedAt equalsEnd wanted valueEnd referenceEnd noReference furthest wholeOf common nameAt prefixedAt partEnd nameLen startLen spacesEnd run
+unfolding computing
 space-after-the-root = refl
 
 -- B7: the second byte of what is no tag; text before the root
 instruction : lastOf (bytes "<?x") ≡ refusal 2 1
-unfolding lastOf lastFrom next bindingsOf colonEnd partOf meaningOf resolved ofElement ofPrefix lookUp sameNamespace refusedBinding kindOf sameList any anyPair gather beginAt beginOutside beginInside tagBegins endTagAt tagAt attrsFrom turnAt turnBehind slashAt attributeAt quotedAt equalsEnd wanted valueEnd referenceEnd noReference furthest wholeOf common nameAt prefixedAt partEnd nameLen startLen spacesEnd run
+unfolding computing
 instruction = refl
 
 text-before-the-root : lastOf (bytes "a<r/>") ≡ refusal 2 0
-unfolding lastOf lastFrom next bindingsOf colonEnd partOf meaningOf resolved ofElement ofPrefix lookUp sameNamespace refusedBinding kindOf sameList any anyPair gather beginAt beginOutside beginInside tagBegins endTagAt tagAt attrsFrom turnAt turnBehind slashAt attributeAt quotedAt equalsEnd wanted valueEnd referenceEnd noReference furthest wholeOf common nameAt prefixedAt partEnd nameLen startLen spacesEnd run
+unfolding computing
 text-before-the-root = refl
 
 -- B8: >, ]]>, the other quote and 7F may stand in text and values; 0B may not
 free-bytes : lastOf (bytes "<r a='\">'>]]>" ++ (0x7F ∷ []) ++ bytes "</r>") ≡ finished 18
-unfolding lastOf lastFrom next bindingsOf colonEnd partOf meaningOf resolved ofElement ofPrefix lookUp sameNamespace refusedBinding kindOf sameList any anyPair gather beginAt beginOutside beginInside tagBegins endTagAt tagAt attrsFrom turnAt turnBehind slashAt attributeAt quotedAt equalsEnd wanted valueEnd referenceEnd noReference furthest wholeOf common nameAt prefixedAt partEnd nameLen startLen spacesEnd run
+unfolding computing
 free-bytes = refl
 
 vertical-tab : lastOf (bytes "<r>" ++ (0x0B ∷ [])) ≡ refusal 2 3
-unfolding lastOf lastFrom next bindingsOf colonEnd partOf meaningOf resolved ofElement ofPrefix lookUp sameNamespace refusedBinding kindOf sameList any anyPair gather beginAt beginOutside beginInside tagBegins endTagAt tagAt attrsFrom turnAt turnBehind slashAt attributeAt quotedAt equalsEnd wanted valueEnd referenceEnd noReference furthest wholeOf common nameAt prefixedAt partEnd nameLen startLen spacesEnd run
+unfolding computing
 vertical-tab = refl
 
 -- B9: 4, 5 and 6 are said of a whole tag
 end-cut : lastOf (bytes "<r></s") ≡ refusal 1 6
-unfolding lastOf lastFrom next bindingsOf colonEnd partOf meaningOf resolved ofElement ofPrefix lookUp sameNamespace refusedBinding kindOf sameList any anyPair gather beginAt beginOutside beginInside tagBegins endTagAt tagAt attrsFrom turnAt turnBehind slashAt attributeAt quotedAt equalsEnd wanted valueEnd referenceEnd noReference furthest wholeOf common nameAt prefixedAt partEnd nameLen startLen spacesEnd run
+unfolding computing
 end-cut = refl
 
 start-cut : lastOf (bytes "<r a='' a='' ") ≡ refusal 1 13
-unfolding lastOf lastFrom next bindingsOf colonEnd partOf meaningOf resolved ofElement ofPrefix lookUp sameNamespace refusedBinding kindOf sameList any anyPair gather beginAt beginOutside beginInside tagBegins endTagAt tagAt attrsFrom turnAt turnBehind slashAt attributeAt quotedAt equalsEnd wanted valueEnd referenceEnd noReference furthest wholeOf common nameAt prefixedAt partEnd nameLen startLen spacesEnd run
+unfolding computing
 start-cut = refl
 
 bad-byte-first : lastOf (bytes "<xmlns:r !") ≡ refusal 2 9
-unfolding lastOf lastFrom next bindingsOf colonEnd partOf meaningOf resolved ofElement ofPrefix lookUp sameNamespace refusedBinding kindOf sameList any anyPair gather beginAt beginOutside beginInside tagBegins endTagAt tagAt attrsFrom turnAt turnBehind slashAt attributeAt quotedAt equalsEnd wanted valueEnd referenceEnd noReference furthest wholeOf common nameAt prefixedAt partEnd nameLen startLen spacesEnd run
+unfolding computing
 bad-byte-first = refl
 
 -- B10: a text is complete once the next < is read
 text-cut : lastOf (bytes "<r>abc") ≡ refusal 1 6
-unfolding lastOf lastFrom next bindingsOf colonEnd partOf meaningOf resolved ofElement ofPrefix lookUp sameNamespace refusedBinding kindOf sameList any anyPair gather beginAt beginOutside beginInside tagBegins endTagAt tagAt attrsFrom turnAt turnBehind slashAt attributeAt quotedAt equalsEnd wanted valueEnd referenceEnd noReference furthest wholeOf common nameAt prefixedAt partEnd nameLen startLen spacesEnd run
+unfolding computing
 text-cut = refl
 
 -- B12: whole names are compared
 names-unlike : lastOf (bytes "<p:r xmlns:p='u' xmlns:q='u'></q:r>") ≡ refusal 4 29
-unfolding lastOf lastFrom next bindingsOf colonEnd partOf meaningOf resolved ofElement ofPrefix lookUp sameNamespace refusedBinding kindOf sameList any anyPair gather beginAt beginOutside beginInside tagBegins endTagAt tagAt attrsFrom turnAt turnBehind slashAt attributeAt quotedAt equalsEnd wanted valueEnd referenceEnd noReference furthest wholeOf common nameAt prefixedAt partEnd nameLen startLen spacesEnd run
+unfolding computing
 names-unlike = refl
 
 -- B13
 two-colons : lastOf (bytes "<a:b:c/>") ≡ refusal 2 4
-unfolding lastOf lastFrom next bindingsOf colonEnd partOf meaningOf resolved ofElement ofPrefix lookUp sameNamespace refusedBinding kindOf sameList any anyPair gather beginAt beginOutside beginInside tagBegins endTagAt tagAt attrsFrom turnAt turnBehind slashAt attributeAt quotedAt equalsEnd wanted valueEnd referenceEnd noReference furthest wholeOf common nameAt prefixedAt partEnd nameLen startLen spacesEnd run
+unfolding computing
 two-colons = refl
 
 colon-first : lastOf (bytes "<r :a=''/>") ≡ refusal 2 3
-unfolding lastOf lastFrom next bindingsOf colonEnd partOf meaningOf resolved ofElement ofPrefix lookUp sameNamespace refusedBinding kindOf sameList any anyPair gather beginAt beginOutside beginInside tagBegins endTagAt tagAt attrsFrom turnAt turnBehind slashAt attributeAt quotedAt equalsEnd wanted valueEnd referenceEnd noReference furthest wholeOf common nameAt prefixedAt partEnd nameLen startLen spacesEnd run
+unfolding computing
 colon-first = refl
 
 no-value : lastOf (bytes "<r a/>") ≡ refusal 2 4
-unfolding lastOf lastFrom next bindingsOf colonEnd partOf meaningOf resolved ofElement ofPrefix lookUp sameNamespace refusedBinding kindOf sameList any anyPair gather beginAt beginOutside beginInside tagBegins endTagAt tagAt attrsFrom turnAt turnBehind slashAt attributeAt quotedAt equalsEnd wanted valueEnd referenceEnd noReference furthest wholeOf common nameAt prefixedAt partEnd nameLen startLen spacesEnd run
+unfolding computing
 no-value = refl
 
 no-space : lastOf (bytes "<r a=''b=''/>") ≡ refusal 2 7
-unfolding lastOf lastFrom next bindingsOf colonEnd partOf meaningOf resolved ofElement ofPrefix lookUp sameNamespace refusedBinding kindOf sameList any anyPair gather beginAt beginOutside beginInside tagBegins endTagAt tagAt attrsFrom turnAt turnBehind slashAt attributeAt quotedAt equalsEnd wanted valueEnd referenceEnd noReference furthest wholeOf common nameAt prefixedAt partEnd nameLen startLen spacesEnd run
+unfolding computing
 no-space = refl
 
 two-equals : lastOf (bytes "<r a==''/>") ≡ refusal 2 5
-unfolding lastOf lastFrom next bindingsOf colonEnd partOf meaningOf resolved ofElement ofPrefix lookUp sameNamespace refusedBinding kindOf sameList any anyPair gather beginAt beginOutside beginInside tagBegins endTagAt tagAt attrsFrom turnAt turnBehind slashAt attributeAt quotedAt equalsEnd wanted valueEnd referenceEnd noReference furthest wholeOf common nameAt prefixedAt partEnd nameLen startLen spacesEnd run
+unfolding computing
 two-equals = refl
 
 no-part : lastOf (bytes "<p:/>") ≡ refusal 2 3
-unfolding lastOf lastFrom next bindingsOf colonEnd partOf meaningOf resolved ofElement ofPrefix lookUp sameNamespace refusedBinding kindOf sameList any anyPair gather beginAt beginOutside beginInside tagBegins endTagAt tagAt attrsFrom turnAt turnBehind slashAt attributeAt quotedAt equalsEnd wanted valueEnd referenceEnd noReference furthest wholeOf common nameAt prefixedAt partEnd nameLen startLen spacesEnd run
+unfolding computing
 no-part = refl
 
 no-name : lastOf (bytes "<r></>") ≡ refusal 2 5
-unfolding lastOf lastFrom next bindingsOf colonEnd partOf meaningOf resolved ofElement ofPrefix lookUp sameNamespace refusedBinding kindOf sameList any anyPair gather beginAt beginOutside beginInside tagBegins endTagAt tagAt attrsFrom turnAt turnBehind slashAt attributeAt quotedAt equalsEnd wanted valueEnd referenceEnd noReference furthest wholeOf common nameAt prefixedAt partEnd nameLen startLen spacesEnd run
+unfolding computing
 no-name = refl
 
 two-slashes : lastOf (bytes "<r//>") ≡ refusal 2 3
-unfolding lastOf lastFrom next bindingsOf colonEnd partOf meaningOf resolved ofElement ofPrefix lookUp sameNamespace refusedBinding kindOf sameList any anyPair gather beginAt beginOutside beginInside tagBegins endTagAt tagAt attrsFrom turnAt turnBehind slashAt attributeAt quotedAt equalsEnd wanted valueEnd referenceEnd noReference furthest wholeOf common nameAt prefixedAt partEnd nameLen startLen spacesEnd run
+unfolding computing
 two-slashes = refl
 
 -- samples F, G, H
 slash-cut : lastOf (bytes "<r/") ≡ refusal 1 3
-unfolding lastOf lastFrom next bindingsOf colonEnd partOf meaningOf resolved ofElement ofPrefix lookUp sameNamespace refusedBinding kindOf sameList any anyPair gather beginAt beginOutside beginInside tagBegins endTagAt tagAt attrsFrom turnAt turnBehind slashAt attributeAt quotedAt equalsEnd wanted valueEnd referenceEnd noReference furthest wholeOf common nameAt prefixedAt partEnd nameLen startLen spacesEnd run
+unfolding computing
 slash-cut = refl
 
 slash-and-more : lastOf (bytes "<r/x") ≡ refusal 2 3
-unfolding lastOf lastFrom next bindingsOf colonEnd partOf meaningOf resolved ofElement ofPrefix lookUp sameNamespace refusedBinding kindOf sameList any anyPair gather beginAt beginOutside beginInside tagBegins endTagAt tagAt attrsFrom turnAt turnBehind slashAt attributeAt quotedAt equalsEnd wanted valueEnd referenceEnd noReference furthest wholeOf common nameAt prefixedAt partEnd nameLen startLen spacesEnd run
+unfolding computing
 slash-and-more = refl
 
 another-end : lastOf (bytes "<r></s>") ≡ refusal 4 3
-unfolding lastOf lastFrom next bindingsOf colonEnd partOf meaningOf resolved ofElement ofPrefix lookUp sameNamespace refusedBinding kindOf sameList any anyPair gather beginAt beginOutside beginInside tagBegins endTagAt tagAt attrsFrom turnAt turnBehind slashAt attributeAt quotedAt equalsEnd wanted valueEnd referenceEnd noReference furthest wholeOf common nameAt prefixedAt partEnd nameLen startLen spacesEnd run
+unfolding computing
 another-end = refl
 
 unbound : lastOf (bytes "<p:r/>") ≡ refusal 5 0
-unfolding lastOf lastFrom next bindingsOf colonEnd partOf meaningOf resolved ofElement ofPrefix lookUp sameNamespace refusedBinding kindOf sameList any anyPair gather beginAt beginOutside beginInside tagBegins endTagAt tagAt attrsFrom turnAt turnBehind slashAt attributeAt quotedAt equalsEnd wanted valueEnd referenceEnd noReference furthest wholeOf common nameAt prefixedAt partEnd nameLen startLen spacesEnd run
+unfolding computing
 unbound = refl
 
 -- C2: xml is never declared, nor is its URI, nor xmlns's
 xml-declared : lastOf (bytes "<r xmlns:xml='http://www.w3.org/XML/1998/namespace'/>") ≡ refusal 5 0
-unfolding lastOf lastFrom next bindingsOf colonEnd partOf meaningOf resolved ofElement ofPrefix lookUp sameNamespace refusedBinding kindOf sameList any anyPair gather beginAt beginOutside beginInside tagBegins endTagAt tagAt attrsFrom turnAt turnBehind slashAt attributeAt quotedAt equalsEnd wanted valueEnd referenceEnd noReference furthest wholeOf common nameAt prefixedAt partEnd nameLen startLen spacesEnd run
+unfolding computing
 xml-declared = refl
 
 xml-uri-declared : lastOf (bytes "<r xmlns='http://www.w3.org/XML/1998/namespace'/>") ≡ refusal 5 0
-unfolding lastOf lastFrom next bindingsOf colonEnd partOf meaningOf resolved ofElement ofPrefix lookUp sameNamespace refusedBinding kindOf sameList any anyPair gather beginAt beginOutside beginInside tagBegins endTagAt tagAt attrsFrom turnAt turnBehind slashAt attributeAt quotedAt equalsEnd wanted valueEnd referenceEnd noReference furthest wholeOf common nameAt prefixedAt partEnd nameLen startLen spacesEnd run
+unfolding computing
 xml-uri-declared = refl
 
 xmlns-uri-declared : lastOf (bytes "<r xmlns:p='http://www.w3.org/2000/xmlns/'/>") ≡ refusal 5 0
-unfolding lastOf lastFrom next bindingsOf colonEnd partOf meaningOf resolved ofElement ofPrefix lookUp sameNamespace refusedBinding kindOf sameList any anyPair gather beginAt beginOutside beginInside tagBegins endTagAt tagAt attrsFrom turnAt turnBehind slashAt attributeAt quotedAt equalsEnd wanted valueEnd referenceEnd noReference furthest wholeOf common nameAt prefixedAt partEnd nameLen startLen spacesEnd run
+unfolding computing
 xmlns-uri-declared = refl
 
 -- C3: an & in a declaration
 reference-declared : lastOf (bytes "<r xmlns='a&amp;b'/>") ≡ refusal 5 0
-unfolding lastOf lastFrom next bindingsOf colonEnd partOf meaningOf resolved ofElement ofPrefix lookUp sameNamespace refusedBinding kindOf sameList any anyPair gather beginAt beginOutside beginInside tagBegins endTagAt tagAt attrsFrom turnAt turnBehind slashAt attributeAt quotedAt equalsEnd wanted valueEnd referenceEnd noReference furthest wholeOf common nameAt prefixedAt partEnd nameLen startLen spacesEnd run
+unfolding computing
 reference-declared = refl
 
 -- C4: declarations are attributes for 6; a prefix declared empty is 5 first
 declared-twice : lastOf (bytes "<r xmlns='u' xmlns='v'/>") ≡ refusal 6 0
-unfolding lastOf lastFrom next bindingsOf colonEnd partOf meaningOf resolved ofElement ofPrefix lookUp sameNamespace refusedBinding kindOf sameList any anyPair gather beginAt beginOutside beginInside tagBegins endTagAt tagAt attrsFrom turnAt turnBehind slashAt attributeAt quotedAt equalsEnd wanted valueEnd referenceEnd noReference furthest wholeOf common nameAt prefixedAt partEnd nameLen startLen spacesEnd run
+unfolding computing
 declared-twice = refl
 
 declared-twice-and-empty : lastOf (bytes "<r xmlns='u' xmlns='v' xmlns:p=''/>") ≡ refusal 5 0
-unfolding lastOf lastFrom next bindingsOf colonEnd partOf meaningOf resolved ofElement ofPrefix lookUp sameNamespace refusedBinding kindOf sameList any anyPair gather beginAt beginOutside beginInside tagBegins endTagAt tagAt attrsFrom turnAt turnBehind slashAt attributeAt quotedAt equalsEnd wanted valueEnd referenceEnd noReference furthest wholeOf common nameAt prefixedAt partEnd nameLen startLen spacesEnd run
+unfolding computing
 declared-twice-and-empty = refl
 
 -- C5: a tag's declarations count for the whole tag, also before they stand
 declared-behind : lastOf (bytes "<p:r xmlns:p='u' q:a='' xmlns:q='v'/>") ≡ finished 37
-unfolding lastOf lastFrom next bindingsOf colonEnd partOf meaningOf resolved ofElement ofPrefix lookUp sameNamespace refusedBinding kindOf sameList any anyPair gather beginAt beginOutside beginInside tagBegins endTagAt tagAt attrsFrom turnAt turnBehind slashAt attributeAt quotedAt equalsEnd wanted valueEnd referenceEnd noReference furthest wholeOf common nameAt prefixedAt partEnd nameLen startLen spacesEnd run
+unfolding computing
 declared-behind = refl
 
 attribute-unbound : lastOf (bytes "<r q:a=''/>") ≡ refusal 5 0
-unfolding lastOf lastFrom next bindingsOf colonEnd partOf meaningOf resolved ofElement ofPrefix lookUp sameNamespace refusedBinding kindOf sameList any anyPair gather beginAt beginOutside beginInside tagBegins endTagAt tagAt attrsFrom turnAt turnBehind slashAt attributeAt quotedAt equalsEnd wanted valueEnd referenceEnd noReference furthest wholeOf common nameAt prefixedAt partEnd nameLen startLen spacesEnd run
+unfolding computing
 attribute-unbound = refl
 
 -- C6: an unprefixed attribute is in no namespace; two prefixes of one URI are one namespace
 plain-and-prefixed : lastOf (bytes "<p:r xmlns:p='u' a='' p:a=''/>") ≡ finished 30
-unfolding lastOf lastFrom next bindingsOf colonEnd partOf meaningOf resolved ofElement ofPrefix lookUp sameNamespace refusedBinding kindOf sameList any anyPair gather beginAt beginOutside beginInside tagBegins endTagAt tagAt attrsFrom turnAt turnBehind slashAt attributeAt quotedAt equalsEnd wanted valueEnd referenceEnd noReference furthest wholeOf common nameAt prefixedAt partEnd nameLen startLen spacesEnd run
+unfolding computing
 plain-and-prefixed = refl
 
 two-prefixes-of-one-uri : lastOf (bytes "<r xmlns:p='u' xmlns:q='u' p:a='' q:a=''/>") ≡ refusal 6 0
-unfolding lastOf lastFrom next bindingsOf colonEnd partOf meaningOf resolved ofElement ofPrefix lookUp sameNamespace refusedBinding kindOf sameList any anyPair gather beginAt beginOutside beginInside tagBegins endTagAt tagAt attrsFrom turnAt turnBehind slashAt attributeAt quotedAt equalsEnd wanted valueEnd referenceEnd noReference furthest wholeOf common nameAt prefixedAt partEnd nameLen startLen spacesEnd run
+unfolding computing
 two-prefixes-of-one-uri = refl
 
 plain-and-default : lastOf (bytes "<r xmlns='u' xmlns:p='u' a='' p:a=''/>") ≡ finished 38
-unfolding lastOf lastFrom next bindingsOf colonEnd partOf meaningOf resolved ofElement ofPrefix lookUp sameNamespace refusedBinding kindOf sameList any anyPair gather beginAt beginOutside beginInside tagBegins endTagAt tagAt attrsFrom turnAt turnBehind slashAt attributeAt quotedAt equalsEnd wanted valueEnd referenceEnd noReference furthest wholeOf common nameAt prefixedAt partEnd nameLen startLen spacesEnd run
+unfolding computing
 plain-and-default = refl
 
 -- C7: xmlns as a whole name and as a part; declared, or as an element's prefix, it is 5
 xmlns-as-a-part : lastOf (bytes "<xmlns xmlns:p='u' p:xmlns='v'/>") ≡ finished 32
-unfolding lastOf lastFrom next bindingsOf colonEnd partOf meaningOf resolved ofElement ofPrefix lookUp sameNamespace refusedBinding kindOf sameList any anyPair gather beginAt beginOutside beginInside tagBegins endTagAt tagAt attrsFrom turnAt turnBehind slashAt attributeAt quotedAt equalsEnd wanted valueEnd referenceEnd noReference furthest wholeOf common nameAt prefixedAt partEnd nameLen startLen spacesEnd run
+unfolding computing
 xmlns-as-a-part = refl
 
 xmlns-declared : lastOf (bytes "<r xmlns:xmlns='u'/>") ≡ refusal 5 0
-unfolding lastOf lastFrom next bindingsOf colonEnd partOf meaningOf resolved ofElement ofPrefix lookUp sameNamespace refusedBinding kindOf sameList any anyPair gather beginAt beginOutside beginInside tagBegins endTagAt tagAt attrsFrom turnAt turnBehind slashAt attributeAt quotedAt equalsEnd wanted valueEnd referenceEnd noReference furthest wholeOf common nameAt prefixedAt partEnd nameLen startLen spacesEnd run
+unfolding computing
 xmlns-declared = refl
 
 xmlns-element : lastOf (bytes "<xmlns:r/>") ≡ refusal 5 0
-unfolding lastOf lastFrom next bindingsOf colonEnd partOf meaningOf resolved ofElement ofPrefix lookUp sameNamespace refusedBinding kindOf sameList any anyPair gather beginAt beginOutside beginInside tagBegins endTagAt tagAt attrsFrom turnAt turnBehind slashAt attributeAt quotedAt equalsEnd wanted valueEnd referenceEnd noReference furthest wholeOf common nameAt prefixedAt partEnd nameLen startLen spacesEnd run
+unfolding computing
 xmlns-element = refl
 
 -- what a start tells of namespaces: the element's, and those of its attributes
@@ -224,30 +219,30 @@ at a n = declared (span a n)
 
 -- The innermost declaration of a prefix, and the outer one again behind it
 redeclared : map spacesOf (events (bytes "<p:r xmlns:p='u'><p:x xmlns:p='v'><p:y/></p:x><p:z/></p:r>")) ≡ (at 14 1 ∷ []) ∷ (at 31 1 ∷ []) ∷ (at 31 1 ∷ []) ∷ [] ∷ [] ∷ (at 14 1 ∷ []) ∷ [] ∷ [] ∷ []
-unfolding events eventsFrom next bindingsOf colonEnd partOf meaningOf resolved ofElement ofPrefix lookUp sameNamespace refusedBinding kindOf sameList any anyPair gather beginAt beginOutside beginInside tagBegins endTagAt tagAt attrsFrom turnAt turnBehind slashAt attributeAt quotedAt equalsEnd wanted valueEnd referenceEnd noReference furthest wholeOf common nameAt prefixedAt partEnd nameLen startLen spacesEnd run
+unfolding computing
 redeclared = refl
 
 -- C1: xmlns="" undoes the default; its URI is empty, as that of no namespace
 default-undone : map spacesOf (events (bytes "<r xmlns='u'><x xmlns=''><y/></x></r>")) ≡ (at 10 1 ∷ []) ∷ (at 23 0 ∷ []) ∷ (at 23 0 ∷ []) ∷ [] ∷ [] ∷ [] ∷ []
-unfolding events eventsFrom next bindingsOf colonEnd partOf meaningOf resolved ofElement ofPrefix lookUp sameNamespace refusedBinding kindOf sameList any anyPair gather beginAt beginOutside beginInside tagBegins endTagAt tagAt attrsFrom turnAt turnBehind slashAt attributeAt quotedAt equalsEnd wanted valueEnd referenceEnd noReference furthest wholeOf common nameAt prefixedAt partEnd nameLen startLen spacesEnd run
+unfolding computing
 default-undone = refl
 
 -- The default does not apply to attributes
 attributes-of-two-uris : map spacesOf (events (bytes "<r xmlns='u' xmlns:p='v' a='' p:b='' xml:c=''/>")) ≡ (at 10 1 ∷ nothing ∷ at 22 1 ∷ xml ∷ []) ∷ [] ∷ []
-unfolding events eventsFrom next bindingsOf colonEnd partOf meaningOf resolved ofElement ofPrefix lookUp sameNamespace refusedBinding kindOf sameList any anyPair gather beginAt beginOutside beginInside tagBegins endTagAt tagAt attrsFrom turnAt turnBehind slashAt attributeAt quotedAt equalsEnd wanted valueEnd referenceEnd noReference furthest wholeOf common nameAt prefixedAt partEnd nameLen startLen spacesEnd run
+unfolding computing
 attributes-of-two-uris = refl
 
 -- two nested unlisted URIs are two namespaces; two prefixes of one URI are one
 unlike-uris : sameNamespace (bytes "<r xmlns='P'><x xmlns='Q'/></r>") (at 10 1) (at 23 1) ≡ false
-unfolding sameNamespace sameList
+unfolding computing
 unlike-uris = refl
 
 like-uris : sameNamespace (bytes "<p:r xmlns:p='P' xmlns:q='P'/>") (at 14 1) (at 26 1) ≡ true
-unfolding sameNamespace sameList
+unfolding computing
 like-uris = refl
 
 empty-is-nothing : sameNamespace (bytes "<x xmlns=''/>") (at 10 0) nothing ≡ true
-unfolding sameNamespace sameList
+unfolding computing
 empty-is-nothing = refl
 
 -- sample A, whole: the default's URI, the text, the end of />
@@ -258,7 +253,7 @@ sample-A : events (bytes "<r xmlns=\"u\">a<x/></r>")
     ∷ end (span 15 1) 14
     ∷ end (span 20 1) 18
     ∷ []
-unfolding events eventsFrom next bindingsOf colonEnd partOf meaningOf resolved ofElement ofPrefix lookUp sameNamespace refusedBinding kindOf sameList any anyPair gather beginAt beginOutside beginInside tagBegins endTagAt tagAt attrsFrom turnAt turnBehind slashAt attributeAt quotedAt equalsEnd wanted valueEnd referenceEnd noReference furthest wholeOf common nameAt prefixedAt partEnd nameLen startLen spacesEnd run
+unfolding computing
 sample-A = refl
 
 -- B11: a text of space is an event; the end of /> takes the part of the start's name; quotes and values
@@ -277,5 +272,5 @@ space-text : events (bytes "<p:r xmlns:p='u' a='b\"'> <p:x/></p:r>")
     ∷ end (span 28 1) 25
     ∷ end (span 35 1) 31
     ∷ []
-unfolding events eventsFrom next bindingsOf colonEnd partOf meaningOf resolved ofElement ofPrefix lookUp sameNamespace refusedBinding kindOf sameList any anyPair gather beginAt beginOutside beginInside tagBegins endTagAt tagAt attrsFrom turnAt turnBehind slashAt attributeAt quotedAt equalsEnd wanted valueEnd referenceEnd noReference furthest wholeOf common nameAt prefixedAt partEnd nameLen startLen spacesEnd run
+unfolding computing
 space-text = refl

@@ -1,0 +1,8 @@
+-- What the worked examples compute with, named once. A definition.
+use mathlib.Core.Bool.{Bool, true}
+use Rattle.dispatcher.specs.Computing as dispatcher
+use Rattle.demands.specs.Calls.{stepsFrom, joinedOf}
+
+unfoldable pub computing : Bool
+unfolding dispatcher.computing stepsFrom joinedOf
+computing = true
