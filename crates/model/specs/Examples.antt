@@ -94,6 +94,10 @@ xmlTable =
     ++ packed 0 1 254 2 1 0
     ++ listed (bytes "u")
 
+-- every element section validated by schema 0, every attribute section by schema 1
+abbrev validatingTable : List ℕ
+validatingTable = 0x01 ∷ 0x01 ∷ 0x02 ∷ 0x02 ∷ 0x03 ∷ 0xFE ∷ 0x00 ∷ 0x00 ∷ 0x07 ∷ 0xFE ∷ 0x01 ∷ 0x00 ∷ 0x01 ∷ 0x75 ∷ []
+
 -- Sample A
 abbrev sample-A-records : List (List Row)
 sample-A-records =
@@ -282,3 +286,48 @@ xml-stays = refl
 xml-stays-streamed : streamRows xmlTable (bytes "<xml:r xml:a='v'><x xml:b=''/></xml:r>") ≡ xml-stays-records
 unfolding computing
 xml-stays-streamed = refl
+
+-- An attribute section without rule is not kept, and opens no unit
+abbrev no-attribute-rule-records : List (List Row)
+no-attribute-rule-records =
+    (row 0 0 0 0 0 0 0 ∷ row 0 1 1 1 1 0 0 ∷ [])
+    ∷ (row 0 5 1 1 1 0 0 ∷ row 0 6 0 0 0 0 0 ∷ [])
+    ∷ []
+
+no-attribute-rule : modelRows T (bytes "<r xmlns=\"u\" xmlns:q=\"w\" q:a=\"1\"/>") ≡ no-attribute-rule-records
+unfolding computing
+no-attribute-rule = refl
+
+no-attribute-rule-streamed : streamRows T (bytes "<r xmlns=\"u\" xmlns:q=\"w\" q:a=\"1\"/>") ≡ no-attribute-rule-records
+unfolding computing
+no-attribute-rule-streamed = refl
+
+-- D10: attribute sections are formed by URIs, not by classes: P and Q, both unlisted, are two
+abbrev unlisted-sections-records : List (List Row)
+unlisted-sections-records =
+    (row 0 0 1 0 1 0 0 ∷ row 0 1 253 0 0 0 0 ∷ row 0 2 255 29 1 12 1 ∷ row 0 3 0 32 0 0 0 ∷ row 0 5 253 0 0 0 0 ∷ row 0 6 0 0 0 0 0 ∷ row 1 0 1 0 1 0 0 ∷ row 1 1 253 0 0 0 0 ∷ row 1 2 255 36 1 24 1 ∷ row 1 3 0 39 0 0 0 ∷ row 1 5 253 0 0 0 0 ∷ row 1 6 0 0 0 0 0 ∷ row 2 0 0 0 0 0 0 ∷ row 2 1 0 1 1 0 0 ∷ [])
+    ∷ (row 2 5 0 1 1 0 0 ∷ row 2 6 0 0 0 0 0 ∷ [])
+    ∷ []
+
+unlisted-sections : modelRows validatingTable (bytes "<r xmlns:p=\"P\" xmlns:q=\"Q\" p:a=\"\" q:b=\"\"/>") ≡ unlisted-sections-records
+unfolding computing
+unlisted-sections = refl
+
+unlisted-sections-streamed : streamRows validatingTable (bytes "<r xmlns:p=\"P\" xmlns:q=\"Q\" p:a=\"\" q:b=\"\"/>") ≡ unlisted-sections-records
+unfolding computing
+unlisted-sections-streamed = refl
+
+-- An attribute stays by its URI, not by its class: that of Q does not with an element of P
+abbrev unlisted-attribute-records : List (List Row)
+unlisted-attribute-records =
+    (row 0 0 1 0 1 0 0 ∷ row 0 1 253 0 0 0 0 ∷ row 0 2 255 27 1 22 1 ∷ row 0 3 0 30 0 0 0 ∷ row 0 5 253 0 0 0 0 ∷ row 0 6 0 0 0 0 0 ∷ row 1 0 0 0 0 0 0 ∷ row 1 1 255 1 1 10 1 ∷ [])
+    ∷ (row 1 5 255 1 1 10 1 ∷ row 1 6 0 0 0 0 0 ∷ [])
+    ∷ []
+
+unlisted-attribute : modelRows validatingTable (bytes "<r xmlns=\"P\" xmlns:q=\"Q\" q:a=\"\"/>") ≡ unlisted-attribute-records
+unfolding computing
+unlisted-attribute = refl
+
+unlisted-attribute-streamed : streamRows validatingTable (bytes "<r xmlns=\"P\" xmlns:q=\"Q\" q:a=\"\"/>") ≡ unlisted-attribute-records
+unfolding computing
+unlisted-attribute-streamed = refl
