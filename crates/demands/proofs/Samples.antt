@@ -6,7 +6,7 @@ use lib.ListN.{length, drop, replicate}
 use Rattle.laws.specs.Text.{bytes}
 use Rattle.table.specs.Examples.{T, T2}
 use Rattle.model.specs.Rows.{row}
-use Rattle.dispatcher.specs.Stepping.{Run, answered, runOf}
+use Rattle.dispatcher.specs.Stepping.{Run, runOf}
 use Rattle.dispatcher.specs.Computing.{computing}
 
 -- room for 20 records
@@ -17,10 +17,13 @@ abbrev joined : List (List ℕ) → List ℕ
 joined [] = []
 joined (r ∷ rs) = r ++ joined rs
 
--- a run's answer, and its output: the records, and the bytes past them as they were
+-- a run's answer, field by field, and its output: the records, and the bytes past them as they were
 abbrev ran : ℕ → ℕ → ℕ → List (List ℕ) → Run
 ran number place events rows =
-    record { answer = answered number place events (length rows); output = joined rows ++ drop (16 * length rows) blank }
+    record {
+      answer = record { number = number; place = place; events = events; records = length rows };
+      output = joined rows ++ drop (16 * length rows) blank;
+    }
 
 -- Sample A
 abbrev SampleA : Type 0

@@ -7,11 +7,12 @@ use Rattle.laws.specs.Text.{bytes}
 use Rattle.table.specs.Table.{decode}
 use Rattle.table.specs.Examples.{T, T2, packed, listed}
 use Rattle.reader.specs.Events.{events}
-use Rattle.model.specs.Theory.{Record}
-use Rattle.model.specs.Model.{cutModel}
+use Rattle.model.specs.Theory.{Record, holds}
+use Rattle.model.specs.Tree.{completed, treeOf}
+use Rattle.model.specs.Model.{cutModel, modelOf}
 use Rattle.model.specs.Stream.{streamOf}
 use Rattle.model.specs.Records.{Body}
-use Rattle.model.specs.Dispatch.{dispatch, told, pieceBody}
+use Rattle.model.specs.Dispatch.{dispatch, told, pieceBody, bytesOf}
 use Rattle.model.specs.Computing.{computing}
 
 -- A record's seven fields
@@ -32,6 +33,12 @@ modelRows t s = map rowsOf (cutModel (dispatch (decode t)) (map (told (decode t)
 
 abbrev streamRows : List ℕ → List ℕ → List (List Row)
 streamRows t s = map rowsOf (streamOf (dispatch (decode t)) (map (told (decode t) s) (events s)))
+
+-- what the model gives with the ends that a cut adds
+abbrev completedRows : List ℕ → List ℕ → List (List Row)
+completedRows t s =
+    let Θ = dispatch (decode t) in
+    map rowsOf (modelOf Θ (treeOf Θ (completed Θ (map (told (decode t) s) (events s)))))
 
 -- the Mealy machine of fig. 9 of document 001: ns validated; below it ns2 attributes validated, ns1 unwrapped; below that ns attached
 abbrev figureTable : List ℕ
@@ -97,6 +104,15 @@ xmlTable =
 -- every element section validated by schema 0, every attribute section by schema 1
 abbrev validatingTable : List ℕ
 validatingTable = 0x01 ∷ 0x01 ∷ 0x02 ∷ 0x02 ∷ 0x03 ∷ 0xFE ∷ 0x00 ∷ 0x00 ∷ 0x07 ∷ 0xFE ∷ 0x01 ∷ 0x00 ∷ 0x01 ∷ 0x75 ∷ []
+
+-- below a u root every section attached, and of its elements every attribute
+abbrev attachingTable : List ℕ
+attachingTable =
+    (1 ∷ 3 ∷ 1 ∷ 3 ∷ [])
+    ++ packed 0 0 1 2 0 1
+    ++ packed 1 0 255 0 0 2
+    ++ packed 2 1 255 0 0 0
+    ++ listed (bytes "u")
 
 -- Sample A
 abbrev sample-A-records : List (List Row)
@@ -331,3 +347,52 @@ unlisted-attribute = refl
 unlisted-attribute-streamed : streamRows validatingTable (bytes "<r xmlns=\"P\" xmlns:q=\"Q\" q:a=\"\"/>") ≡ unlisted-attribute-records
 unfolding computing
 unlisted-attribute-streamed = refl
+
+-- An attached element's attributes are kept by its strand's own mode, not the parent's; a mode's element rules are none for attributes
+abbrev attached-attributes-records : List (List Row)
+attached-attributes-records =
+    (row 0 0 0 0 0 0 0 ∷ row 0 1 1 1 1 0 0 ∷ [])
+    ∷ (row 0 1 255 33 1 42 1 ∷ row 0 2 255 47 1 22 1 ∷ row 0 3 0 50 0 0 0 ∷ [])
+    ∷ (row 0 5 255 33 1 42 1 ∷ [])
+    ∷ (row 0 5 1 55 1 0 0 ∷ row 0 6 0 0 0 0 0 ∷ [])
+    ∷ []
+
+attached-attributes : modelRows attachingTable (bytes "<r xmlns=\"u\" xmlns:q=\"w\" q:a=\"\"><x xmlns=\"v\" q:b=\"\"/></r>") ≡ attached-attributes-records
+unfolding computing
+attached-attributes = refl
+
+attached-attributes-streamed : streamRows attachingTable (bytes "<r xmlns=\"u\" xmlns:q=\"w\" q:a=\"\"><x xmlns=\"v\" q:b=\"\"/></r>") ≡ attached-attributes-records
+unfolding computing
+attached-attributes-streamed = refl
+
+-- D2: no namespace inside no namespace is the same section, also where it is declared; its class has no URI span
+abbrev no-namespace-records : List (List Row)
+no-namespace-records =
+    (row 0 0 0 0 0 0 0 ∷ row 0 1 0 1 1 0 0 ∷ [])
+    ∷ (row 0 1 0 4 1 0 0 ∷ [])
+    ∷ (row 0 5 0 4 1 0 0 ∷ [])
+    ∷ (row 0 5 0 18 1 0 0 ∷ row 0 6 0 0 0 0 0 ∷ [])
+    ∷ []
+
+no-namespace : modelRows anyTable (bytes "<r><x xmlns=\"\"/></r>") ≡ no-namespace-records
+unfolding computing
+no-namespace = refl
+
+no-namespace-streamed : streamRows anyTable (bytes "<r><x xmlns=\"\"/></r>") ≡ no-namespace-records
+unfolding computing
+no-namespace-streamed = refl
+
+-- "An added end has the span of an end for />": the innermost first, each with its own start's part
+added-ends : completedRows T (bytes "<r xmlns=\"u\" xmlns:p=\"u\"><p:x>")
+    ≡ (row 0 0 0 0 0 0 0 ∷ row 0 1 1 1 1 0 0 ∷ [])
+    ∷ (row 0 1 1 28 1 0 0 ∷ [])
+    ∷ (row 0 5 1 28 1 0 0 ∷ [])
+    ∷ (row 0 5 1 1 1 0 0 ∷ row 0 6 0 0 0 0 0 ∷ [])
+    ∷ []
+unfolding computing
+added-ends = refl
+
+-- A record's bytes: unit 16, kind 8, class 8, offset 24, length 24, URI offset 24, URI length 24, each with its highest byte first
+fields : bytesOf (record { unit = 0x0102; piece = holds (record { kind = 0x03; class = 0x04; at = 0x050607; len = 0x08090A; uriAt = 0x0B0C0D; uriLen = 0x0E0F10 }) }) ≡ 0x01 ∷ 0x02 ∷ 0x03 ∷ 0x04 ∷ 0x05 ∷ 0x06 ∷ 0x07 ∷ 0x08 ∷ 0x09 ∷ 0x0A ∷ 0x0B ∷ 0x0C ∷ 0x0D ∷ 0x0E ∷ 0x0F ∷ 0x10 ∷ []
+unfolding computing
+fields = refl
