@@ -1,34 +1,13 @@
 -- Samples A to H, as one fact about the definitions, by computation.
-use Prim.Native.Nat.{ℕ, _+_, _*_, _-_}
+use Prim.Native.Nat.{ℕ, _+_, _*_}
 use mathlib.Core.Path.{_≡_, refl}
 use mathlib.Core.List.{List, [], _∷_, _++_}
 use lib.ListN.{length, drop, replicate}
-use Rattle.laws.specs.Lists.{sameList, any, all, anyPair, keep, tabulate}
-use Rattle.laws.specs.Over.{overwrite}
-use Rattle.laws.specs.Gather.{gather, total}
 use Rattle.laws.specs.Text.{bytes}
-use Rattle.laws.specs.Reading.{run}
-use Rattle.table.specs.Table.{urisFrom, rulesOf, listedFrom, classOf}
-use Rattle.table.specs.Judge.{judged, urisFill}
 use Rattle.table.specs.Examples.{T, T2}
-use Rattle.lexer.specs.Names.{startLen, nameLen, spacesEnd, partEnd, prefixedAt, nameAt}
-use Rattle.lexer.specs.Values.{common, wholeOf, furthest, noReference, referenceEnd, valueEnd}
-use Rattle.lexer.specs.Tags.{wanted, equalsEnd, quotedAt, attributeAt, slashAt, turnBehind, turnAt, attrsFrom, tagAt, endTagAt, tagBegins, beginInside, beginOutside, beginAt}
-use Rattle.lexer.specs.Whole.{isPart, isWholeName}
-use Rattle.reader.specs.Spans.{kindOf}
-use Rattle.reader.specs.Namespaces.{sameNamespace, refusedBinding, lookUp, ofPrefix, ofElement, resolved, meaningOf}
-use Rattle.reader.specs.Stored.{bindingIn}
-use Rattle.reader.specs.Scope.{nameIn, opensIn, closedOf}
-use Rattle.reader.specs.Events.{bindingsOf, colonEnd, partOf, next}
-use Rattle.model.specs.Stream.{written, after}
-use Rattle.model.specs.Elements.{spaceOf, attributeOf, elementOf}
-use Rattle.model.specs.Groups.{placed, sectionsFrom, sectionsOf, attributeUnits, kept, startBodies}
-use Rattle.model.specs.Records.{recordBytes}
 use Rattle.model.specs.Rows.{row}
-use Rattle.strands.specs.Packed.{strandIn, packed}
-use Rattle.dispatcher.specs.Sessions.{levelUri, strandsIn, levelIn, levelsIn}
-use Rattle.dispatcher.specs.Coherence.{coherent}
-use Rattle.dispatcher.specs.Stepping.{Run, answered, planOf, startPlan, stepOf, runFrom, runOf}
+use Rattle.dispatcher.specs.Stepping.{Run, runOf}
+use Rattle.dispatcher.specs.Computing.{computing}
 
 -- room for 20 records
 abbrev blank : List ℕ
@@ -38,10 +17,13 @@ abbrev joined : List (List ℕ) → List ℕ
 joined [] = []
 joined (r ∷ rs) = r ++ joined rs
 
--- a run's answer, and its output: the records, and the bytes past them as they were
+-- a run's answer, field by field, and its output: the records, and the bytes past them as they were
 abbrev ran : ℕ → ℕ → ℕ → List (List ℕ) → Run
 ran number place events rows =
-    record { answer = answered number place events (length rows); output = joined rows ++ drop (16 * length rows) blank }
+    record {
+      answer = record { number = number; place = place; events = events; records = length rows };
+      output = joined rows ++ drop (16 * length rows) blank;
+    }
 
 -- Sample A
 abbrev SampleA : Type 0
@@ -76,5 +58,5 @@ abbrev SampleH : Type 0
 SampleH = (runOf T (bytes "<r/") blank ≡ ran 1 3 0 []) × (runOf T (bytes "<r/x") blank ≡ ran 2 3 0 [])
 
 pub samples : SampleA × SampleB × SampleC × SampleD × SampleE × SampleF × SampleG × SampleH
-unfolding runOf runFrom stepOf planOf startPlan coherent strandIn packed levelUri strandsIn levelIn levelsIn judged urisFill all bindingIn nameIn opensIn closedOf overwrite isPart isWholeName recordBytes written after rulesOf listedFrom classOf urisFrom keep tabulate total attributeUnits startBodies kept placed sectionsFrom sectionsOf spaceOf attributeOf elementOf next bindingsOf colonEnd partOf meaningOf resolved ofElement ofPrefix lookUp sameNamespace refusedBinding kindOf sameList any anyPair gather beginAt beginOutside beginInside tagBegins endTagAt tagAt attrsFrom turnAt turnBehind slashAt attributeAt quotedAt equalsEnd wanted valueEnd referenceEnd noReference furthest wholeOf common nameAt prefixedAt partEnd nameLen startLen spacesEnd run
+unfolding computing
 samples = (refl, refl, refl, refl, refl, refl, refl, (refl, refl))

@@ -3,5 +3,6 @@ pub mod Scenes
 pub mod Answers
 pub mod Limits
 pub mod Runs
+pub mod Computing
 pub mod CallExamples
 pub mod LimitExamples

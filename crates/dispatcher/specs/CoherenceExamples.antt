@@ -4,33 +4,16 @@ use mathlib.Core.Path.{_≡_, refl}
 use mathlib.Core.List.{List, [], _∷_, _++_}
 use mathlib.Core.Bool.{Bool, true, false}
 use lib.ListN.{length, drop, replicate, set}
-use Rattle.laws.specs.Lists.{sameList, any, all, anyPair, keep, tabulate}
-use Rattle.laws.specs.Over.{overwrite}
-use Rattle.laws.specs.Gather.{gather, total}
+use Rattle.laws.specs.Gather.{gather}
 use Rattle.laws.specs.Text.{bytes}
-use Rattle.laws.specs.Reading.{run}
-use Rattle.table.specs.Table.{Table, decode, urisFrom, rulesOf, listedFrom, classOf}
-use Rattle.table.specs.Judge.{judged, urisFill}
+use Rattle.table.specs.Table.{Table, decode}
 use Rattle.table.specs.Examples.{T}
-use Rattle.lexer.specs.Names.{startLen, nameLen, spacesEnd, partEnd, prefixedAt, nameAt}
-use Rattle.lexer.specs.Values.{common, wholeOf, furthest, noReference, referenceEnd, valueEnd}
-use Rattle.lexer.specs.Tags.{wanted, equalsEnd, quotedAt, attributeAt, slashAt, turnBehind, turnAt, attrsFrom, tagAt, endTagAt, tagBegins, beginInside, beginOutside, beginAt}
-use Rattle.lexer.specs.Whole.{isPart, isWholeName}
-use Rattle.reader.specs.Spans.{kindOf}
-use Rattle.reader.specs.Namespaces.{sameNamespace, refusedBinding, lookUp, ofPrefix, ofElement, resolved, meaningOf}
-use Rattle.reader.specs.Stored.{bindingIn}
-use Rattle.reader.specs.Scope.{nameIn, opensIn, closedOf}
-use Rattle.reader.specs.Events.{bindingsOf, colonEnd, partOf, next}
-use Rattle.model.specs.Stream.{written, after}
-use Rattle.model.specs.Elements.{spaceOf, attributeOf, elementOf}
-use Rattle.model.specs.Groups.{placed, sectionsFrom, sectionsOf, attributeUnits, kept, startBodies}
-use Rattle.model.specs.Records.{recordBytes}
 use Rattle.model.specs.Rows.{row}
-use Rattle.strands.specs.Packed.{strandIn, packed}
-use Rattle.dispatcher.specs.Sessions.{freshOf, levelUri, strandsIn, levelIn, levelsIn}
+use Rattle.dispatcher.specs.Sessions.{freshOf}
 use Rattle.dispatcher.specs.Coherence.{depthFits, boundFits, placeInside, levelSpansInside, bindingSpansInside, namesFit, bindingsAllowed, prefixesFit, strandCountsFit, modesFit, classesFit, targetsFit, validatesAim, unitsFit, countsAddUp, awaitedFits, closedFits, coherent}
-use Rattle.dispatcher.specs.Stepping.{answered, refusedStep, planOf, startPlan, stepOf}
+use Rattle.dispatcher.specs.Stepping.{answered, refusedStep, stepOf}
 use Rattle.dispatcher.specs.declared.Session.{Session}
+use Rattle.dispatcher.specs.Computing.{computing}
 
 -- sample A's scene, and its session behind the first event: <r xmlns="u"> is open, with one strand, in mode 1, validate, opened here, of unit 0
 abbrev A : List ℕ
@@ -241,9 +224,9 @@ abbrev Inside : Type 0
 Inside = Steps (placedAt 15) 18 (row 0 4 0 15 3 0 0 ∷ []) 1
 
 pub incoherent : First × Depth × Bound × Outside × Names × Refused × Prefixes × Counts × Lacking × Sums × Flags
-unfolding stepOf planOf startPlan coherent strandIn packed levelUri strandsIn levelIn levelsIn judged urisFill all bindingIn nameIn opensIn closedOf overwrite isPart isWholeName recordBytes written after rulesOf listedFrom classOf urisFrom keep tabulate total attributeUnits startBodies kept placed sectionsFrom sectionsOf spaceOf attributeOf elementOf next bindingsOf colonEnd partOf meaningOf resolved ofElement ofPrefix lookUp sameNamespace refusedBinding kindOf sameList any anyPair gather beginAt beginOutside beginInside tagBegins endTagAt tagAt attrsFrom turnAt turnBehind slashAt attributeAt quotedAt equalsEnd wanted valueEnd referenceEnd noReference furthest wholeOf common nameAt prefixedAt partEnd nameLen startLen spacesEnd run
+unfolding computing
 incoherent = (refl, ((refl, refl), refl), (refl, refl), ((refl, refl), (refl, refl), (refl, refl), (refl, refl), (refl, refl), (refl, refl), (refl, refl)), ((refl, refl), (refl, refl), (refl, refl), (refl, refl)), ((refl, refl), (refl, refl), (refl, refl), (refl, refl), (refl, refl)), ((refl, refl), (refl, refl)), ((refl, refl), (refl, refl)), ((refl, refl), (refl, refl), (refl, refl), (refl, refl), (refl, refl)), ((refl, refl), (refl, refl), (refl, refl)), ((refl, refl), (refl, refl)))
 
 pub coherent-though : Never × Ends × Namespaces × Awaited × Both × Twice × Inside
-unfolding stepOf planOf startPlan coherent strandIn packed levelUri strandsIn levelIn levelsIn judged urisFill all bindingIn nameIn opensIn closedOf overwrite isPart isWholeName recordBytes written after rulesOf listedFrom classOf urisFrom keep tabulate total attributeUnits startBodies kept placed sectionsFrom sectionsOf spaceOf attributeOf elementOf next bindingsOf colonEnd partOf meaningOf resolved ofElement ofPrefix lookUp sameNamespace refusedBinding kindOf sameList any anyPair gather beginAt beginOutside beginInside tagBegins endTagAt tagAt attrsFrom turnAt turnBehind slashAt attributeAt quotedAt equalsEnd wanted valueEnd referenceEnd noReference furthest wholeOf common nameAt prefixedAt partEnd nameLen startLen spacesEnd run
+unfolding computing
 coherent-though = ((refl, refl, refl, refl, refl, refl, refl, refl, refl), ((refl, refl, refl, refl, refl), (refl, refl, refl, refl, refl), (refl, refl, refl, refl, refl), (refl, refl, refl, refl, refl), (refl, refl, refl, refl, refl), (refl, refl, refl, refl, refl)), ((refl, refl, refl, refl, refl), (refl, refl, refl, refl, refl), (refl, refl, refl, refl, refl), (refl, refl, refl, refl, refl), (refl, refl, refl, refl, refl)), (refl, refl, refl, refl, refl), (refl, refl, refl, refl, refl), ((refl, refl, refl, refl, refl), (refl, refl, refl, refl, refl)), (refl, refl, refl, refl, refl))

@@ -1,86 +1,67 @@
 -- Worked examples of step and run, by computation: the rulings on places, on 25 and on the limits of the state.
 use mathlib.Core.Path.{_≡_, refl}
-use mathlib.Core.List.{List, [], _∷_, _++_}
+use mathlib.Core.List.{[], _∷_, _++_}
 use lib.ListN.{replicate}
-use Rattle.laws.specs.Lists.{sameList, any, all, anyPair, keep, tabulate}
-use Rattle.laws.specs.Over.{overwrite}
-use Rattle.laws.specs.Gather.{gather, total}
 use Rattle.laws.specs.Text.{bytes}
-use Rattle.laws.specs.Reading.{run}
-use Rattle.table.specs.Table.{urisFrom, rulesOf, listedFrom, classOf}
-use Rattle.table.specs.Judge.{judged, urisFill}
 use Rattle.table.specs.Examples.{T, T2}
-use Rattle.lexer.specs.Names.{startLen, nameLen, spacesEnd, partEnd, prefixedAt, nameAt}
-use Rattle.lexer.specs.Values.{common, wholeOf, furthest, noReference, referenceEnd, valueEnd}
-use Rattle.lexer.specs.Tags.{wanted, equalsEnd, quotedAt, attributeAt, slashAt, turnBehind, turnAt, attrsFrom, tagAt, endTagAt, tagBegins, beginInside, beginOutside, beginAt}
-use Rattle.lexer.specs.Whole.{isPart, isWholeName}
-use Rattle.reader.specs.Spans.{kindOf}
-use Rattle.reader.specs.Namespaces.{sameNamespace, refusedBinding, lookUp, ofPrefix, ofElement, resolved, meaningOf}
-use Rattle.reader.specs.Stored.{bindingIn}
-use Rattle.reader.specs.Scope.{nameIn, opensIn, closedOf}
-use Rattle.reader.specs.Events.{bindingsOf, colonEnd, partOf, next}
-use Rattle.model.specs.Stream.{written, after}
-use Rattle.model.specs.Elements.{spaceOf, attributeOf, elementOf}
-use Rattle.model.specs.Groups.{placed, sectionsFrom, sectionsOf, attributeUnits, kept, startBodies}
-use Rattle.model.specs.Records.{recordBytes}
-use Rattle.strands.specs.Packed.{strandIn, packed}
-use Rattle.dispatcher.specs.Sessions.{freshOf, levelUri, strandsIn, levelIn, levelsIn}
-use Rattle.dispatcher.specs.Coherence.{coherent}
-use Rattle.dispatcher.specs.Stepping.{answered, refusedStep, planOf, startPlan, stepOf, runFrom, runOf}
+use Rattle.dispatcher.specs.Sessions.{freshOf}
+use Rattle.dispatcher.specs.Stepping.{answered, refusedStep, stepOf, runOf}
+use Rattle.dispatcher.specs.Computing.{computing}
 
 -- The first step over sample A: its two records need 32 bytes
 room-for-two : stepOf T (bytes "<r xmlns=\"u\">a<x/></r>") freshOf (replicate 32 7) .answer ≡ answered 0 13 1 2
-unfolding runOf runFrom stepOf planOf startPlan coherent strandIn packed levelUri strandsIn levelIn levelsIn judged urisFill all bindingIn nameIn opensIn closedOf overwrite isPart isWholeName recordBytes written after rulesOf listedFrom classOf urisFrom keep tabulate total attributeUnits startBodies kept placed sectionsFrom sectionsOf spaceOf attributeOf elementOf next bindingsOf colonEnd partOf meaningOf resolved ofElement ofPrefix lookUp sameNamespace refusedBinding kindOf sameList any anyPair gather beginAt beginOutside beginInside tagBegins endTagAt tagAt attrsFrom turnAt turnBehind slashAt attributeAt quotedAt equalsEnd wanted valueEnd referenceEnd noReference furthest wholeOf common nameAt prefixedAt partEnd nameLen startLen spacesEnd run
+unfolding computing
 room-for-two = refl
 
-room-for-less-than-two : stepOf T (bytes "<r xmlns=\"u\">a<x/></r>") freshOf (replicate 31 7) ≡ refusedStep 25 0 freshOf (replicate 31 7)
-unfolding runOf runFrom stepOf planOf startPlan coherent strandIn packed levelUri strandsIn levelIn levelsIn judged urisFill all bindingIn nameIn opensIn closedOf overwrite isPart isWholeName recordBytes written after rulesOf listedFrom classOf urisFrom keep tabulate total attributeUnits startBodies kept placed sectionsFrom sectionsOf spaceOf attributeOf elementOf next bindingsOf colonEnd partOf meaningOf resolved ofElement ofPrefix lookUp sameNamespace refusedBinding kindOf sameList any anyPair gather beginAt beginOutside beginInside tagBegins endTagAt tagAt attrsFrom turnAt turnBehind slashAt attributeAt quotedAt equalsEnd wanted valueEnd referenceEnd noReference furthest wholeOf common nameAt prefixedAt partEnd nameLen startLen spacesEnd run
+-- 25 field by field: nothing counted, the session and the output as they were
+room-for-less-than-two : stepOf T (bytes "<r xmlns=\"u\">a<x/></r>") freshOf (replicate 31 7) ≡ record { answer = record { number = 25; place = 0; events = 0; records = 0 }; session = freshOf; output = replicate 31 7 }
+unfolding computing
 room-for-less-than-two = refl
 
 -- E5: 25 exactly when 16 × records exceeds the output
 run-in-47 : runOf T (bytes "<r xmlns=\"u\">a<x/></r>") (replicate 47 7) .answer ≡ answered 25 13 1 2
-unfolding runOf runFrom stepOf planOf startPlan coherent strandIn packed levelUri strandsIn levelIn levelsIn judged urisFill all bindingIn nameIn opensIn closedOf overwrite isPart isWholeName recordBytes written after rulesOf listedFrom classOf urisFrom keep tabulate total attributeUnits startBodies kept placed sectionsFrom sectionsOf spaceOf attributeOf elementOf next bindingsOf colonEnd partOf meaningOf resolved ofElement ofPrefix lookUp sameNamespace refusedBinding kindOf sameList any anyPair gather beginAt beginOutside beginInside tagBegins endTagAt tagAt attrsFrom turnAt turnBehind slashAt attributeAt quotedAt equalsEnd wanted valueEnd referenceEnd noReference furthest wholeOf common nameAt prefixedAt partEnd nameLen startLen spacesEnd run
+unfolding computing
 run-in-47 = refl
 
 run-in-48 : runOf T (bytes "<r xmlns=\"u\">a<x/></r>") (replicate 48 7) .answer ≡ answered 25 14 2 3
-unfolding runOf runFrom stepOf planOf startPlan coherent strandIn packed levelUri strandsIn levelIn levelsIn judged urisFill all bindingIn nameIn opensIn closedOf overwrite isPart isWholeName recordBytes written after rulesOf listedFrom classOf urisFrom keep tabulate total attributeUnits startBodies kept placed sectionsFrom sectionsOf spaceOf attributeOf elementOf next bindingsOf colonEnd partOf meaningOf resolved ofElement ofPrefix lookUp sameNamespace refusedBinding kindOf sameList any anyPair gather beginAt beginOutside beginInside tagBegins endTagAt tagAt attrsFrom turnAt turnBehind slashAt attributeAt quotedAt equalsEnd wanted valueEnd referenceEnd noReference furthest wholeOf common nameAt prefixedAt partEnd nameLen startLen spacesEnd run
+unfolding computing
 run-in-48 = refl
 
 -- E7: at an end, 25 has the < of its tag
 run-in-80 : runOf T (bytes "<r xmlns=\"u\">a<x/></r>") (replicate 80 7) .answer ≡ answered 25 18 4 5
-unfolding runOf runFrom stepOf planOf startPlan coherent strandIn packed levelUri strandsIn levelIn levelsIn judged urisFill all bindingIn nameIn opensIn closedOf overwrite isPart isWholeName recordBytes written after rulesOf listedFrom classOf urisFrom keep tabulate total attributeUnits startBodies kept placed sectionsFrom sectionsOf spaceOf attributeOf elementOf next bindingsOf colonEnd partOf meaningOf resolved ofElement ofPrefix lookUp sameNamespace refusedBinding kindOf sameList any anyPair gather beginAt beginOutside beginInside tagBegins endTagAt tagAt attrsFrom turnAt turnBehind slashAt attributeAt quotedAt equalsEnd wanted valueEnd referenceEnd noReference furthest wholeOf common nameAt prefixedAt partEnd nameLen startLen spacesEnd run
+unfolding computing
 run-in-80 = refl
 
 -- E6: at the end of />, the place before the level's name
 no-room-for-an-awaited-end : stepOf T (bytes "<r xmlns=\"u\"/>") (stepOf T (bytes "<r xmlns=\"u\"/>") freshOf (replicate 32 7) .session) (replicate 31 7) .answer ≡ answered 25 0 0 0
-unfolding runOf runFrom stepOf planOf startPlan coherent strandIn packed levelUri strandsIn levelIn levelsIn judged urisFill all bindingIn nameIn opensIn closedOf overwrite isPart isWholeName recordBytes written after rulesOf listedFrom classOf urisFrom keep tabulate total attributeUnits startBodies kept placed sectionsFrom sectionsOf spaceOf attributeOf elementOf next bindingsOf colonEnd partOf meaningOf resolved ofElement ofPrefix lookUp sameNamespace refusedBinding kindOf sameList any anyPair gather beginAt beginOutside beginInside tagBegins endTagAt tagAt attrsFrom turnAt turnBehind slashAt attributeAt quotedAt equalsEnd wanted valueEnd referenceEnd noReference furthest wholeOf common nameAt prefixedAt partEnd nameLen startLen spacesEnd run
+unfolding computing
 no-room-for-an-awaited-end = refl
 
 -- E7: else the start's <
 behind-space : runOf T (bytes "  <r xmlns=\"u\"/>") [] .answer ≡ answered 25 2 0 0
-unfolding runOf runFrom stepOf planOf startPlan coherent strandIn packed levelUri strandsIn levelIn levelsIn judged urisFill all bindingIn nameIn opensIn closedOf overwrite isPart isWholeName recordBytes written after rulesOf listedFrom classOf urisFrom keep tabulate total attributeUnits startBodies kept placed sectionsFrom sectionsOf spaceOf attributeOf elementOf next bindingsOf colonEnd partOf meaningOf resolved ofElement ofPrefix lookUp sameNamespace refusedBinding kindOf sameList any anyPair gather beginAt beginOutside beginInside tagBegins endTagAt tagAt attrsFrom turnAt turnBehind slashAt attributeAt quotedAt equalsEnd wanted valueEnd referenceEnd noReference furthest wholeOf common nameAt prefixedAt partEnd nameLen startLen spacesEnd run
+unfolding computing
 behind-space = refl
 
 -- F7: while the end of /> is awaited no byte is read
 awaited-end-reads-nothing : runOf T (bytes "<r/>" ++ (0x00 ∷ [])) [] .answer ≡ answered 2 4 2 0
-unfolding runOf runFrom stepOf planOf startPlan coherent strandIn packed levelUri strandsIn levelIn levelsIn judged urisFill all bindingIn nameIn opensIn closedOf overwrite isPart isWholeName recordBytes written after rulesOf listedFrom classOf urisFrom keep tabulate total attributeUnits startBodies kept placed sectionsFrom sectionsOf spaceOf attributeOf elementOf next bindingsOf colonEnd partOf meaningOf resolved ofElement ofPrefix lookUp sameNamespace refusedBinding kindOf sameList any anyPair gather beginAt beginOutside beginInside tagBegins endTagAt tagAt attrsFrom turnAt turnBehind slashAt attributeAt quotedAt equalsEnd wanted valueEnd referenceEnd noReference furthest wholeOf common nameAt prefixedAt partEnd nameLen startLen spacesEnd run
+unfolding computing
 awaited-end-reads-nothing = refl
 
 -- E1, E2: 9 does not move the place
 places : stepOf T (bytes "<r/>  ") (stepOf T (bytes "<r/>  ") (stepOf T (bytes "<r/>  ") freshOf [] .session) [] .session) [] .session .place ≡ 4
-unfolding runOf runFrom stepOf planOf startPlan coherent strandIn packed levelUri strandsIn levelIn levelsIn judged urisFill all bindingIn nameIn opensIn closedOf overwrite isPart isWholeName recordBytes written after rulesOf listedFrom classOf urisFrom keep tabulate total attributeUnits startBodies kept placed sectionsFrom sectionsOf spaceOf attributeOf elementOf next bindingsOf colonEnd partOf meaningOf resolved ofElement ofPrefix lookUp sameNamespace refusedBinding kindOf sameList any anyPair gather beginAt beginOutside beginInside tagBegins endTagAt tagAt attrsFrom turnAt turnBehind slashAt attributeAt quotedAt equalsEnd wanted valueEnd referenceEnd noReference furthest wholeOf common nameAt prefixedAt partEnd nameLen startLen spacesEnd run
+unfolding computing
 places = refl
 
 -- T2 with v and q alternating under a u root: the fourth v makes 16 strands, the fifth gives 23 at its <
 sixteen-strands : runOf T2 (bytes "<r xmlns=\"u\"><x xmlns=\"v\"><y xmlns=\"q\"><x xmlns=\"v\"><y xmlns=\"q\"><x xmlns=\"v\"><y xmlns=\"q\"><x xmlns=\"v\">") (replicate 1600 7) .answer .number ≡ 1
-unfolding runOf runFrom stepOf planOf startPlan coherent strandIn packed levelUri strandsIn levelIn levelsIn judged urisFill all bindingIn nameIn opensIn closedOf overwrite isPart isWholeName recordBytes written after rulesOf listedFrom classOf urisFrom keep tabulate total attributeUnits startBodies kept placed sectionsFrom sectionsOf spaceOf attributeOf elementOf next bindingsOf colonEnd partOf meaningOf resolved ofElement ofPrefix lookUp sameNamespace refusedBinding kindOf sameList any anyPair gather beginAt beginOutside beginInside tagBegins endTagAt tagAt attrsFrom turnAt turnBehind slashAt attributeAt quotedAt equalsEnd wanted valueEnd referenceEnd noReference furthest wholeOf common nameAt prefixedAt partEnd nameLen startLen spacesEnd run
+unfolding computing
 sixteen-strands = refl
 
 seventeen-strands : (runOf T2 (bytes "<r xmlns=\"u\"><x xmlns=\"v\"><y xmlns=\"q\"><x xmlns=\"v\"><y xmlns=\"q\"><x xmlns=\"v\"><y xmlns=\"q\"><x xmlns=\"v\"><y xmlns=\"q\"><x xmlns=\"v\">") (replicate 1600 7) .answer .number ≡ 23) × (runOf T2 (bytes "<r xmlns=\"u\"><x xmlns=\"v\"><y xmlns=\"q\"><x xmlns=\"v\"><y xmlns=\"q\"><x xmlns=\"v\"><y xmlns=\"q\"><x xmlns=\"v\"><y xmlns=\"q\"><x xmlns=\"v\">") (replicate 1600 7) .answer .place ≡ 117)
-unfolding runOf runFrom stepOf planOf startPlan coherent strandIn packed levelUri strandsIn levelIn levelsIn judged urisFill all bindingIn nameIn opensIn closedOf overwrite isPart isWholeName recordBytes written after rulesOf listedFrom classOf urisFrom keep tabulate total attributeUnits startBodies kept placed sectionsFrom sectionsOf spaceOf attributeOf elementOf next bindingsOf colonEnd partOf meaningOf resolved ofElement ofPrefix lookUp sameNamespace refusedBinding kindOf sameList any anyPair gather beginAt beginOutside beginInside tagBegins endTagAt tagAt attrsFrom turnAt turnBehind slashAt attributeAt quotedAt equalsEnd wanted valueEnd referenceEnd noReference furthest wholeOf common nameAt prefixedAt partEnd nameLen startLen spacesEnd run
+unfolding computing
 seventeen-strands = (refl, refl)
 
 -- a refused table goes before all else
 refused-table : stepOf (1 ∷ []) (bytes "<") freshOf [] ≡ refusedStep 10 0 freshOf []
-unfolding runOf runFrom stepOf planOf startPlan coherent strandIn packed levelUri strandsIn levelIn levelsIn judged urisFill all bindingIn nameIn opensIn closedOf overwrite isPart isWholeName recordBytes written after rulesOf listedFrom classOf urisFrom keep tabulate total attributeUnits startBodies kept placed sectionsFrom sectionsOf spaceOf attributeOf elementOf next bindingsOf colonEnd partOf meaningOf resolved ofElement ofPrefix lookUp sameNamespace refusedBinding kindOf sameList any anyPair gather beginAt beginOutside beginInside tagBegins endTagAt tagAt attrsFrom turnAt turnBehind slashAt attributeAt quotedAt equalsEnd wanted valueEnd referenceEnd noReference furthest wholeOf common nameAt prefixedAt partEnd nameLen startLen spacesEnd run
+unfolding computing
 refused-table = refl

@@ -3,25 +3,17 @@
 use Prim.Native.Nat.{ℕ, _+_}
 use mathlib.Core.Path.{_≡_, refl}
 use mathlib.Core.List.{List, [], _∷_, _++_, map}
-use Rattle.laws.specs.Lists.{sameList, any, anyPair, keep, tabulate}
-use Rattle.laws.specs.Gather.{gather, total}
 use Rattle.laws.specs.Text.{bytes}
-use Rattle.laws.specs.Reading.{run}
-use Rattle.table.specs.Table.{decode, urisFrom, rulesOf, listedFrom, classOf}
+use Rattle.table.specs.Table.{decode}
 use Rattle.table.specs.Examples.{T, T2, packed, listed}
-use Rattle.lexer.specs.Names.{startLen, nameLen, spacesEnd, partEnd, prefixedAt, nameAt}
-use Rattle.lexer.specs.Values.{common, wholeOf, furthest, noReference, referenceEnd, valueEnd}
-use Rattle.lexer.specs.Tags.{wanted, equalsEnd, quotedAt, attributeAt, slashAt, turnBehind, turnAt, attrsFrom, tagAt, endTagAt, tagBegins, beginInside, beginOutside, beginAt}
-use Rattle.reader.specs.Spans.{kindOf}
-use Rattle.reader.specs.Namespaces.{sameNamespace, refusedBinding, lookUp, ofPrefix, ofElement, resolved, meaningOf}
-use Rattle.reader.specs.Events.{bindingsOf, colonEnd, partOf, next, eventsFrom, events}
-use Rattle.model.specs.Theory.{Record}
-use Rattle.model.specs.Model.{model, cells, cutModel}
-use Rattle.model.specs.Stream.{written, after, streamFrom, streamOf}
-use Rattle.model.specs.Elements.{spaceOf, attributeOf, elementOf}
-use Rattle.model.specs.Groups.{placed, sectionsFrom, sectionsOf, attributeUnits, kept, startBodies}
+use Rattle.reader.specs.Events.{events}
+use Rattle.model.specs.Theory.{Record, holds}
+use Rattle.model.specs.Tree.{completed, treeOf}
+use Rattle.model.specs.Model.{cutModel, modelOf}
+use Rattle.model.specs.Stream.{streamOf}
 use Rattle.model.specs.Records.{Body}
-use Rattle.model.specs.Dispatch.{dispatch, told, pieceBody}
+use Rattle.model.specs.Dispatch.{dispatch, told, pieceBody, bytesOf}
+use Rattle.model.specs.Computing.{computing}
 
 -- A record's seven fields
 pub record Row : Type 0 where
@@ -41,6 +33,12 @@ modelRows t s = map rowsOf (cutModel (dispatch (decode t)) (map (told (decode t)
 
 abbrev streamRows : List ℕ → List ℕ → List (List Row)
 streamRows t s = map rowsOf (streamOf (dispatch (decode t)) (map (told (decode t) s) (events s)))
+
+-- what the model gives with the ends that a cut adds
+abbrev completedRows : List ℕ → List ℕ → List (List Row)
+completedRows t s =
+    let Θ = dispatch (decode t) in
+    map rowsOf (modelOf Θ (treeOf Θ (completed Θ (map (told (decode t) s) (events s)))))
 
 -- the Mealy machine of fig. 9 of document 001: ns validated; below it ns2 attributes validated, ns1 unwrapped; below that ns attached
 abbrev figureTable : List ℕ
@@ -103,6 +101,19 @@ xmlTable =
     ++ packed 0 1 254 2 1 0
     ++ listed (bytes "u")
 
+-- every element section validated by schema 0, every attribute section by schema 1
+abbrev validatingTable : List ℕ
+validatingTable = 0x01 ∷ 0x01 ∷ 0x02 ∷ 0x02 ∷ 0x03 ∷ 0xFE ∷ 0x00 ∷ 0x00 ∷ 0x07 ∷ 0xFE ∷ 0x01 ∷ 0x00 ∷ 0x01 ∷ 0x75 ∷ []
+
+-- below a u root every section attached, and of its elements every attribute
+abbrev attachingTable : List ℕ
+attachingTable =
+    (1 ∷ 3 ∷ 1 ∷ 3 ∷ [])
+    ++ packed 0 0 1 2 0 1
+    ++ packed 1 0 255 0 0 2
+    ++ packed 2 1 255 0 0 0
+    ++ listed (bytes "u")
+
 -- Sample A
 abbrev sample-A-records : List (List Row)
 sample-A-records =
@@ -114,11 +125,11 @@ sample-A-records =
     ∷ []
 
 sample-A : modelRows T (bytes "<r xmlns=\"u\">a<x/></r>") ≡ sample-A-records
-unfolding model cells streamOf streamFrom written after rulesOf listedFrom classOf urisFrom keep tabulate total attributeUnits startBodies kept placed sectionsFrom sectionsOf spaceOf attributeOf elementOf events eventsFrom next bindingsOf colonEnd partOf meaningOf resolved ofElement ofPrefix lookUp sameNamespace refusedBinding kindOf sameList any anyPair gather beginAt beginOutside beginInside tagBegins endTagAt tagAt attrsFrom turnAt turnBehind slashAt attributeAt quotedAt equalsEnd wanted valueEnd referenceEnd noReference furthest wholeOf common nameAt prefixedAt partEnd nameLen startLen spacesEnd run
+unfolding computing
 sample-A = refl
 
 sample-A-streamed : streamRows T (bytes "<r xmlns=\"u\">a<x/></r>") ≡ sample-A-records
-unfolding model cells streamOf streamFrom written after rulesOf listedFrom classOf urisFrom keep tabulate total attributeUnits startBodies kept placed sectionsFrom sectionsOf spaceOf attributeOf elementOf events eventsFrom next bindingsOf colonEnd partOf meaningOf resolved ofElement ofPrefix lookUp sameNamespace refusedBinding kindOf sameList any anyPair gather beginAt beginOutside beginInside tagBegins endTagAt tagAt attrsFrom turnAt turnBehind slashAt attributeAt quotedAt equalsEnd wanted valueEnd referenceEnd noReference furthest wholeOf common nameAt prefixedAt partEnd nameLen startLen spacesEnd run
+unfolding computing
 sample-A-streamed = refl
 
 -- Sample D: x in units 1 and 0, in that order
@@ -131,11 +142,11 @@ sample-D-records =
     ∷ []
 
 sample-D : modelRows T2 (bytes "<r xmlns=\"u\"><x xmlns=\"v\"/></r>") ≡ sample-D-records
-unfolding model cells streamOf streamFrom written after rulesOf listedFrom classOf urisFrom keep tabulate total attributeUnits startBodies kept placed sectionsFrom sectionsOf spaceOf attributeOf elementOf events eventsFrom next bindingsOf colonEnd partOf meaningOf resolved ofElement ofPrefix lookUp sameNamespace refusedBinding kindOf sameList any anyPair gather beginAt beginOutside beginInside tagBegins endTagAt tagAt attrsFrom turnAt turnBehind slashAt attributeAt quotedAt equalsEnd wanted valueEnd referenceEnd noReference furthest wholeOf common nameAt prefixedAt partEnd nameLen startLen spacesEnd run
+unfolding computing
 sample-D = refl
 
 sample-D-streamed : streamRows T2 (bytes "<r xmlns=\"u\"><x xmlns=\"v\"/></r>") ≡ sample-D-records
-unfolding model cells streamOf streamFrom written after rulesOf listedFrom classOf urisFrom keep tabulate total attributeUnits startBodies kept placed sectionsFrom sectionsOf spaceOf attributeOf elementOf events eventsFrom next bindingsOf colonEnd partOf meaningOf resolved ofElement ofPrefix lookUp sameNamespace refusedBinding kindOf sameList any anyPair gather beginAt beginOutside beginInside tagBegins endTagAt tagAt attrsFrom turnAt turnBehind slashAt attributeAt quotedAt equalsEnd wanted valueEnd referenceEnd noReference furthest wholeOf common nameAt prefixedAt partEnd nameLen startLen spacesEnd run
+unfolding computing
 sample-D-streamed = refl
 
 -- Sample E: unit 0 gets r, a, x, c and not b, the text of the unwrapped wrapper
@@ -153,11 +164,11 @@ sample-E-records =
     ∷ []
 
 sample-E : modelRows T2 (bytes "<r xmlns=\"u\">a<w xmlns=\"q\">b<x xmlns=\"v\"/></w>c</r>") ≡ sample-E-records
-unfolding model cells streamOf streamFrom written after rulesOf listedFrom classOf urisFrom keep tabulate total attributeUnits startBodies kept placed sectionsFrom sectionsOf spaceOf attributeOf elementOf events eventsFrom next bindingsOf colonEnd partOf meaningOf resolved ofElement ofPrefix lookUp sameNamespace refusedBinding kindOf sameList any anyPair gather beginAt beginOutside beginInside tagBegins endTagAt tagAt attrsFrom turnAt turnBehind slashAt attributeAt quotedAt equalsEnd wanted valueEnd referenceEnd noReference furthest wholeOf common nameAt prefixedAt partEnd nameLen startLen spacesEnd run
+unfolding computing
 sample-E = refl
 
 sample-E-streamed : streamRows T2 (bytes "<r xmlns=\"u\">a<w xmlns=\"q\">b<x xmlns=\"v\"/></w>c</r>") ≡ sample-E-records
-unfolding model cells streamOf streamFrom written after rulesOf listedFrom classOf urisFrom keep tabulate total attributeUnits startBodies kept placed sectionsFrom sectionsOf spaceOf attributeOf elementOf events eventsFrom next bindingsOf colonEnd partOf meaningOf resolved ofElement ofPrefix lookUp sameNamespace refusedBinding kindOf sameList any anyPair gather beginAt beginOutside beginInside tagBegins endTagAt tagAt attrsFrom turnAt turnBehind slashAt attributeAt quotedAt equalsEnd wanted valueEnd referenceEnd noReference furthest wholeOf common nameAt prefixedAt partEnd nameLen startLen spacesEnd run
+unfolding computing
 sample-E-streamed = refl
 
 -- Figs. 6 to 11: unit 0 is ex, e1, its text and e, which the unwrapped e2 held; unit 1 the virtual element with b and c
@@ -175,11 +186,11 @@ figure-11-records =
     ∷ []
 
 figure-11 : modelRows figureTable (bytes "<ex xmlns=\"ns\" xmlns:ns1=\"ns1\" xmlns:ns2=\"ns2\"><e1 ns2:b=\"b\" ns2:c=\"c\">t1</e1><ns1:e2><e/></ns1:e2></ex>") ≡ figure-11-records
-unfolding model cells streamOf streamFrom written after rulesOf listedFrom classOf urisFrom keep tabulate total attributeUnits startBodies kept placed sectionsFrom sectionsOf spaceOf attributeOf elementOf events eventsFrom next bindingsOf colonEnd partOf meaningOf resolved ofElement ofPrefix lookUp sameNamespace refusedBinding kindOf sameList any anyPair gather beginAt beginOutside beginInside tagBegins endTagAt tagAt attrsFrom turnAt turnBehind slashAt attributeAt quotedAt equalsEnd wanted valueEnd referenceEnd noReference furthest wholeOf common nameAt prefixedAt partEnd nameLen startLen spacesEnd run
+unfolding computing
 figure-11 = refl
 
 figure-11-streamed : streamRows figureTable (bytes "<ex xmlns=\"ns\" xmlns:ns1=\"ns1\" xmlns:ns2=\"ns2\"><e1 ns2:b=\"b\" ns2:c=\"c\">t1</e1><ns1:e2><e/></ns1:e2></ex>") ≡ figure-11-records
-unfolding model cells streamOf streamFrom written after rulesOf listedFrom classOf urisFrom keep tabulate total attributeUnits startBodies kept placed sectionsFrom sectionsOf spaceOf attributeOf elementOf events eventsFrom next bindingsOf colonEnd partOf meaningOf resolved ofElement ofPrefix lookUp sameNamespace refusedBinding kindOf sameList any anyPair gather beginAt beginOutside beginInside tagBegins endTagAt tagAt attrsFrom turnAt turnBehind slashAt attributeAt quotedAt equalsEnd wanted valueEnd referenceEnd noReference furthest wholeOf common nameAt prefixedAt partEnd nameLen startLen spacesEnd run
+unfolding computing
 figure-11-streamed = refl
 
 -- Two attribute sections whose attributes alternate, one unlisted, and several strands: sections by first attribute, members in tag order; the units of attributes are numbered before those of the tag; each strand keeps by its own mode
@@ -190,11 +201,11 @@ interleaved-records =
     ∷ []
 
 interleaved : modelRows mixedTable (bytes "<p:r xmlns:p=\"u\" xmlns:a=\"v\" xmlns:b=\"w\" a:i=\"1\" b:j=\"2\" k=\"3\" a:l=\"4\" p:m=\"5\"/>") ≡ interleaved-records
-unfolding model cells streamOf streamFrom written after rulesOf listedFrom classOf urisFrom keep tabulate total attributeUnits startBodies kept placed sectionsFrom sectionsOf spaceOf attributeOf elementOf events eventsFrom next bindingsOf colonEnd partOf meaningOf resolved ofElement ofPrefix lookUp sameNamespace refusedBinding kindOf sameList any anyPair gather beginAt beginOutside beginInside tagBegins endTagAt tagAt attrsFrom turnAt turnBehind slashAt attributeAt quotedAt equalsEnd wanted valueEnd referenceEnd noReference furthest wholeOf common nameAt prefixedAt partEnd nameLen startLen spacesEnd run
+unfolding computing
 interleaved = refl
 
 interleaved-streamed : streamRows mixedTable (bytes "<p:r xmlns:p=\"u\" xmlns:a=\"v\" xmlns:b=\"w\" a:i=\"1\" b:j=\"2\" k=\"3\" a:l=\"4\" p:m=\"5\"/>") ≡ interleaved-records
-unfolding model cells streamOf streamFrom written after rulesOf listedFrom classOf urisFrom keep tabulate total attributeUnits startBodies kept placed sectionsFrom sectionsOf spaceOf attributeOf elementOf events eventsFrom next bindingsOf colonEnd partOf meaningOf resolved ofElement ofPrefix lookUp sameNamespace refusedBinding kindOf sameList any anyPair gather beginAt beginOutside beginInside tagBegins endTagAt tagAt attrsFrom turnAt turnBehind slashAt attributeAt quotedAt equalsEnd wanted valueEnd referenceEnd noReference furthest wholeOf common nameAt prefixedAt partEnd nameLen startLen spacesEnd run
+unfolding computing
 interleaved-streamed = refl
 
 -- The strand's own mode for attributes, not the parent's: schema 2
@@ -205,11 +216,11 @@ own-mode-records =
     ∷ []
 
 own-mode : modelRows modesTable (bytes "<r xmlns=\"u\" xmlns:q=\"w\" q:a=\"\"/>") ≡ own-mode-records
-unfolding model cells streamOf streamFrom written after rulesOf listedFrom classOf urisFrom keep tabulate total attributeUnits startBodies kept placed sectionsFrom sectionsOf spaceOf attributeOf elementOf events eventsFrom next bindingsOf colonEnd partOf meaningOf resolved ofElement ofPrefix lookUp sameNamespace refusedBinding kindOf sameList any anyPair gather beginAt beginOutside beginInside tagBegins endTagAt tagAt attrsFrom turnAt turnBehind slashAt attributeAt quotedAt equalsEnd wanted valueEnd referenceEnd noReference furthest wholeOf common nameAt prefixedAt partEnd nameLen startLen spacesEnd run
+unfolding computing
 own-mode = refl
 
 own-mode-streamed : streamRows modesTable (bytes "<r xmlns=\"u\" xmlns:q=\"w\" q:a=\"\"/>") ≡ own-mode-records
-unfolding model cells streamOf streamFrom written after rulesOf listedFrom classOf urisFrom keep tabulate total attributeUnits startBodies kept placed sectionsFrom sectionsOf spaceOf attributeOf elementOf events eventsFrom next bindingsOf colonEnd partOf meaningOf resolved ofElement ofPrefix lookUp sameNamespace refusedBinding kindOf sameList any anyPair gather beginAt beginOutside beginInside tagBegins endTagAt tagAt attrsFrom turnAt turnBehind slashAt attributeAt quotedAt equalsEnd wanted valueEnd referenceEnd noReference furthest wholeOf common nameAt prefixedAt partEnd nameLen startLen spacesEnd run
+unfolding computing
 own-mode-streamed = refl
 
 -- URIs are compared, not classes: Q inside P is a section of its own, though both are unlisted; another prefix of one URI is not; D8: the URI span is that of the element's own look-up
@@ -226,11 +237,11 @@ uris-compared-records =
     ∷ []
 
 uris-compared : modelRows anyTable (bytes "<r xmlns=\"P\"><x xmlns=\"Q\" xmlns:q=\"Q\"><q:y/></x><z xmlns=\"P\"/></r>") ≡ uris-compared-records
-unfolding model cells streamOf streamFrom written after rulesOf listedFrom classOf urisFrom keep tabulate total attributeUnits startBodies kept placed sectionsFrom sectionsOf spaceOf attributeOf elementOf events eventsFrom next bindingsOf colonEnd partOf meaningOf resolved ofElement ofPrefix lookUp sameNamespace refusedBinding kindOf sameList any anyPair gather beginAt beginOutside beginInside tagBegins endTagAt tagAt attrsFrom turnAt turnBehind slashAt attributeAt quotedAt equalsEnd wanted valueEnd referenceEnd noReference furthest wholeOf common nameAt prefixedAt partEnd nameLen startLen spacesEnd run
+unfolding computing
 uris-compared = refl
 
 uris-compared-streamed : streamRows anyTable (bytes "<r xmlns=\"P\"><x xmlns=\"Q\" xmlns:q=\"Q\"><q:y/></x><z xmlns=\"P\"/></r>") ≡ uris-compared-records
-unfolding model cells streamOf streamFrom written after rulesOf listedFrom classOf urisFrom keep tabulate total attributeUnits startBodies kept placed sectionsFrom sectionsOf spaceOf attributeOf elementOf events eventsFrom next bindingsOf colonEnd partOf meaningOf resolved ofElement ofPrefix lookUp sameNamespace refusedBinding kindOf sameList any anyPair gather beginAt beginOutside beginInside tagBegins endTagAt tagAt attrsFrom turnAt turnBehind slashAt attributeAt quotedAt equalsEnd wanted valueEnd referenceEnd noReference furthest wholeOf common nameAt prefixedAt partEnd nameLen startLen spacesEnd run
+unfolding computing
 uris-compared-streamed = refl
 
 -- A naming rule hides the any rules: x is attached, and not validated too; w is validated
@@ -245,11 +256,11 @@ naming-hides-any-records =
     ∷ []
 
 naming-hides-any : modelRows namingTable (bytes "<r xmlns=\"u\"><x xmlns=\"v\"/><w xmlns=\"w\"/></r>") ≡ naming-hides-any-records
-unfolding model cells streamOf streamFrom written after rulesOf listedFrom classOf urisFrom keep tabulate total attributeUnits startBodies kept placed sectionsFrom sectionsOf spaceOf attributeOf elementOf events eventsFrom next bindingsOf colonEnd partOf meaningOf resolved ofElement ofPrefix lookUp sameNamespace refusedBinding kindOf sameList any anyPair gather beginAt beginOutside beginInside tagBegins endTagAt tagAt attrsFrom turnAt turnBehind slashAt attributeAt quotedAt equalsEnd wanted valueEnd referenceEnd noReference furthest wholeOf common nameAt prefixedAt partEnd nameLen startLen spacesEnd run
+unfolding computing
 naming-hides-any = refl
 
 naming-hides-any-streamed : streamRows namingTable (bytes "<r xmlns=\"u\"><x xmlns=\"v\"/><w xmlns=\"w\"/></r>") ≡ naming-hides-any-records
-unfolding model cells streamOf streamFrom written after rulesOf listedFrom classOf urisFrom keep tabulate total attributeUnits startBodies kept placed sectionsFrom sectionsOf spaceOf attributeOf elementOf events eventsFrom next bindingsOf colonEnd partOf meaningOf resolved ofElement ofPrefix lookUp sameNamespace refusedBinding kindOf sameList any anyPair gather beginAt beginOutside beginInside tagBegins endTagAt tagAt attrsFrom turnAt turnBehind slashAt attributeAt quotedAt equalsEnd wanted valueEnd referenceEnd noReference furthest wholeOf common nameAt prefixedAt partEnd nameLen startLen spacesEnd run
+unfolding computing
 naming-hides-any-streamed = refl
 
 -- D12: a grandchild in its grandparent's namespace starts a section; D1: with no rule the strand unwraps and its target stays
@@ -268,11 +279,11 @@ grandchild-records =
     ∷ []
 
 grandchild : modelRows figureTable (bytes "<ex xmlns=\"ns\" xmlns:q=\"q\"><q:w>t<ns1:e2 xmlns:ns1=\"ns1\"><e>u</e></ns1:e2></q:w></ex>") ≡ grandchild-records
-unfolding model cells streamOf streamFrom written after rulesOf listedFrom classOf urisFrom keep tabulate total attributeUnits startBodies kept placed sectionsFrom sectionsOf spaceOf attributeOf elementOf events eventsFrom next bindingsOf colonEnd partOf meaningOf resolved ofElement ofPrefix lookUp sameNamespace refusedBinding kindOf sameList any anyPair gather beginAt beginOutside beginInside tagBegins endTagAt tagAt attrsFrom turnAt turnBehind slashAt attributeAt quotedAt equalsEnd wanted valueEnd referenceEnd noReference furthest wholeOf common nameAt prefixedAt partEnd nameLen startLen spacesEnd run
+unfolding computing
 grandchild = refl
 
 grandchild-streamed : streamRows figureTable (bytes "<ex xmlns=\"ns\" xmlns:q=\"q\"><q:w>t<ns1:e2 xmlns:ns1=\"ns1\"><e>u</e></ns1:e2></q:w></ex>") ≡ grandchild-records
-unfolding model cells streamOf streamFrom written after rulesOf listedFrom classOf urisFrom keep tabulate total attributeUnits startBodies kept placed sectionsFrom sectionsOf spaceOf attributeOf elementOf events eventsFrom next bindingsOf colonEnd partOf meaningOf resolved ofElement ofPrefix lookUp sameNamespace refusedBinding kindOf sameList any anyPair gather beginAt beginOutside beginInside tagBegins endTagAt tagAt attrsFrom turnAt turnBehind slashAt attributeAt quotedAt equalsEnd wanted valueEnd referenceEnd noReference furthest wholeOf common nameAt prefixedAt partEnd nameLen startLen spacesEnd run
+unfolding computing
 grandchild-streamed = refl
 
 -- D9: an attribute in xml's namespace stays with an element of it
@@ -285,9 +296,103 @@ xml-stays-records =
     ∷ []
 
 xml-stays : modelRows xmlTable (bytes "<xml:r xml:a='v'><x xml:b=''/></xml:r>") ≡ xml-stays-records
-unfolding model cells streamOf streamFrom written after rulesOf listedFrom classOf urisFrom keep tabulate total attributeUnits startBodies kept placed sectionsFrom sectionsOf spaceOf attributeOf elementOf events eventsFrom next bindingsOf colonEnd partOf meaningOf resolved ofElement ofPrefix lookUp sameNamespace refusedBinding kindOf sameList any anyPair gather beginAt beginOutside beginInside tagBegins endTagAt tagAt attrsFrom turnAt turnBehind slashAt attributeAt quotedAt equalsEnd wanted valueEnd referenceEnd noReference furthest wholeOf common nameAt prefixedAt partEnd nameLen startLen spacesEnd run
+unfolding computing
 xml-stays = refl
 
 xml-stays-streamed : streamRows xmlTable (bytes "<xml:r xml:a='v'><x xml:b=''/></xml:r>") ≡ xml-stays-records
-unfolding model cells streamOf streamFrom written after rulesOf listedFrom classOf urisFrom keep tabulate total attributeUnits startBodies kept placed sectionsFrom sectionsOf spaceOf attributeOf elementOf events eventsFrom next bindingsOf colonEnd partOf meaningOf resolved ofElement ofPrefix lookUp sameNamespace refusedBinding kindOf sameList any anyPair gather beginAt beginOutside beginInside tagBegins endTagAt tagAt attrsFrom turnAt turnBehind slashAt attributeAt quotedAt equalsEnd wanted valueEnd referenceEnd noReference furthest wholeOf common nameAt prefixedAt partEnd nameLen startLen spacesEnd run
+unfolding computing
 xml-stays-streamed = refl
+
+-- An attribute section without rule is not kept, and opens no unit
+abbrev no-attribute-rule-records : List (List Row)
+no-attribute-rule-records =
+    (row 0 0 0 0 0 0 0 ∷ row 0 1 1 1 1 0 0 ∷ [])
+    ∷ (row 0 5 1 1 1 0 0 ∷ row 0 6 0 0 0 0 0 ∷ [])
+    ∷ []
+
+no-attribute-rule : modelRows T (bytes "<r xmlns=\"u\" xmlns:q=\"w\" q:a=\"1\"/>") ≡ no-attribute-rule-records
+unfolding computing
+no-attribute-rule = refl
+
+no-attribute-rule-streamed : streamRows T (bytes "<r xmlns=\"u\" xmlns:q=\"w\" q:a=\"1\"/>") ≡ no-attribute-rule-records
+unfolding computing
+no-attribute-rule-streamed = refl
+
+-- D10: attribute sections are formed by URIs, not by classes: P and Q, both unlisted, are two
+abbrev unlisted-sections-records : List (List Row)
+unlisted-sections-records =
+    (row 0 0 1 0 1 0 0 ∷ row 0 1 253 0 0 0 0 ∷ row 0 2 255 29 1 12 1 ∷ row 0 3 0 32 0 0 0 ∷ row 0 5 253 0 0 0 0 ∷ row 0 6 0 0 0 0 0 ∷ row 1 0 1 0 1 0 0 ∷ row 1 1 253 0 0 0 0 ∷ row 1 2 255 36 1 24 1 ∷ row 1 3 0 39 0 0 0 ∷ row 1 5 253 0 0 0 0 ∷ row 1 6 0 0 0 0 0 ∷ row 2 0 0 0 0 0 0 ∷ row 2 1 0 1 1 0 0 ∷ [])
+    ∷ (row 2 5 0 1 1 0 0 ∷ row 2 6 0 0 0 0 0 ∷ [])
+    ∷ []
+
+unlisted-sections : modelRows validatingTable (bytes "<r xmlns:p=\"P\" xmlns:q=\"Q\" p:a=\"\" q:b=\"\"/>") ≡ unlisted-sections-records
+unfolding computing
+unlisted-sections = refl
+
+unlisted-sections-streamed : streamRows validatingTable (bytes "<r xmlns:p=\"P\" xmlns:q=\"Q\" p:a=\"\" q:b=\"\"/>") ≡ unlisted-sections-records
+unfolding computing
+unlisted-sections-streamed = refl
+
+-- An attribute stays by its URI, not by its class: that of Q does not with an element of P
+abbrev unlisted-attribute-records : List (List Row)
+unlisted-attribute-records =
+    (row 0 0 1 0 1 0 0 ∷ row 0 1 253 0 0 0 0 ∷ row 0 2 255 27 1 22 1 ∷ row 0 3 0 30 0 0 0 ∷ row 0 5 253 0 0 0 0 ∷ row 0 6 0 0 0 0 0 ∷ row 1 0 0 0 0 0 0 ∷ row 1 1 255 1 1 10 1 ∷ [])
+    ∷ (row 1 5 255 1 1 10 1 ∷ row 1 6 0 0 0 0 0 ∷ [])
+    ∷ []
+
+unlisted-attribute : modelRows validatingTable (bytes "<r xmlns=\"P\" xmlns:q=\"Q\" q:a=\"\"/>") ≡ unlisted-attribute-records
+unfolding computing
+unlisted-attribute = refl
+
+unlisted-attribute-streamed : streamRows validatingTable (bytes "<r xmlns=\"P\" xmlns:q=\"Q\" q:a=\"\"/>") ≡ unlisted-attribute-records
+unfolding computing
+unlisted-attribute-streamed = refl
+
+-- An attached element's attributes are kept by its strand's own mode, not the parent's; a mode's element rules are none for attributes
+abbrev attached-attributes-records : List (List Row)
+attached-attributes-records =
+    (row 0 0 0 0 0 0 0 ∷ row 0 1 1 1 1 0 0 ∷ [])
+    ∷ (row 0 1 255 33 1 42 1 ∷ row 0 2 255 47 1 22 1 ∷ row 0 3 0 50 0 0 0 ∷ [])
+    ∷ (row 0 5 255 33 1 42 1 ∷ [])
+    ∷ (row 0 5 1 55 1 0 0 ∷ row 0 6 0 0 0 0 0 ∷ [])
+    ∷ []
+
+attached-attributes : modelRows attachingTable (bytes "<r xmlns=\"u\" xmlns:q=\"w\" q:a=\"\"><x xmlns=\"v\" q:b=\"\"/></r>") ≡ attached-attributes-records
+unfolding computing
+attached-attributes = refl
+
+attached-attributes-streamed : streamRows attachingTable (bytes "<r xmlns=\"u\" xmlns:q=\"w\" q:a=\"\"><x xmlns=\"v\" q:b=\"\"/></r>") ≡ attached-attributes-records
+unfolding computing
+attached-attributes-streamed = refl
+
+-- D2: no namespace inside no namespace is the same section, also where it is declared; its class has no URI span
+abbrev no-namespace-records : List (List Row)
+no-namespace-records =
+    (row 0 0 0 0 0 0 0 ∷ row 0 1 0 1 1 0 0 ∷ [])
+    ∷ (row 0 1 0 4 1 0 0 ∷ [])
+    ∷ (row 0 5 0 4 1 0 0 ∷ [])
+    ∷ (row 0 5 0 18 1 0 0 ∷ row 0 6 0 0 0 0 0 ∷ [])
+    ∷ []
+
+no-namespace : modelRows anyTable (bytes "<r><x xmlns=\"\"/></r>") ≡ no-namespace-records
+unfolding computing
+no-namespace = refl
+
+no-namespace-streamed : streamRows anyTable (bytes "<r><x xmlns=\"\"/></r>") ≡ no-namespace-records
+unfolding computing
+no-namespace-streamed = refl
+
+-- "An added end has the span of an end for />": the innermost first, each with its own start's part
+added-ends : completedRows T (bytes "<r xmlns=\"u\" xmlns:p=\"u\"><p:x>")
+    ≡ (row 0 0 0 0 0 0 0 ∷ row 0 1 1 1 1 0 0 ∷ [])
+    ∷ (row 0 1 1 28 1 0 0 ∷ [])
+    ∷ (row 0 5 1 28 1 0 0 ∷ [])
+    ∷ (row 0 5 1 1 1 0 0 ∷ row 0 6 0 0 0 0 0 ∷ [])
+    ∷ []
+unfolding computing
+added-ends = refl
+
+-- A record's bytes: unit 16, kind 8, class 8, offset 24, length 24, URI offset 24, URI length 24, each with its highest byte first
+fields : bytesOf (record { unit = 0x0102; piece = holds (record { kind = 0x03; class = 0x04; at = 0x050607; len = 0x08090A; uriAt = 0x0B0C0D; uriLen = 0x0E0F10 }) }) ≡ 0x01 ∷ 0x02 ∷ 0x03 ∷ 0x04 ∷ 0x05 ∷ 0x06 ∷ 0x07 ∷ 0x08 ∷ 0x09 ∷ 0x0A ∷ 0x0B ∷ 0x0C ∷ 0x0D ∷ 0x0E ∷ 0x0F ∷ 0x10 ∷ []
+unfolding computing
+fields = refl

@@ -6,4 +6,5 @@ pub mod Scope
 pub mod Pushed
 pub mod Counted
 pub mod Held
+pub mod Computing
 pub mod Examples

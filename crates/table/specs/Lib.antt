@@ -3,4 +3,5 @@ pub mod Judge
 pub mod Places
 pub mod Index
 pub mod Kept
+pub mod Computing
 pub mod Examples

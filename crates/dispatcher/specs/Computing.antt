@@ -1,0 +1,15 @@
+-- What the worked examples compute with, named once. A definition.
+use mathlib.Core.Bool.{Bool, true}
+use Rattle.laws.specs.Over.{overwrite}
+use Rattle.lexer.specs.Whole.{isPart, isWholeName}
+use Rattle.reader.specs.Stored.{bindingIn}
+use Rattle.reader.specs.Scope.{nameIn, opensIn, closedOf}
+use Rattle.model.specs.Computing as model
+use Rattle.strands.specs.Packed.{strandIn, packed}
+use Rattle.dispatcher.specs.Sessions.{levelUri, strandsIn, levelIn, levelsIn}
+use Rattle.dispatcher.specs.Coherence.{coherent}
+use Rattle.dispatcher.specs.Stepping.{planOf, startPlan, stepOf, runFrom, runOf}
+
+unfoldable pub computing : Bool
+unfolding model.computing runOf runFrom stepOf planOf startPlan coherent strandIn packed levelUri strandsIn levelIn levelsIn bindingIn nameIn opensIn closedOf overwrite isPart isWholeName
+computing = true
