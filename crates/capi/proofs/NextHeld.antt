@@ -17,7 +17,7 @@ use Rattle.table.proofs.Accepted.{header-in}
 use Rattle.reader.specs.Events as scene
 use Rattle.model.specs.Tree.{start}
 use Rattle.model.specs.Elements.{elementOf}
-use Rattle.model.specs.Stream.{enter, after, Strand}
+use Rattle.model.specs.Stream.{entriesAt, after, HeldStrand}
 use Rattle.model.specs.Dispatch.{dispatch}
 use Rattle.strands.specs.Packed.{strandIn, packed}
 use Rattle.strands.proofs.Packing.{Packable, packed-back, below-more}
@@ -48,7 +48,7 @@ module _ (P : ℕ → Type 0) where
   each-over xs i ys h k =
       each-append P (take i xs ++ ys) (drop (i + length ys) xs) (each-append P (take i xs) ys (each-take i xs h) k) (each-drop (i + length ys) xs h)
 
-each-packs : (rs : List (Strand ℕ)) → All Packable rs → All (λ (w : ℕ). packs w ≡ true) (map packed rs)
+each-packs : (rs : List (HeldStrand ℕ)) → All Packable rs → All (λ (w : ℕ). packs w ≡ true) (map packed rs)
 each-packs [] h = tt
 each-packs (r ∷ rs) h = (eq-eqb (packed (strandIn (packed r))) (packed r) (ap packed (packed-back r (h .0))), each-packs rs (h .1))
 
@@ -82,7 +82,7 @@ module _ (table : List ℕ) (accepted : Accepted table ≡ true) (s : List ℕ) 
       let units = after (dispatch t) (stateOf t s z) (start (elementOf t s e)) .units in
       holds-cond PlanPacks (leb 64 (z .scope .depth)) (λ d. tt) (λ d.
       holds-cond PlanPacks (ltb 64 (z .scope .bound + length own)) (λ b. tt) (λ b.
-      holds-cond PlanPacks (ltb 16 (length (enter (dispatch t) (stateOf t s z .levels) (elementOf t s e)))) (λ c. tt) (λ c.
+      holds-cond PlanPacks (ltb 16 (length (entriesAt (dispatch t) (stateOf t s z .levels) (elementOf t s e)))) (λ c. tt) (λ c.
       holds-cond PlanPacks (ltb 65536 units) (λ u. tt) (λ u.
       each-over (λ (w : ℕ). packs w ≡ true) (z .strands) (16 * z .scope .depth) (map packed (newStrands t (stateOf t s z) (elementOf t s e))) pack (new-pack e (ltb-false 65536 units u))))))
 

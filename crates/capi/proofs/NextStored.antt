@@ -18,12 +18,12 @@ use Rattle.table.specs.Table.{Table, decode}
 use Rattle.table.specs.Judge.{Accepted, judged}
 use Rattle.reader.specs.declared.Binding.{Binding}
 use Rattle.reader.specs.declared.Scope.{Scope}
-use Rattle.reader.specs.Stored.{numbersOf}
+use Rattle.reader.specs.Stored.{bindingNumbers}
 use Rattle.reader.specs.Scope.{closedOf}
 use Rattle.reader.specs.Events as scene
 use Rattle.model.specs.Tree.{start}
 use Rattle.model.specs.Elements.{elementOf}
-use Rattle.model.specs.Stream.{enter, after}
+use Rattle.model.specs.Stream.{entriesAt, after}
 use Rattle.model.specs.Dispatch.{dispatch}
 use Rattle.strands.specs.Packed.{packed}
 use Rattle.strands.proofs.Packing.{packed-all-small}
@@ -55,7 +55,7 @@ PlanFew (refused n p) = Unit {0}
 PlanFew (finished p) = Unit {0}
 PlanFew (event at records next) = ArraysFew next
 
-own-few : (bs : List Binding) → Few (gather numbersOf bs)
+own-few : (bs : List Binding) → Few (gather bindingNumbers bs)
 unfolding gather
 own-few [] = tt
 own-few (b ∷ bs) = (omega arith, (omega arith, (omega arith, (omega arith, own-few bs))))
@@ -81,12 +81,12 @@ module _ (table : List ℕ) (accepted : Accepted table ≡ true) (s : List ℕ) 
       let own = length declared in
       holds-cond PlanFew (leb 64 (z .scope .depth)) (λ d. tt) (λ d.
       holds-cond PlanFew (ltb 64 (z .scope .bound + own)) (λ b. tt) (λ b.
-      holds-cond PlanFew (ltb 16 (length (enter (dispatch t) (stateOf t s z .levels) (elementOf t s e)))) (λ c. tt) (λ c.
+      holds-cond PlanFew (ltb 16 (length (entriesAt (dispatch t) (stateOf t s z .levels) (elementOf t s e)))) (λ c. tt) (λ c.
       holds-cond PlanFew (ltb 65536 units) (λ u. tt) (λ u.
       (record {
         levels = each-over (λ (w : ℕ). w < 2 ^ 32) (z .scope .levels) (3 * z .scope .depth) _ (few .levels) (omega arith, (omega arith, (omega (arith, ltb-false 64 (z .scope .bound + own) b), tt)));
-        bindings = each-over (λ (w : ℕ). w < 2 ^ 32) (z .scope .bindings) (4 * z .scope .bound) _ (few .bindings) (each-take (λ (w : ℕ). w < 2 ^ 32) (4 * own) (gather numbersOf declared) (own-few declared));
-        spaces = each-over (λ (w : ℕ). w < 2 ^ 32) (z .spaces) (4 * z .scope .depth) _ (few .spaces) (omega arith, (omega arith, (omega arith, (omega (arith, new-length t (stateOf t s z) (elementOf t s e), ltb-false 16 (length (enter (dispatch t) (stateOf t s z .levels) (elementOf t s e))) c), tt))));
+        bindings = each-over (λ (w : ℕ). w < 2 ^ 32) (z .scope .bindings) (4 * z .scope .bound) _ (few .bindings) (each-take (λ (w : ℕ). w < 2 ^ 32) (4 * own) (gather bindingNumbers declared) (own-few declared));
+        spaces = each-over (λ (w : ℕ). w < 2 ^ 32) (z .spaces) (4 * z .scope .depth) _ (few .spaces) (omega arith, (omega arith, (omega arith, (omega (arith, new-length t (stateOf t s z) (elementOf t s e), ltb-false 16 (length (entriesAt (dispatch t) (stateOf t s z .levels) (elementOf t s e))) c), tt))));
         strands = each-over (λ (w : ℕ). w < 2 ^ 32) (z .strands) (16 * z .scope .depth) (map packed new) (few .strands) (packed-all-small new (new-packable table accepted s z ok e (ltb-false 65536 units u)));
       })))))
 

@@ -10,17 +10,17 @@ use Rattle.table.specs.declared.Answer.{Answer}
 use Rattle.uris.specs.declared.UriSpan.{UriSpan}
 use Rattle.dispatcher.specs.Stepping.{Run}
 use Rattle.dispatcher.specs.Stepping.{ran}
-use Rattle.capi.specs.Calls.{numbersOf}
+use Rattle.capi.specs.Calls.{answerNumbers}
 use Rattle.capi.specs.Sources.{spanNumbers}
 
 -- an answer and a run, told
-pub told : (r a : Answer) (xs : List ℕ) → r ≡ a → xs ≡ numbersOf r → (r .number ≡ a .number) × (xs ≡ numbersOf a)
-told r a xs e q = (ap (λ (x : Answer). x .number) e, q ∙ ap numbersOf e)
+pub told : (r a : Answer) (xs : List ℕ) → r ≡ a → xs ≡ answerNumbers r → (r .number ≡ a .number) × (xs ≡ answerNumbers a)
+told r a xs e q = (ap (λ (x : Answer). x .number) e, q ∙ ap answerNumbers e)
 
-pub ran-told : (r : Answer) (out xs : List ℕ) (w : Run) → ran r out ≡ w → xs ≡ numbersOf r
-    → (r .number ≡ w .answer .number) × ((xs ≡ numbersOf (w .answer)) × (out ≡ w .output))
+pub ran-told : (r : Answer) (out xs : List ℕ) (w : Run) → ran r out ≡ w → xs ≡ answerNumbers r
+    → (r .number ≡ w .answer .number) × ((xs ≡ answerNumbers (w .answer)) × (out ≡ w .output))
 ran-told r out xs w e q =
-    (ap (λ (x : Run). x .answer .number) e, (q ∙ ap (λ (x : Run). numbersOf (x .answer)) e, ap (λ (x : Run). x .output) e))
+    (ap (λ (x : Run). x .answer .number) e, (q ∙ ap (λ (x : Run). answerNumbers (x .answer)) e, ap (λ (x : Run). x .output) e))
 
 pub span-told : (u w : UriSpan) (xs : List ℕ) → u ≡ w → xs ≡ spanNumbers u → xs ≡ spanNumbers w
 span-told u w xs e q = q ∙ ap spanNumbers e

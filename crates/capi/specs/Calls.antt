@@ -11,8 +11,8 @@ use Rattle.dispatcher.specs.Stepping.{Step, answered, refusedStep, longest, ste
 use Rattle.capi.specs.Layout.{sessionSize, sessionIn, holdsSession, sessionBytes}
 
 -- number, place, events, records
-abbrev pub numbersOf : Answer → List ℕ
-numbersOf a = a .number ∷ a .place ∷ a .events ∷ a .records ∷ []
+abbrev pub answerNumbers : Answer → List ℕ
+answerNumbers a = a .number ∷ a .place ∷ a .events ∷ a .records ∷ []
 
 -- a step from a session in bytes: bytes that hold none are answered 20, in 20's rank
 unfoldable pub byteStep : List ℕ → List ℕ → List ℕ → List ℕ → Step

@@ -21,7 +21,7 @@ ghost use Rattle.dispatcher.specs.Sessions.{freshOf};
 ghost use Rattle.dispatcher.specs.Stepping.{answered, longest, runOf};
 ghost use Rattle.uris.specs.Uris.{uriSpanOf};
 ghost use Rattle.capi.specs.Layout.{sessionSize, sessionBytes};
-ghost use Rattle.capi.specs.Calls.{numbersOf, byteStep, bytesBehind, tooShort};
+ghost use Rattle.capi.specs.Calls.{answerNumbers, byteStep, bytesBehind, tooShort};
 ghost use Rattle.capi.specs.Sources.{sourceNumber, spanNumbers};
 
 // A session's bytes.
@@ -32,7 +32,7 @@ const TOO_SHORT: u8 = 255;
 
 // The answer's four numbers.
 fn tell(a: Answer, answer: &mut [u64; 4])
-    ensures { λ _. ⌜ now (answer .exit) ≡ numbersOf a ⌝ }
+    ensures { λ _. ⌜ now (answer .exit) ≡ answerNumbers a ⌝ }
 {
     *answer = [
         a.number as u64,
@@ -46,7 +46,7 @@ fn tell(a: Answer, answer: &mut [u64; 4])
 #[no_mangle]
 pub extern "C" fn calcivorne_judge(table: &[u8], answer: &mut [u64; 4]) -> u8
     ensures { λ r. ⌜ r ≡ judged (now (table .entry)) .number ⌝ }
-    ensures { λ _. ⌜ now (answer .exit) ≡ numbersOf (judged (now (table .entry))) ⌝ }
+    ensures { λ _. ⌜ now (answer .exit) ≡ answerNumbers (judged (now (table .entry))) ⌝ }
 {
     let a = judge(table);
     tell(a, answer);
@@ -62,7 +62,7 @@ pub extern "C" fn calcivorne_run(
     answer: &mut [u64; 4],
 ) -> u8
     ensures { λ r. ⌜ r ≡ runOf (now (table .entry)) (now (scene .entry)) (now (out .entry)) .answer .number ⌝ }
-    ensures { λ _. ⌜ now (answer .exit) ≡ numbersOf (runOf (now (table .entry)) (now (scene .entry)) (now (out .entry)) .answer) ⌝ }
+    ensures { λ _. ⌜ now (answer .exit) ≡ answerNumbers (runOf (now (table .entry)) (now (scene .entry)) (now (out .entry)) .answer) ⌝ }
     ensures { λ _. ⌜ now (out .exit) ≡ runOf (now (table .entry)) (now (scene .entry)) (now (out .entry)) .output ⌝ }
 {
     let a = dispatcher::run(table, scene, out);
@@ -147,7 +147,7 @@ pub extern "C" fn calcivorne_step(
     answer: &mut [u64; 4],
 ) -> u8
     ensures { λ r. ⌜ r ≡ cond (ltb (length (now (session .entry))) sessionSize) tooShort (byteStep (now (table .entry)) (now (scene .entry)) (now (session .entry)) (now (out .entry)) .answer .number) ⌝ }
-    ensures { λ _. ⌜ now (answer .exit) ≡ cond (ltb (length (now (session .entry))) sessionSize) (now (answer .entry)) (numbersOf (byteStep (now (table .entry)) (now (scene .entry)) (now (session .entry)) (now (out .entry)) .answer)) ⌝ }
+    ensures { λ _. ⌜ now (answer .exit) ≡ cond (ltb (length (now (session .entry))) sessionSize) (now (answer .entry)) (answerNumbers (byteStep (now (table .entry)) (now (scene .entry)) (now (session .entry)) (now (out .entry)) .answer)) ⌝ }
     ensures { λ _. ⌜ now (out .exit) ≡ cond (ltb (length (now (session .entry))) sessionSize) (now (out .entry)) (byteStep (now (table .entry)) (now (scene .entry)) (now (session .entry)) (now (out .entry)) .output) ⌝ }
     ensures { λ _. ⌜ now (session .exit) ≡ cond (ltb (length (now (session .entry))) sessionSize) (now (session .entry)) (bytesBehind (now (session .entry)) (byteStep (now (table .entry)) (now (scene .entry)) (now (session .entry)) (now (out .entry)))) ⌝ }
 {

@@ -34,7 +34,7 @@ use Rattle.reader.specs.declared.Binding.{Binding}
 use Rattle.reader.proofs.Tabulated.{tabulate-append}
 use Rattle.reader.proofs.MoreBytes.{bytes-more, refused-more}
 use Rattle.dispatcher.specs.Sessions.{uriIn, readerOf}
-use Rattle.dispatcher.specs.Coherence.{levelNumbers, openBindings, depthFits, boundFits, placeInside, spanInside, levelSpansInside, bindingSpansInside, namesFit, bindingsAllowed, prefixFits, prefixesFit, strandCountsFit, modesFit, classesFit, targetsFit, validatesAim, unitsFit, countsAddUp, awaitedFits, closedFits, coherent}
+use Rattle.dispatcher.specs.Coherence.{openLevels, openBindings, depthFits, boundFits, placeInside, spanInside, levelSpansInside, bindingSpansInside, namesFit, bindingsAllowed, prefixFits, prefixesFit, strandCountsFit, modesFit, classesFit, targetsFit, validatesAim, unitsFit, countsAddUp, awaitedFits, closedFits, coherent}
 use Rattle.dispatcher.specs.declared.Session.{Session}
 use Rattle.dispatcher.proofs.SoundCoherent.{total-numbers}
 
@@ -192,7 +192,7 @@ module _ (t : Table) (s : List ℕ) (z : Session) (c : Cleared t s z) where
       )
 
   counted : countOf (z .scope .levels) (z .scope .depth) ≡ z .scope .bound
-  counted = sym (total-numbers (z .scope .levels) (z .scope .depth)) ∙ eqb-true (total (countIn (z .scope)) (levelNumbers z)) (z .scope .bound) (c .counts)
+  counted = sym (total-numbers (z .scope .levels) (z .scope .depth)) ∙ eqb-true (total (countIn (z .scope)) (openLevels z)) (z .scope .bound) (c .counts)
 
   flags-held : (a b : Bool) (depth : ℕ) → (not a || not (eqb depth 0)) ≡ true → (not b || eqb depth 0) ≡ true
       → (a ≡ true → opensIn (z .scope .levels) (z .scope .bindings) depth (z .scope .bound) ≡ [] → ⊥)
@@ -253,7 +253,7 @@ coherent-more t s u z e =
     span-longer : (w : Span) → SpanHeld s w → spanInside (s ++ u) w ≡ true
     span-longer w h = le-leb (w .at + w .len) (length (s ++ u)) (longer (w .at + w .len) h)
 
-    levels : (p : ℕ → Bool) → ((k : ℕ) → k < z .scope .depth → p k ≡ true) → all p (levelNumbers z) ≡ true
+    levels : (p : ℕ → Bool) → ((k : ℕ) → k < z .scope .depth → p k ≡ true) → all p (openLevels z) ≡ true
     levels p f = tabulated-all (λ (k : ℕ). k) p 0 (z .scope .depth) (λ k l. f k (omega arith))
 
     bindings : (p : Binding → Bool) → ((k : ℕ) → k < z .scope .bound → p (binding k) ≡ true) → all p (openBindings z) ≡ true

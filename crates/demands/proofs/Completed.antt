@@ -10,10 +10,10 @@ use native.Mathlib.Omega.{arith}
 use borrow.Author.Tests.{eqb-true, eq-eqb, lt-ltb}
 use lib.ListN.{length, drop, getD, length-append}
 use lib.Dec.{eqb}
-use Rattle.laws.specs.Reading.{Next, stop, run, le-or-lt}
+use Rattle.laws.specs.Reading.{RunNext, stop, run, le-or-lt}
 use Rattle.laws.specs.Lists.{sameList}
 use Rattle.laws.proofs.Holds.{holds-cond}
-use Rattle.lexer.specs.Stops.{after, afterName}
+use Rattle.lexer.specs.Stops.{afterRead, afterName}
 use Rattle.lexer.specs.Names.{spacesEnd, startLen, partStep, partEnd, nameAt}
 use Rattle.lexer.specs.Values.{valueEnd, textEnd}
 use Rattle.lexer.specs.Tags.{wanted, equalsEnd, attrOf, quotedAt, attributeAt, slashAt, turnBehind, turnAt, TagRead, tagStopped, fullTurn, attrThen, turnThen, attrsFrom, tagAt, endTagAt, tagBegins, beginInside, beginOutside, ending, beginAt}
@@ -64,11 +64,11 @@ unfolding quotedAt
 quoted-here s name i h k = rw (lt-ltb i (length s) (h .0), h .1, value-here s 0x27 (i + 1) k)
 
 quoted-by : (s : List ℕ) (name : Name) (at : ℕ) → at < length s → quotedAt s name at ≡ attributed.Stopped Cut
-    → cond (eqb (getD s at 0) 0x22 || eqb (getD s at 0) 0x27) (after attributed.Stopped (valueEnd s (at + 1) (getD s at 0)) (λ (stop : ℕ). attributed.Got (attrOf name (at + 1) stop))) (attributed.Stopped (Bad at)) ≡ attributed.Stopped Cut
+    → cond (eqb (getD s at 0) 0x22 || eqb (getD s at 0) 0x27) (afterRead attributed.Stopped (valueEnd s (at + 1) (getD s at 0)) (λ (stop : ℕ). attributed.Got (attrOf name (at + 1) stop))) (attributed.Stopped (Bad at)) ≡ attributed.Stopped Cut
 unfolding quotedAt
 quoted-by s name at lt e = (rw (lt-ltb at (length s) lt) at e)
 
-equals-by : (s : List ℕ) (at : ℕ) → equalsEnd s at ≡ read.Stopped Cut → after read.Stopped (spacesEnd s at) (λ (i : ℕ). after read.Stopped (wanted s i 0x3D) (λ (j : ℕ). spacesEnd s j)) ≡ read.Stopped Cut
+equals-by : (s : List ℕ) (at : ℕ) → equalsEnd s at ≡ read.Stopped Cut → afterRead read.Stopped (spacesEnd s at) (λ (i : ℕ). afterRead read.Stopped (wanted s i 0x3D) (λ (j : ℕ). spacesEnd s j)) ≡ read.Stopped Cut
 unfolding equalsEnd
 equals-by s at e = e
 
@@ -169,10 +169,10 @@ module _ (s : List ℕ) (at : ℕ) where
   attribute-completed le e = by (nameAt s at) refl (name-inside s at) e
     where
       Behind : Name → Attributed
-      Behind name = after attributed.Stopped (equalsEnd s (name .end)) (λ (quote : ℕ). quotedAt s name quote)
+      Behind name = afterRead attributed.Stopped (equalsEnd s (name .end)) (λ (quote : ℕ). quotedAt s name quote)
 
       value : (name : Name) → nameAt s at ≡ named.Got name → (quote : ℕ) → quote < length s → equalsEnd s (name .end) ≡ read.End quote → (q : Bool) → (eqb (getD s quote 0) 0x22 || eqb (getD s quote 0) 0x27) ≡ q → (r : Read) → valueEnd s (quote + 1) (getD s quote 0) ≡ r
-          → cond q (after attributed.Stopped r (λ (stop : ℕ). attributed.Got (attrOf name (quote + 1) stop))) (attributed.Stopped (Bad quote)) ≡ attributed.Stopped Cut → AttrDone s at
+          → cond q (afterRead attributed.Stopped r (λ (stop : ℕ). attributed.Got (attrOf name (quote + 1) stop))) (attributed.Stopped (Bad quote)) ≡ attributed.Stopped Cut → AttrDone s at
       value name f quote lt g false q r h e = let z : _≡_ {A = ℕ} 0 1 = cc in absurd (omega arith)
       value name f quote lt g true q (read.End j) h e = let z : _≡_ {A = ℕ} 0 1 = cc in absurd (omega arith)
       value name f quote lt g true q (read.Stopped x) h e = let c : read.Stopped x ≡ read.Stopped Cut = cc in attr-quoted name f quote lt g q (value-completed s (getD s quote 0) (quote + 1) (omega arith) (h ∙ c))
@@ -181,16 +181,16 @@ module _ (s : List ℕ) (at : ℕ) where
       quoted name f quote lt g e =
           value name f quote lt g (eqb (getD s quote 0) 0x22 || eqb (getD s quote 0) 0x27) refl (valueEnd s (quote + 1) (getD s quote 0)) refl (quoted-by s name quote lt e)
 
-      spaced : (name : Name) → nameAt s at ≡ named.Got name → (i : ℕ) → i < length s → spacesEnd s (name .end) ≡ read.End i → (r : Read) → wanted s i 0x3D ≡ r → ReadInside (ByteTo s i 0x3D) s i r → after read.Stopped r (λ (j : ℕ). spacesEnd s j) ≡ read.Stopped Cut → AttrDone s at
+      spaced : (name : Name) → nameAt s at ≡ named.Got name → (i : ℕ) → i < length s → spacesEnd s (name .end) ≡ read.End i → (r : Read) → wanted s i 0x3D ≡ r → ReadInside (ByteTo s i 0x3D) s i r → afterRead read.Stopped r (λ (j : ℕ). spacesEnd s j) ≡ read.Stopped Cut → AttrDone s at
       spaced name f i lt g (read.End j) h to e =
           attr-equals name f i lt g (h ∙ ap read.End (to .0)) (ap (spacesEnd s) (sym (to .0)) ∙ e)
       spaced name f i lt g (read.Stopped x) h to e = let c : read.Stopped x ≡ read.Stopped Cut = cc in absurd (omega (arith, wanted-out s i 0x3D (h ∙ c)))
 
-      equals : (name : Name) → nameAt s at ≡ named.Got name → NameInside s at name → (r : Read) → spacesEnd s (name .end) ≡ r → ReadInside (SpacesTo s (name .end)) s (name .end) r → after read.Stopped r (λ (i : ℕ). after read.Stopped (wanted s i 0x3D) (λ (j : ℕ). spacesEnd s j)) ≡ read.Stopped Cut → AttrDone s at
+      equals : (name : Name) → nameAt s at ≡ named.Got name → NameInside s at name → (r : Read) → spacesEnd s (name .end) ≡ r → ReadInside (SpacesTo s (name .end)) s (name .end) r → afterRead read.Stopped r (λ (i : ℕ). afterRead read.Stopped (wanted s i 0x3D) (λ (j : ℕ). spacesEnd s j)) ≡ read.Stopped Cut → AttrDone s at
       equals name f n (read.End i) g to e = spaced name f i (to .1) g (wanted s i 0x3D) refl (wanted-inside s i 0x3D) e
       equals name f n (read.Stopped x) g to e = let c : read.Stopped x ≡ read.Stopped Cut = cc in attr-spaced name f (omega (arith, n .inside)) (g ∙ c)
 
-      behind : (name : Name) → nameAt s at ≡ named.Got name → NameInside s at name → (r : Read) → equalsEnd s (name .end) ≡ r → ReadInside (EqualsTo s (name .end)) s (name .end) r → after attributed.Stopped r (λ (quote : ℕ). quotedAt s name quote) ≡ attributed.Stopped Cut → AttrDone s at
+      behind : (name : Name) → nameAt s at ≡ named.Got name → NameInside s at name → (r : Read) → equalsEnd s (name .end) ≡ r → ReadInside (EqualsTo s (name .end)) s (name .end) r → afterRead attributed.Stopped r (λ (quote : ℕ). quotedAt s name quote) ≡ attributed.Stopped Cut → AttrDone s at
       behind name f n (read.End quote) g to e = quoted name f quote (to .1) g e
       behind name f n (read.Stopped x) g to e = let c : read.Stopped x ≡ read.Stopped Cut = cc in equals name f n (spacesEnd s (name .end)) refl (spaces-inside s (name .end)) (equals-by s (name .end) (g ∙ c))
 
@@ -218,7 +218,7 @@ turn-completed : (s : List ℕ) (at : ℕ) → at ≤ length s → turnAt s at �
 unfolding turnAt turnBehind slashAt
 turn-completed s at le e = by (spacesEnd s at) refl (spaces-inside s at) e
   where
-    slash : (i : ℕ) → i < length s → spacesEnd s at ≡ read.End i → getD s i 0 ≡ 0x2F → (r : Read) → wanted s (i + 1) 0x3E ≡ r → after turn.Stopped r (λ (next : ℕ). turn.Close next true) ≡ turn.Stopped Cut → TurnDone s at
+    slash : (i : ℕ) → i < length s → spacesEnd s at ≡ read.End i → getD s i 0 ≡ 0x2F → (r : Read) → wanted s (i + 1) 0x3E ≡ r → afterRead turn.Stopped r (λ (next : ℕ). turn.Close next true) ≡ turn.Stopped Cut → TurnDone s at
     slash i lt f b (read.End j) g e = let z : _≡_ {A = ℕ} 0 1 = cc in absurd (omega arith)
     slash i lt f b (read.Stopped x) g e =
         let c : read.Stopped x ≡ read.Stopped Cut = cc in
@@ -227,7 +227,7 @@ turn-completed s at le e = by (spacesEnd s at) refl (spaces-inside s at) e
         (i + 1 + 1, true, slash-closes (s ++ gt) at i f′ (h .0, h .1 ∙ b) (byte-in s [] gt 0 (i + 1) (omega (arith, wanted-out s (i + 1) 0x3E (g ∙ c))) (omega arith)))
 
     byte : (i : ℕ) → i < length s → spacesEnd s at ≡ read.End i → (a : Bool) (b : Bool) → eqb (getD s i 0) 0x2F ≡ b → (c d : Bool)
-        → cond a (turn.Close (i + 1) false) (cond b (after turn.Stopped (wanted s (i + 1) 0x3E) (λ (next : ℕ). turn.Close next true)) (cond c (turn.Stopped (Bad i)) (cond d (turn.Stopped (Bad i)) (turn.Attribute i)))) ≡ turn.Stopped Cut
+        → cond a (turn.Close (i + 1) false) (cond b (afterRead turn.Stopped (wanted s (i + 1) 0x3E) (λ (next : ℕ). turn.Close next true)) (cond c (turn.Stopped (Bad i)) (cond d (turn.Stopped (Bad i)) (turn.Attribute i)))) ≡ turn.Stopped Cut
         → TurnDone s at
     byte i lt f true b q c d e = let z : _≡_ {A = ℕ} 0 1 = cc in absurd (omega arith)
     byte i lt f false true q c d e = slash i lt f (eqb-true (getD s i 0) 0x2F q) (wanted s (i + 1) 0x3E) refl e
@@ -235,7 +235,7 @@ turn-completed s at le e = by (spacesEnd s at) refl (spaces-inside s at) e
     byte i lt f false false q false true e = let z : _≡_ {A = ℕ} 0 1 = cc in absurd (omega arith)
     byte i lt f false false q false false e = let z : _≡_ {A = ℕ} 0 1 = cc in absurd (omega arith)
 
-    by : (r : Read) → spacesEnd s at ≡ r → ReadInside (SpacesTo s at) s at (spacesEnd s at) → after turn.Stopped r (λ (i : ℕ). turnBehind s at i) ≡ turn.Stopped Cut → TurnDone s at
+    by : (r : Read) → spacesEnd s at ≡ r → ReadInside (SpacesTo s at) s at (spacesEnd s at) → afterRead turn.Stopped r (λ (i : ℕ). turnBehind s at i) ≡ turn.Stopped Cut → TurnDone s at
     by (read.End i) f in′ e =
         let to : SpacesTo s at i = subst (ReadInside (SpacesTo s at) s at) f in′ in
         byte i (to .1) f (eqb (getD s i 0) 0x3E) (eqb (getD s i 0) 0x2F) refl (eqb i at) (eqb (startLen s i) 0) (rw (lt-ltb i (length s) (to .1)) at e)
@@ -347,13 +347,13 @@ endTag-completed s at le e = by (nameAt s at) refl (name-inside s at) e
     Goal = Done s (λ (S : List ℕ). IsEnd (endTagAt S at))
 
     Behind : Name → ℕ → Ended
-    Behind name i = after ended.Stopped (wanted s i 0x3E) (λ (next : ℕ). ended.Got (record { name = name; next = next }))
+    Behind name i = afterRead ended.Stopped (wanted s i 0x3E) (λ (next : ℕ). ended.Got (record { name = name; next = next }))
 
-    closes : (name : Name) (i : ℕ) → i < length s → (r : Read) → wanted s i 0x3E ≡ r → after ended.Stopped r (λ (next : ℕ). ended.Got (record { name = name; next = next })) ≡ ended.Stopped Cut → Goal
+    closes : (name : Name) (i : ℕ) → i < length s → (r : Read) → wanted s i 0x3E ≡ r → afterRead ended.Stopped r (λ (next : ℕ). ended.Got (record { name = name; next = next })) ≡ ended.Stopped Cut → Goal
     closes name i lt (read.End j) g e = let z : _≡_ {A = ℕ} 0 1 = cc in absurd (omega arith)
     closes name i lt (read.Stopped x) g e = let c : read.Stopped x ≡ read.Stopped Cut = cc in absurd (omega (arith, wanted-out s i 0x3E (g ∙ c)))
 
-    spaced : (name : Name) → nameAt s at ≡ named.Got name → name .end ≤ length s → (r : Read) → spacesEnd s (name .end) ≡ r → ReadInside (SpacesTo s (name .end)) s (name .end) r → after ended.Stopped r (Behind name) ≡ ended.Stopped Cut → Goal
+    spaced : (name : Name) → nameAt s at ≡ named.Got name → name .end ≤ length s → (r : Read) → spacesEnd s (name .end) ≡ r → ReadInside (SpacesTo s (name .end)) s (name .end) r → afterRead ended.Stopped r (Behind name) ≡ ended.Stopped Cut → Goal
     spaced name f lt (read.End i) g to e = closes name i (to .1) (wanted s i 0x3E) refl e
     spaced name f lt (read.Stopped x) g to e =
         let c : read.Stopped x ≡ read.Stopped Cut = cc in
@@ -363,7 +363,7 @@ endTag-completed s at le e = by (nameAt s at) refl (name-inside s at) e
           done = end-here (s ++ gt) at name (length s) (named-so s at name f gt) (spaces-completed s (name .end) lt (g ∙ c) 0x3E [] refl) (byte-in s [] gt 0 (length s) (omega arith) (omega arith));
         }
 
-    by : (r : Named) → nameAt s at ≡ r → NamedInside (NameInside s at) s at (nameAt s at) → afterName ended.Stopped r (λ (name : Name). after ended.Stopped (spacesEnd s (name .end)) (Behind name)) ≡ ended.Stopped Cut → Goal
+    by : (r : Named) → nameAt s at ≡ r → NamedInside (NameInside s at) s at (nameAt s at) → afterName ended.Stopped r (λ (name : Name). afterRead ended.Stopped (spacesEnd s (name .end)) (Behind name)) ≡ ended.Stopped Cut → Goal
     by (named.Got name) f i e =
         let n : NameInside s at name = subst (NamedInside (NameInside s at) s at) f i in
         spaced name f (omega (arith, n .inside)) (spacesEnd s (name .end)) refl (spaces-inside s (name .end)) e
@@ -443,7 +443,7 @@ begin-completed s at true closed le e = ⊎-elim (λ out. from-none s at true cl
     within′ lt = byte lt (eqb (getD s at 0) 0x3C) refl (rw (lt-ltb at (length s) lt) at e)
 begin-completed s at false true le e = by (spacesEnd s at) (spaces-inside s at) e
   where
-    by : (r : Read) → ReadInside (SpacesTo s at) s at r → after (ending true) r (λ (i : ℕ). beginOutside s i true) ≡ begin.Stopped Cut → BeginDone s at false true
+    by : (r : Read) → ReadInside (SpacesTo s at) s at r → afterRead (ending true) r (λ (i : ℕ). beginOutside s i true) ≡ begin.Stopped Cut → BeginDone s at false true
     by (read.Stopped x) to e = let z : _≡_ {A = ℕ} 0 1 = cc in absurd (omega arith)
     by (read.End i) to e =
         let f : begin.Stopped (Bad i) ≡ begin.Stopped Cut = rw (lt-ltb i (length s) (to .1)) at e in
@@ -460,7 +460,7 @@ begin-completed s at false false le e = by (spacesEnd s at) refl (spaces-inside 
         from-tag s at false false i lt (eqb-true (getD s i 0) 0x3C q) (tag-cut s false i f) (begins w i (read-so (spacesEnd s at) (spacesEnd (s ++ w) at) i g (spaces-stable s w at)))
     byte i lt g false q f = let z : _≡_ {A = ℕ} 0 1 = cc in absurd (omega arith)
 
-    by : (r : Read) → spacesEnd s at ≡ r → ReadInside (SpacesTo s at) s at r → after (ending false) r (λ (i : ℕ). beginOutside s i false) ≡ begin.Stopped Cut → BeginDone s at false false
+    by : (r : Read) → spacesEnd s at ≡ r → ReadInside (SpacesTo s at) s at r → afterRead (ending false) r (λ (i : ℕ). beginOutside s i false) ≡ begin.Stopped Cut → BeginDone s at false false
     by (read.Stopped x) g to e =
         let c : read.Stopped x ≡ read.Stopped Cut = cc in
         from-none s at false false (length s) refl (begins (0x3C ∷ 0x61 ∷ 0x3E ∷ []) (length s) (spaces-completed s at le (g ∙ c) 0x3C (0x61 ∷ 0x3E ∷ []) refl))

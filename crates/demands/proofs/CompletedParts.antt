@@ -14,10 +14,10 @@ use borrow.Author.Tests.{eqb-true, eqb-false, eq-eqb, ne-eqb, leb-true, lt-ltb}
 use lib.ListN.{length, drop, getD, length-append, length-drop, List·getD-append}
 use lib.Seq.{drop-append-le, getD-append-add}
 use lib.Dec.{leb, ltb, eqb}
-use Rattle.laws.specs.Reading.{Next, go, stop, follow, run, peek, Stable, stable-same, stable-cond, stable-bind, drop-here}
+use Rattle.laws.specs.Reading.{RunNext, go, stop, follow, run, peek, Stable, stable-same, stable-cond, stable-bind, drop-here}
 use Rattle.laws.specs.Members.{In}
 use Rattle.laws.proofs.Holds.{holds-cond, Turned}
-use Rattle.lexer.specs.Stops.{after}
+use Rattle.lexer.specs.Stops.{afterRead}
 use Rattle.lexer.specs.Names.{isSpace, spaceStep, spacesEnd, isStart, isName, startLen, nameLen, partStep, partEnd, nameOf, prefixedAt, nameAt}
 use Rattle.lexer.specs.Values.{references, common, wholeOf, furthest, noReference, referenceEnd, isText, referred, valueStep, valueEnd}
 use Rattle.lexer.specs.declared.Stop.the-variants.{Bad, Long, Cut}
@@ -47,12 +47,12 @@ byte-kept s t i lt = (simp length-append (omega arith), List·getD-append s t 0 
 
 -- ---- a machine
 module _ {St Out : Type 0} (cut : Out) where
-  run-byte : (step : St → ℕ → ℕ → Next St Out) (s : List ℕ) (q : St) (i b : ℕ) → Byte s i b → run cut step q (drop i s) i ≡ follow (step q b i) (λ (q′ : St). run cut step q′ (drop (i + 1) s) (i + 1))
+  run-byte : (step : St → ℕ → ℕ → RunNext St Out) (s : List ℕ) (q : St) (i b : ℕ) → Byte s i b → run cut step q (drop i s) i ≡ follow (step q b i) (λ (q′ : St). run cut step q′ (drop (i + 1) s) (i + 1))
   unfolding run
   run-byte step s q i b h = rw (drop-here s i (h .0), h .1)
 
   -- step: by the scene. J: what its state keeps
-  module _ (step : List ℕ → St → ℕ → ℕ → Next St Out) (s : List ℕ) (J : St → ℕ → Type 0)
+  module _ (step : List ℕ → St → ℕ → ℕ → RunNext St Out) (s : List ℕ) (J : St → ℕ → Type 0)
       (keeps : (q q′ : St) (i : ℕ) → i < length s → J q i → step s q (getD s i 0) i ≡ go q′ → J q′ (i + 1))
       (agree : (t : List ℕ) (q : St) (i : ℕ) → i < length s → Stable (stop cut) (step s q (getD s i 0) i) (step (s ++ t) q (getD s i 0) i)) where
     -- a scene that is cut: the state at its end, or at a byte where the machine stops with `cut`
@@ -73,7 +73,7 @@ module _ {St Out : Type 0} (cut : Out) where
         let rest : drop (i + 1) s ≡ l = cc in
         by lt (step s q b i) (ap (λ (x : ℕ). step s q x i) byte) (λ q′ k f. reaches l q′ (i + 1) rest (omega arith) k f) e
       where
-        by : i < length s → (n : Next St Out) → step s q (getD s i 0) i ≡ n → ((q′ : St) → J q′ (i + 1) → run cut (step s) q′ l (i + 1) ≡ cut → Reached q′ (i + 1)) → follow n (λ (q′ : St). run cut (step s) q′ l (i + 1)) ≡ cut → Reached q i
+        by : i < length s → (n : RunNext St Out) → step s q (getD s i 0) i ≡ n → ((q′ : St) → J q′ (i + 1) → run cut (step s) q′ l (i + 1) ≡ cut → Reached q′ (i + 1)) → follow n (λ (q′ : St). run cut (step s) q′ l (i + 1)) ≡ cut → Reached q i
         by lt (stop o) f ih e = record { state = q; place = i; kept = j; same = λ t. refl; ends = inr (lt, f ∙ ap stop e) }
         by lt (go q′) f ih e =
             let more : Reached q′ (i + 1) = ih q′ (keeps q q′ i lt j f) e in
@@ -84,7 +84,7 @@ module _ {St Out : Type 0} (cut : Out) where
               same =
                   λ t.
                   run-byte (step (s ++ t)) (s ++ t) q i (getD s i 0) (byte-kept s t i lt)
-                  ∙ ap (λ (n : Next St Out). follow n (λ (x : St). run cut (step (s ++ t)) x (drop (i + 1) (s ++ t)) (i + 1))) (agree t q i lt (λ c. let y : go q′ ≡ stop cut = sym f ∙ c in let w : _≡_ {A = ℕ} 0 1 = cc in omega arith) ∙ f)
+                  ∙ ap (λ (n : RunNext St Out). follow n (λ (x : St). run cut (step (s ++ t)) x (drop (i + 1) (s ++ t)) (i + 1))) (agree t q i lt (λ c. let y : go q′ ≡ stop cut = sym f ∙ c in let w : _≡_ {A = ℕ} 0 1 = cc in omega arith) ∙ f)
                   ∙ more .same t;
               ends = more .ends;
             }
@@ -107,7 +107,7 @@ spaces-completed s at le e b u n =
     let r = reaches (read.Stopped Cut) (λ (l : List ℕ). spaceStep) s (λ (q i : ℕ). Unit {0}) (λ q q′ i lt j f. tt) (λ t q i lt m. refl) (drop at s) 0 at refl le tt e in
     r .same (b ∷ u) ∙ by (r .state) (r .place) (r .ends)
   where
-    never : (x : Bool) (q i : ℕ) → _≡_ {A = Next ℕ Read} (cond x (go q) (stop (read.End i))) (stop (read.Stopped Cut)) → ⊥
+    never : (x : Bool) (q i : ℕ) → _≡_ {A = RunNext ℕ Read} (cond x (go q) (stop (read.End i))) (stop (read.Stopped Cut)) → ⊥
     never true q i f = let z : _≡_ {A = ℕ} 0 1 = cc in omega arith
     never false q i f = let z : _≡_ {A = ℕ} 0 1 = cc in omega arith
 
@@ -142,7 +142,7 @@ part-completed s at le e =
     let r = reaches (read.Stopped Cut) partStep s (λ (q i : ℕ). Unit {0}) (λ q q′ i lt j f. tt) (λ t q i lt m. simp (start-stable s t i lt, nameLen-stable s t i lt)) (drop at s) 64 at refl le tt e in
     by (r .state) (r .place) (r .same) (r .ends)
   where
-    never : (a b c d : Bool) (i k : ℕ) → _≡_ {A = Next ℕ Read} (cond a (cond b (stop (read.Stopped (Bad i))) (go 63)) (cond c (stop (read.End i)) (cond d (stop (read.Stopped (Long i))) (go k)))) (stop (read.Stopped Cut)) → ⊥
+    never : (a b c d : Bool) (i k : ℕ) → _≡_ {A = RunNext ℕ Read} (cond a (cond b (stop (read.Stopped (Bad i))) (go 63)) (cond c (stop (read.End i)) (cond d (stop (read.Stopped (Long i))) (go k)))) (stop (read.Stopped Cut)) → ⊥
     never true true c d i k f = let z : _≡_ {A = ℕ} 0 1 = cc in omega arith
     never true false c d i k f = let z : _≡_ {A = ℕ} 0 1 = cc in omega arith
     never false b true d i k f = let z : _≡_ {A = ℕ} 0 1 = cc in omega arith
@@ -190,7 +190,7 @@ unfolding nameAt prefixedAt
 name-completed s at le e = by (partEnd s at) refl (part-inside s at) e
   where
     Behind : List ℕ → ℕ → Named
-    Behind l j = peek (named.Stopped Cut) l j (λ (b : ℕ). cond (eqb b 0x3A) (after named.Stopped (partEnd l (j + 1)) (λ (end : ℕ). nameOf at (j + 1) end)) (nameOf at at j))
+    Behind l j = peek (named.Stopped Cut) l j (λ (b : ℕ). cond (eqb b 0x3A) (afterRead named.Stopped (partEnd l (j + 1)) (λ (end : ℕ). nameOf at (j + 1) end)) (nameOf at at j))
 
     first : PartDone s at → NameDone s at
     first p =
@@ -216,18 +216,18 @@ name-completed s at le e = by (partEnd s at) refl (part-inside s at) e
               (record { at = at; part = j + 1; end = length s + length (p .more) }, rw (same, lt-ltb j (length (s ++ t)) (h .0), h .1, c, p .done b u n), refl);
         }
 
-    colon : (j : ℕ) → partEnd s at ≡ read.End j → j < length s → (x : Bool) → eqb (getD s j 0) 0x3A ≡ x → cond x (after named.Stopped (partEnd s (j + 1)) (λ (end : ℕ). nameOf at (j + 1) end)) (nameOf at at j) ≡ named.Stopped Cut → NameDone s at
+    colon : (j : ℕ) → partEnd s at ≡ read.End j → j < length s → (x : Bool) → eqb (getD s j 0) 0x3A ≡ x → cond x (afterRead named.Stopped (partEnd s (j + 1)) (λ (end : ℕ). nameOf at (j + 1) end)) (nameOf at at j) ≡ named.Stopped Cut → NameDone s at
     colon j f lt false c e = let z : _≡_ {A = ℕ} 0 1 = cc in absurd (omega arith)
     colon j f lt true c e = last (partEnd s (j + 1)) refl e
       where
-        last : (r : Read) → partEnd s (j + 1) ≡ r → after named.Stopped r (λ (end : ℕ). nameOf at (j + 1) end) ≡ named.Stopped Cut → NameDone s at
+        last : (r : Read) → partEnd s (j + 1) ≡ r → afterRead named.Stopped r (λ (end : ℕ). nameOf at (j + 1) end) ≡ named.Stopped Cut → NameDone s at
         last (read.End i) g e = let z : _≡_ {A = ℕ} 0 1 = cc in absurd (omega arith)
         last (read.Stopped x) g e = let k : read.Stopped x ≡ read.Stopped Cut = cc in second j f lt c (part-completed s (j + 1) (omega arith) (g ∙ k))
 
-    by : (r : Read) → partEnd s at ≡ r → ReadInside (PartTo s at) s at (partEnd s at) → after named.Stopped r (Behind s) ≡ named.Stopped Cut → NameDone s at
+    by : (r : Read) → partEnd s at ≡ r → ReadInside (PartTo s at) s at (partEnd s at) → afterRead named.Stopped r (Behind s) ≡ named.Stopped Cut → NameDone s at
     by (read.End j) f i e =
         let to : PartTo s at j = subst (ReadInside (PartTo s at) s at) f i in
-        let g : cond (eqb (getD s j 0) 0x3A) (after named.Stopped (partEnd s (j + 1)) (λ (end : ℕ). nameOf at (j + 1) end)) (nameOf at at j) ≡ named.Stopped Cut = rw (lt-ltb j (length s) (to .1)) at e in
+        let g : cond (eqb (getD s j 0) 0x3A) (afterRead named.Stopped (partEnd s (j + 1)) (λ (end : ℕ). nameOf at (j + 1) end)) (nameOf at at j) ≡ named.Stopped Cut = rw (lt-ltb j (length s) (to .1)) at e in
         colon j f (to .1) (eqb (getD s j 0) 0x3A) refl g
     by (read.Stopped x) f i e = let c : read.Stopped x ≡ read.Stopped Cut = cc in first (part-completed s at le (f ∙ c))
 
@@ -328,7 +328,7 @@ module _ (s : List ℕ) (quote : ℕ) where
       (λ e. holds-cond T (isText b) (λ e. omega arith) (λ e. tt))))
       (λ z. omega (arith, eqb-false left 0 z))
     where
-      T : Next ℕ Read → Type 0
+      T : RunNext ℕ Read → Type 0
       T = Turned (λ (q : ℕ). i + 1 + q ≤ length s) (λ (o : Read). Unit {0})
 
       b : ℕ
@@ -346,7 +346,7 @@ module _ (s : List ℕ) (quote : ℕ) where
       (stable-same c (cond (isText (getD s i 0)) (go 0) (stop (read.Stopped (Bad i)))))))
       (stable-same c (go (left - 1)))
     where
-      c : Next ℕ Read
+      c : RunNext ℕ Read
       c = stop (read.Stopped Cut)
 
   -- a machine that stops with `cut` stands at an & that begins no whole reference

@@ -28,12 +28,12 @@ use Rattle.dispatcher.specs.Sessions.{readerOf}
 use Rattle.dispatcher.specs.Stepping.{eventPlace, Step, answered, refusedStep, Run, runOf}
 use Rattle.dispatcher.specs.declared.Session.{Session}
 use Rattle.demands.specs.Scenes.{modelCount}
-use Rattle.demands.specs.Limits.{passed, WithinFirst, Within, FirstLimit, firstPast, eventsWithin, End, readEnd, endOf}
+use Rattle.demands.specs.Limits.{passed, WithinFirst, Within, FirstLimit, firstPast, eventsWithin, End, readEnd, runEnd}
 use Rattle.demands.proofs.Goes.{goes-on}
 use Rattle.demands.proofs.Expected.{count-grows}
 use Rattle.demands.proofs.Limits.{passed-number, next-event, taken-passed, FirstPast, first-past}
 use Rattle.demands.specs.Answers as step
-use Rattle.demands.specs.Answers.{Ready, Starts, Answered, bad-table, long-scene, bad-session, unread, all-read, no-room, written}
+use Rattle.demands.specs.Answers.{Ready, Starts, Answered, bad-table, long-scene, bad-session, unread, all-read, no-room, wrote}
 use Rattle.demands.proofs.Refusals.{answered-by, exactly-9}
 use Rattle.demands.proofs.Runs.{Ended, run-ended, scenes}
 use Rattle.demands.proofs.Accepted.{few, ready, last, limited, stopped, through, reads, no-room-first}
@@ -85,7 +85,7 @@ at-start (unread r n p q a b) lo hi = absurd (omega arith)
 at-start (all-read r p q) lo hi = absurd (omega arith)
 at-start (step.limited r e o q n l a b) lo hi = record { ready = r; tag = e; opens = o; starts = q }
 at-start (no-room r p rs z″ q l) lo hi = absurd (omega arith)
-at-start (written r p rs z″ q l) lo hi = absurd (omega arith)
+at-start (wrote r p rs z″ q l) lo hi = absurd (omega arith)
 
 -- "(< of the tag)"
 pub limited-run : (table s out : List ℕ) →
@@ -173,8 +173,8 @@ module _ (table s out : List ℕ) (ok : Accepted table ≡ true) (short : length
       )
 
   -- with room for the records of the events before the first limit: number, place and events
-  pub run-ends : 16 * modelCount (decode table) s (eventsWithin (decode table) s) ≤ length out → (runOf table s out .answer .number ≡ endOf (decode table) s .number) × (runOf table s out .answer .place ≡ endOf (decode table) s .place) × (runOf table s out .answer .events ≡ eventsWithin (decode table) s)
-  unfolding endOf eventsWithin
+  pub run-ends : 16 * modelCount (decode table) s (eventsWithin (decode table) s) ≤ length out → (runOf table s out .answer .number ≡ runEnd (decode table) s .number) × (runOf table s out .answer .place ≡ runEnd (decode table) s .place) × (runOf table s out .answer .events ≡ eventsWithin (decode table) s)
+  unfolding runEnd eventsWithin
   run-ends room = ends-by (firstPast (decode table) s (length (events s)) 0) (first-past (decode table) s) room
 
   -- without: 25 at the first event whose records do not fit

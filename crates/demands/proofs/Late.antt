@@ -14,12 +14,12 @@ use borrow.Author.Tests.{eqb-true, eqb-false, ltb-true, ltb-false, lt-ltb, lt-le
 use lib.ListN.{length, drop, getD, length-append, length-drop, List·getD-append}
 use lib.Seq.{drop-append-le}
 use lib.Dec.{leb, ltb, eqb}
-use Rattle.laws.specs.Reading.{Next, go, stop, follow, run, peek, le-or-lt, drop-here}
+use Rattle.laws.specs.Reading.{RunNext, go, stop, follow, run, peek, le-or-lt, drop-here}
 use Rattle.laws.specs.Lists.{sameList, any, anyPair}
 use Rattle.laws.proofs.Flags.{differ}
 use Rattle.laws.proofs.Holds.{holds-cond, Turned, run-held}
 use Rattle.laws.proofs.Kept.{Kept}
-use Rattle.lexer.specs.Stops.{after, afterName}
+use Rattle.lexer.specs.Stops.{afterRead, afterName}
 use Rattle.lexer.specs.Names.{isSpace, spaceStep, spacesEnd, startLen, nameLen, partStep, partEnd, nameOf, prefixedAt, nameAt}
 use Rattle.lexer.specs.Values.{references, common, wholeOf, furthest, noReference, referenceEnd, isText, referred, valueStep, valueEnd, textEnd}
 use Rattle.lexer.specs.Tags.{wanted, equalsEnd, attrOf, quotedAt, attributeAt, slashAt, turnBehind, turnAt, TagRead, tagStopped, fullTurn, attrThen, turnThen, attrsFrom, tagAt, endTagAt, tagBegins, beginInside, beginOutside, ending, beginAt}
@@ -47,7 +47,7 @@ use Rattle.lexer.proofs.ValueLaws.{Within, ReferenceTo, reference-inside, refer
 use Rattle.lexer.proofs.Inside.{StopInside, ReadInside, within-read, SpacesTo, spaces-inside, PartTo, part-inside, ByteTo, wanted-inside, EqualsTo, equals-inside, AttrInside, AttributedInside, attribute-inside, TurnInside, slash-inside, turn-inside, TaggedInside, tag-inside, EndedInside, endTag-inside}
 use Rattle.lexer.proofs.Stable.{start-stable, nameLen-stable, CutTag, CutBegin, tag-stable, endTag-stable, begin-stable}
 use Rattle.reader.specs.Spans.{bytesOf, wholeSpan}
-use Rattle.reader.specs.Namespaces.{declarationsOf, refusedBinding, Namespace, ofElement, Attribute, resolved, sameName, sameExpanded, Meaning, refused, meant, meantBy, meaningOf}
+use Rattle.reader.specs.Namespaces.{declarationsOf, refusedBinding, Namespace, ofElement, ReadAttribute, resolved, sameName, sameExpanded, Meaning, refused, meant, meantBy, meaningOf}
 use Rattle.reader.specs.Events as scene
 use Rattle.reader.specs.declared.Binding.{Binding}
 
@@ -106,14 +106,14 @@ ext-bind M L f f′ same late v w (inr l) = inr (late w l)
 
 -- behind what was read: f says what a stop becomes, k and k′ what is read behind an end
 module _ {A : Type 0} (L : A → Type 0) (n : ℕ) (f : Stop → A) (stops : (x : Stop) → LateStop n x → L (f x)) where
-  pub late-after : (k : ℕ → A) → ((j : ℕ) → n ≤ j → L (k j)) → (r : Read) → LateRead n r → L (after f r k)
+  pub late-after : (k : ℕ → A) → ((j : ℕ) → n ≤ j → L (k j)) → (r : Read) → LateRead n r → L (afterRead f r k)
   late-after k h (read.End j) l = h j l
   late-after k h (read.Stopped x) l = stops x l
 
-  pub ext-after : (k k′ : ℕ → A) → ((j : ℕ) → Ext L (k j) (k′ j)) → ((j : ℕ) → n ≤ j → L (k′ j)) → (r r′ : Read) → Ext (LateRead n) r r′ → Ext L (after f r k) (after f r′ k′)
-  ext-after k k′ same late = ext-bind (LateRead n) L (λ (r : Read). after f r k) (λ (r : Read). after f r k′) each (late-after k′ late)
+  pub ext-after : (k k′ : ℕ → A) → ((j : ℕ) → Ext L (k j) (k′ j)) → ((j : ℕ) → n ≤ j → L (k′ j)) → (r r′ : Read) → Ext (LateRead n) r r′ → Ext L (afterRead f r k) (afterRead f r′ k′)
+  ext-after k k′ same late = ext-bind (LateRead n) L (λ (r : Read). afterRead f r k) (λ (r : Read). afterRead f r k′) each (late-after k′ late)
     where
-      each : (r : Read) → Ext L (after f r k) (after f r k′)
+      each : (r : Read) → Ext L (afterRead f r k) (afterRead f r k′)
       each (read.End j) = same j
       each (read.Stopped x) = inl refl
 
@@ -142,7 +142,7 @@ module _ {A : Type 0} (L : A → Type 0) (cut : A) (s t : List ℕ) where
           rw (lt-ltb at (length s) lt, lt-ltb at (length (s ++ t)) more, List·getD-append s t 0 at lt) (same lt (getD s at 0))
 
 -- a machine, of which each scene has its own steps. I: the states in which all that is still said is late
-module _ {St Out : Type 0} (cut : Out) (step step′ : St → ℕ → ℕ → Next St Out) (s t : List ℕ) (I : St → ℕ → Type 0) (L : Out → Type 0) (e : L cut)
+module _ {St Out : Type 0} (cut : Out) (step step′ : St → ℕ → ℕ → RunNext St Out) (s t : List ℕ) (I : St → ℕ → Type 0) (L : Out → Type 0) (e : L cut)
     (turn : (q : St) (i : ℕ) → i < length (s ++ t) → I q i → Turned (λ (q′ : St). I q′ (i + 1)) L (step′ q (getD (s ++ t) i 0) i))
     (begins : (q : St) (i : ℕ) → length s ≤ i → I q i)
     (agree : (q : St) (i : ℕ) → i < length s → (step′ q (getD s i 0) i ≡ step q (getD s i 0) i) ⊎ Turned (λ (q′ : St). I q′ (i + 1)) L (step′ q (getD s i 0) i)) where
@@ -163,16 +163,16 @@ module _ {St Out : Type 0} (cut : Out) (step step′ : St → ℕ → ℕ → Ne
       (next (step q b i) (step′ q b i) (λ (q′ : St). ext-from l q′ (i + 1) rest)
       (subst (λ (x : ℕ). (step′ q x i ≡ step q x i) ⊎ Turned (λ (q′ : St). I q′ (i + 1)) L (step′ q x i)) byte (agree q i lt)))
     where
-      late : (n′ : Next St Out) → Turned (λ (q′ : St). I q′ (i + 1)) L n′ → L (follow n′ (λ (q′ : St). run cut step′ q′ (drop (i + 1) (s ++ t)) (i + 1)))
+      late : (n′ : RunNext St Out) → Turned (λ (q′ : St). I q′ (i + 1)) L n′ → L (follow n′ (λ (q′ : St). run cut step′ q′ (drop (i + 1) (s ++ t)) (i + 1)))
       late (go q′) h = late-run q′ (i + 1) h
       late (stop o) h = h
 
-      same : (n : Next St Out) → ((q′ : St) → Ext L (run cut step q′ l (i + 1)) (run cut step′ q′ (drop (i + 1) (s ++ t)) (i + 1)))
+      same : (n : RunNext St Out) → ((q′ : St) → Ext L (run cut step q′ l (i + 1)) (run cut step′ q′ (drop (i + 1) (s ++ t)) (i + 1)))
           → Ext L (follow n (λ (q′ : St). run cut step q′ l (i + 1))) (follow n (λ (q′ : St). run cut step′ q′ (drop (i + 1) (s ++ t)) (i + 1)))
       same (go q′) ih = ih q′
       same (stop o) ih = inl refl
 
-      next : (n n′ : Next St Out) → ((q′ : St) → Ext L (run cut step q′ l (i + 1)) (run cut step′ q′ (drop (i + 1) (s ++ t)) (i + 1)))
+      next : (n n′ : RunNext St Out) → ((q′ : St) → Ext L (run cut step q′ l (i + 1)) (run cut step′ q′ (drop (i + 1) (s ++ t)) (i + 1)))
           → (n′ ≡ n) ⊎ Turned (λ (q′ : St). I q′ (i + 1)) L n′
           → Ext L (follow n (λ (q′ : St). run cut step q′ l (i + 1))) (follow n′ (λ (q′ : St). run cut step′ q′ (drop (i + 1) (s ++ t)) (i + 1)))
       next n n′ ih (inl e) = rw e (same n ih)
@@ -340,7 +340,7 @@ module _ (s t : List ℕ) where
       (λ e. holds-cond T (eqb (startLen (s ++ t) i) 0) (λ e. h) (λ e. omega arith))
       (λ e. holds-cond T (eqb (nameLen (s ++ t) i) 0) (λ e. h) (λ e. holds-cond T (eqb room 0) (λ e. h) (λ e. omega arith)))
     where
-      T : Next ℕ Read → Type 0
+      T : RunNext ℕ Read → Type 0
       T = Turned (λ (q′ : ℕ). length s ≤ i + 1) (LateRead (length s))
 
   part-agree : (room i : ℕ) → i < length s → (partStep (s ++ t) room (getD s i 0) i ≡ partStep s room (getD s i 0) i) ⊎ Turned (λ (q′ : ℕ). length s ≤ i + 1) (LateRead (length s)) (partStep (s ++ t) room (getD s i 0) i)
@@ -361,7 +361,7 @@ module _ (s t : List ℕ) where
       (λ e. holds-cond T (isText b) (λ e. omega arith) (λ e. le))))
       (λ z. omega (arith, eqb-false left 0 z))
     where
-      T : Next ℕ Read → Type 0
+      T : RunNext ℕ Read → Type 0
       T = Turned (λ (q′ : ℕ). length s ≤ i + 1 + q′) (LateRead (length s))
 
       b : ℕ
@@ -380,7 +380,7 @@ module _ (s t : List ℕ) where
       (ext-cond T (eqb (getD s i 0) 0x26) (ext-bind (LateRead (length s)) T (referred i) (referred i) (λ r. inl refl) late (referenceEnd s i) (referenceEnd (s ++ t) i) (reference-ext s t i (omega arith))) (inl refl)))
       (inl refl)
     where
-      T : Next ℕ Read → Type 0
+      T : RunNext ℕ Read → Type 0
       T = Turned (λ (q′ : ℕ). length s ≤ i + 1 + q′) (LateRead (length s))
 
       late : (r : Read) → LateRead (length s) r → T (referred i r)
@@ -442,10 +442,10 @@ module _ (s t : List ℕ) where
       L = LateRead (length s)
 
       behind : List ℕ → ℕ → Read
-      behind l i = after read.Stopped (wanted l i 0x3D) (λ (j : ℕ). spacesEnd l j)
+      behind l i = afterRead read.Stopped (wanted l i 0x3D) (λ (j : ℕ). spacesEnd l j)
 
   -- the quote, and the value behind it
-  quote-late : (name : Name) (at : ℕ) → length s ≤ at → (q : ℕ) → LateAttributed (length s) (cond (eqb q 0x22 || eqb q 0x27) (after attributed.Stopped (valueEnd (s ++ t) (at + 1) q) (λ (stop : ℕ). attributed.Got (attrOf name (at + 1) stop))) (attributed.Stopped (Bad at)))
+  quote-late : (name : Name) (at : ℕ) → length s ≤ at → (q : ℕ) → LateAttributed (length s) (cond (eqb q 0x22 || eqb q 0x27) (afterRead attributed.Stopped (valueEnd (s ++ t) (at + 1) q) (λ (stop : ℕ). attributed.Got (attrOf name (at + 1) stop))) (attributed.Stopped (Bad at)))
   quote-late name at le q =
       holds-cond (LateAttributed (length s)) (eqb q 0x22 || eqb q 0x27)
       (λ e. late-after (LateAttributed (length s)) (length s) attributed.Stopped (λ x l. l) (λ (stop : ℕ). attributed.Got (attrOf name (at + 1) stop)) (λ j l. l) (valueEnd (s ++ t) (at + 1) q) (value-late (s ++ t) (length s) (at + 1) (omega arith) q))
@@ -469,7 +469,7 @@ module _ (s t : List ℕ) where
       L = LateAttributed (length s)
 
       f : List ℕ → ℕ → Attributed
-      f l q = cond (eqb q 0x22 || eqb q 0x27) (after attributed.Stopped (valueEnd l (at + 1) q) (λ (stop : ℕ). attributed.Got (attrOf name (at + 1) stop))) (attributed.Stopped (Bad at))
+      f l q = cond (eqb q 0x22 || eqb q 0x27) (afterRead attributed.Stopped (valueEnd l (at + 1) q) (λ (stop : ℕ). attributed.Got (attrOf name (at + 1) stop))) (attributed.Stopped (Bad at))
 
   attribute-ext : (at : ℕ) → Ext (LateAttributed (length s)) (attributeAt s at) (attributeAt (s ++ t) at)
   unfolding attributeAt
@@ -485,7 +485,7 @@ module _ (s t : List ℕ) where
       L = LateAttributed (length s)
 
       f : List ℕ → Name → Attributed
-      f l name = after attributed.Stopped (equalsEnd l (name .end)) (λ (quote : ℕ). quotedAt l name quote)
+      f l name = afterRead attributed.Stopped (equalsEnd l (name .end)) (λ (quote : ℕ). quotedAt l name quote)
 
   -- ---- what stands behind a tag's name or an attribute
   slash-ext : (at : ℕ) → Ext (LateTurn (length s)) (slashAt s at) (slashAt (s ++ t) at)
@@ -615,10 +615,10 @@ module _ (s t : List ℕ) where
       got name next = ended.Got (record { name = name; next = next })
 
       g : List ℕ → Name → ℕ → Ended
-      g l name i = after ended.Stopped (wanted l i 0x3E) (got name)
+      g l name i = afterRead ended.Stopped (wanted l i 0x3E) (got name)
 
       f : List ℕ → Name → Ended
-      f l name = after ended.Stopped (spacesEnd l (name .end)) (g l name)
+      f l name = afterRead ended.Stopped (spacesEnd l (name .end)) (g l name)
 
       late : (name : Name) (i : ℕ) → length s ≤ i → L (g (s ++ t) name i)
       late name i le = late-after L (length s) ended.Stopped (λ x l. l) (got name) (λ j l. tt) (wanted (s ++ t) i 0x3E) (wanted-late (s ++ t) (length s) i le 0x3E)
@@ -716,7 +716,7 @@ meaning-number s bs n attrs =
     holds-cond MeaningNumber (any (refusedBinding s) (declarationsOf s attrs)) (λ e. omega arith)
     (λ e. by (ofElement s (bs ++ declarationsOf s attrs) n) (resolved s (bs ++ declarationsOf s attrs) attrs))
   where
-    by : (o : Option Namespace) (r : Option (List Attribute)) → MeaningNumber (meantBy s attrs (declarationsOf s attrs) o r)
+    by : (o : Option Namespace) (r : Option (List ReadAttribute)) → MeaningNumber (meantBy s attrs (declarationsOf s attrs) o r)
     by none r = omega arith
     by (some m) none = omega arith
     by (some m) (some as′) = holds-cond MeaningNumber (anyPair (sameName s) attrs || anyPair (sameExpanded s) as′) (λ e. omega arith) (λ e. tt)

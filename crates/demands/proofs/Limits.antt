@@ -30,7 +30,7 @@ use Rattle.model.specs.Theory.{Record}
 use Rattle.model.specs.Tree.{start, text, end}
 use Rattle.model.specs.Records.{Body}
 use Rattle.model.specs.Elements.{elementOf}
-use Rattle.model.specs.Stream.{State, Entry, enter, written, after, reached}
+use Rattle.model.specs.Stream.{State, Entry, entriesAt, written, after, reached}
 use Rattle.model.specs.Dispatch.{dispatch, told}
 use Rattle.model.proofs.Steps as stream
 use Rattle.model.proofs.Assigned.{modesAt}
@@ -103,7 +103,7 @@ module _ (table : List ℕ) (ok : Accepted table ≡ true) (s : List ℕ) (short
 
   -- what the model's measures of a start are in the session
   start-passed : (e : scene.Start) (z′ : ReaderState) (o : scene.Open) → next s (readerOf z) ≡ scene.event (scene.start e) z′ → z′ .opened ≡ o ∷ opensOf (z .scope)
-      → passed t s k ≡ numberBy (leb 64 (z .scope .depth)) (ltb 64 (z .scope .bound + length (o .declarations))) (ltb 16 (length (enter (dispatch t) (stateOf t s z .levels) (elementOf t s e)))) (ltb 65536 (after (dispatch t) (stateOf t s z) (start (elementOf t s e)) .units))
+      → passed t s k ≡ numberBy (leb 64 (z .scope .depth)) (ltb 64 (z .scope .bound + length (o .declarations))) (ltb 16 (length (entriesAt (dispatch t) (stateOf t s z .levels) (elementOf t s e)))) (ltb 65536 (after (dispatch t) (stateOf t s z) (start (elementOf t s e)) .units))
   unfolding passed after bindingsOf
   start-passed e z′ o q opens =
       let σ = elementOf t s e in
@@ -119,11 +119,11 @@ module _ (table : List ℕ) (ok : Accepted table ≡ true) (s : List ℕ) (short
       let bound : boundAt s k ≡ z .scope .bound + length (o .declarations) =
       ap (λ (y : ReaderState). length (bindingsOf (y .opened))) reader-on ∙ ap (λ (l : List scene.Open). length (bindingsOf l)) opens
       ∙ length-append (bindingsOf (opensOf (z .scope))) (o .declarations) ∙ ap (λ (n : ℕ). n + length (o .declarations)) (bound-is t s z (h .sound)) in
-      let strands : strandsAt t s k ≡ length (enter (dispatch t) (stateOf t s z .levels) σ) =
+      let strands : strandsAt t s k ≡ length (entriesAt (dispatch t) (stateOf t s z .levels) σ) =
       strands-are t s k lt (scene.start e)
       ∙ ap (λ (x : scene.Event). length (modesAt (dispatch t) (streamAfter t s k) (told t s x))) (next-event t s z k rs h (scene.start e) z′ q (scene.start e))
-      ∙ length-map (enter (dispatch t) (streamAfter t s k .levels) σ) (λ (x : Entry). x .strand .mode)
-      ∙ ap (λ (y : State (dispatch t)). length (enter (dispatch t) (y .levels) σ)) (sym (h .ran .state)) in
+      ∙ length-map (entriesAt (dispatch t) (streamAfter t s k .levels) σ) (λ (x : Entry). x .strand .mode)
+      ∙ ap (λ (y : State (dispatch t)). length (entriesAt (dispatch t) (y .levels) σ)) (sym (h .ran .state)) in
       let units : unitsAt t s k ≡ after (dispatch t) (stateOf t s z) (start σ) .units = units-are t s k lt (one table ok) ∙ ap (λ (y : State (dispatch t)). y .units) state-on in
       rw (depth, bound, strands, units, leb·suc-suc 64 (z .scope .depth))
 
@@ -164,7 +164,7 @@ module _ (table : List ℕ) (ok : Accepted table ≡ true) (s : List ℕ) (short
       let number = start-passed e z′ o q (g .0 .1) in
       let σ = elementOf t s e in
       let state = stateOf t s z in
-      let r = by-limits (leb 64 (z .scope .depth)) (ltb 64 (z .scope .bound + length (o .declarations))) (ltb 16 (length (enter (dispatch t) (state .levels) σ))) (ltb 65536 (after (dispatch t) state (start σ) .units)) _ (e .at) in
+      let r = by-limits (leb 64 (z .scope .depth)) (ltb 64 (z .scope .bound + length (o .declarations))) (ltb 16 (length (entriesAt (dispatch t) (state .levels) σ))) (ltb 65536 (after (dispatch t) state (start σ) .units)) _ (e .at) in
       (λ n. plan ∙ r .0 (λ x. n (number ∙ x)) ∙ ap (λ (m : ℕ). refused m (e .at)) (sym number), λ n. record { records = _; session = _; is = plan ∙ r .1 (sym number ∙ n) })
 
   pub reached-ready : Ready table s z
@@ -178,7 +178,7 @@ module _ (table : List ℕ) (ok : Accepted table ≡ true) (s : List ℕ) (short
       let l = limited-step (getD (events s) k d) (x .0) (x .1) in (
         λ n. step-planned table s z out reached-ready ∙ ap (λ (y : Plan). planned y z out) (l .0 n),
         λ n. let p = l .1 n in ⊎-elim
-            (λ le. inl (ap (λ (r : Step). r .answer .number) (answered-so table s z out (step.written reached-ready _ (p .records) (p .session) (p .is) le))))
+            (λ le. inl (ap (λ (r : Step). r .answer .number) (answered-so table s z out (step.wrote reached-ready _ (p .records) (p .session) (p .is) le))))
             (λ gt. inr (ap (λ (r : Step). r .answer .number) (answered-so table s z out (step.no-room reached-ready _ (p .records) (p .session) (p .is) gt))))
             (le-or-lt (16 * length (p .records)) (length out)),
       )

@@ -26,10 +26,10 @@ use Rattle.reader.specs.Scope.{opensOf}
 use Rattle.reader.proofs.Held.{held-fresh}
 use Rattle.reader.proofs.Opens.{opens-bindings}
 use Rattle.reader.proofs.EventsFirst.{stateThen, stateAfter, state-more, event-at, events-end}
-use Rattle.model.specs.Tree.{Event, start, text, end, stillOpen, completed, treeOf}
+use Rattle.model.specs.Tree.{TreeEvent, start, text, end, stillOpen, completed, treeOf}
 use Rattle.model.specs.Elements.{Element, elementOf}
-use Rattle.model.specs.Stream.{Level, State, Entry, enter, after, reached, Strand}
-use Rattle.model.specs.Model.{at, opened, modelOf, assignedOf, OneKeeps}
+use Rattle.model.specs.Stream.{Level, State, Entry, entriesAt, after, reached, HeldStrand}
+use Rattle.model.specs.Model.{assignedAt, unitsOpened, modelOf, assignedOf, OneKeeps}
 use Rattle.model.specs.Dispatch.{dispatch, told}
 use Rattle.model.proofs.Attributes.{agree}
 use Rattle.model.proofs.Cut.{IsPrefix}
@@ -128,7 +128,7 @@ module _ (t : Table) (s : List ℕ) where
   module _ (k : ℕ) (lt : k < length (events s)) where
     pub depth-is : depthAt t s k ≡ length (streamAfter t s (suc k) .levels)
     depth-is =
-        ap (λ (es : List (Event (dispatch t))). length (stillOpen (dispatch t) [] es)) (take-told (told t s) (suc k) (events s))
+        ap (λ (es : List (TreeEvent (dispatch t))). length (stillOpen (dispatch t) [] es)) (take-told (told t s) (suc k) (events s))
         ∙ sym (ap length (levels-open (dispatch t) (toldFirst t s (suc k))))
         ∙ length-map (streamAfter t s (suc k) .levels) (λ (l : Level (dispatch t)). l .at)
 
@@ -138,9 +138,9 @@ module _ (t : Table) (s : List ℕ) where
         let e = told t s (getD (events s) k d) in
         let rest = map (told t s) (drop (suc k) (events s)) in
         let split : toldAll t s ≡ first ++ (e ∷ rest) = ap (map (told t s)) (split-at (events s) k d lt) ∙ map-append (told t s) (take k (events s)) (getD (events s) k d ∷ drop (suc k) (events s)) in
-        ap (λ (es : List (Event (dispatch t))). length (getD (assignedOf (dispatch t) (treeOf (dispatch t) (completed (dispatch t) es))) k (at 0 [] []) .strands)) split
-        ∙ ap (λ (i : ℕ). length (getD (assignedOf (dispatch t) (treeOf (dispatch t) (completed (dispatch t) (first ++ (e ∷ rest))))) i (at 0 [] []) .strands)) (sym (told-first-length t s k (omega arith)))
-        ∙ assigned-count (dispatch t) first rest e (subst (IsPrefix (dispatch t)) split whole-prefix) (at 0 [] [])
+        ap (λ (es : List (TreeEvent (dispatch t))). length (getD (assignedOf (dispatch t) (treeOf (dispatch t) (completed (dispatch t) es))) k (assignedAt 0 [] []) .strands)) split
+        ∙ ap (λ (i : ℕ). length (getD (assignedOf (dispatch t) (treeOf (dispatch t) (completed (dispatch t) (first ++ (e ∷ rest))))) i (assignedAt 0 [] []) .strands)) (sym (told-first-length t s k (omega arith)))
+        ∙ assigned-count (dispatch t) first rest e (subst (IsPrefix (dispatch t)) split whole-prefix) (assignedAt 0 [] [])
 
     module _ (one : (m : ℕ) (e : Element) → OneKeeps (rulesOf t m 0 (e .space .class))) where
       pub units-are : unitsAt t s k ≡ streamAfter t s (suc k) .units
@@ -148,24 +148,24 @@ module _ (t : Table) (s : List ℕ) where
           let first = toldFirst t s (suc k) in
           let rest = map (told t s) (drop (suc k) (events s)) in
           let split : toldAll t s ≡ first ++ rest = ap (map (told t s)) (sym (take-append-drop (suc k) (events s))) ∙ map-append (told t s) (take (suc k) (events s)) (drop (suc k) (events s)) in
-          ap (λ (es : List (Event (dispatch t))). length (opened (gather (λ x. x) (take (suc k) (modelOf (dispatch t) (treeOf (dispatch t) (completed (dispatch t) es))))))) split
-          ∙ ap (λ (i : ℕ). length (opened (gather (λ x. x) (take i (modelOf (dispatch t) (treeOf (dispatch t) (completed (dispatch t) (first ++ rest)))))))) (sym (told-first-length t s (suc k) (omega arith)))
+          ap (λ (es : List (TreeEvent (dispatch t))). length (unitsOpened (gather (λ x. x) (take (suc k) (modelOf (dispatch t) (treeOf (dispatch t) (completed (dispatch t) es))))))) split
+          ∙ ap (λ (i : ℕ). length (unitsOpened (gather (λ x. x) (take i (modelOf (dispatch t) (treeOf (dispatch t) (completed (dispatch t) (first ++ rest)))))))) (sym (told-first-length t s (suc k) (omega arith)))
           ∙ model-units (dispatch t) one (agree t) first rest (subst (IsPrefix (dispatch t)) split whole-prefix)
 
       few-strands : (e : scene.Event) → streamAfter t s (suc k) ≡ after (dispatch t) (streamAfter t s k) (told t s e) → WithinAt t s k → WithinAt t s (suc k) → length (modesAt (dispatch t) (streamAfter t s k) (told t s e)) ≤ 16
       unfolding after
       few-strands (scene.start e) on w w′ =
-          omega (arith, length-map (enter (dispatch t) (streamAfter t s k .levels) (elementOf t s e)) (λ (x : Entry). x .strand .mode), w′ .strands, ap (λ (y : State (dispatch t)). innermost t (y .levels)) on, new-length t (streamAfter t s k) (elementOf t s e))
+          omega (arith, length-map (entriesAt (dispatch t) (streamAfter t s k .levels) (elementOf t s e)) (λ (x : Entry). x .strand .mode), w′ .strands, ap (λ (y : State (dispatch t)). innermost t (y .levels)) on, new-length t (streamAfter t s k) (elementOf t s e))
       few-strands (scene.text v) on w w′ = omega (arith, inner-text (streamAfter t s k .levels) (streamAfter t s k .units) v, w .strands)
         where
           inner-text : (ls : List (Level (dispatch t))) (u : ℕ) (v : Span) → length (modesAt (dispatch t) (record { levels = ls; units = u }) (text v)) ≡ innermost t ls
           inner-text [] u v = refl
-          inner-text (l ∷ ls) u v = length-map (l .strands) (λ (x : Strand ℕ). x .mode)
+          inner-text (l ∷ ls) u v = length-map (l .strands) (λ (x : HeldStrand ℕ). x .mode)
       few-strands (scene.end part place) on w w′ = omega (arith, inner-end (streamAfter t s k .levels) (streamAfter t s k .units) part, w .strands)
         where
           inner-end : (ls : List (Level (dispatch t))) (u : ℕ) (v : Span) → length (modesAt (dispatch t) (record { levels = ls; units = u }) (end v)) ≡ innermost t ls
           inner-end [] u v = refl
-          inner-end (l ∷ ls) u v = length-map (l .strands) (λ (x : Strand ℕ). x .mode)
+          inner-end (l ∷ ls) u v = length-map (l .strands) (λ (x : HeldStrand ℕ). x .mode)
 
       pub within-passed : WithinAt t s k → WithinAt t s (suc k) → passed t s k ≡ 0
       unfolding passed

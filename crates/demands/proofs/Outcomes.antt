@@ -14,13 +14,13 @@ use Rattle.table.specs.Judge.{judged, Accepted}
 use Rattle.reader.specs.Events as scene
 use Rattle.model.specs.Theory.{Record}
 use Rattle.model.specs.Records.{Body}
-use Rattle.model.specs.Dispatch.{bytesOf}
+use Rattle.model.specs.Dispatch.{recordBytesOf}
 use Rattle.dispatcher.specs.Sessions.{readerOf}
 use Rattle.dispatcher.specs.Stepping.{event, planOf, Step, answered, refusedStep, stepOf}
 use Rattle.dispatcher.specs.declared.Session.{Session}
 use Rattle.dispatcher.proofs.Sound.{Sound}
 use Rattle.dispatcher.proofs.SoundCoherent.{sound-coherent}
-use Rattle.demands.specs.Answers.{Answered, bad-table, long-scene, bad-session, unread, all-read, limited, no-room, written}
+use Rattle.demands.specs.Answers.{Answered, bad-table, long-scene, bad-session, unread, all-read, limited, no-room, wrote}
 use Rattle.demands.proofs.Refusals.{answered-by}
 
 -- what a number that is not 0 says of the reader: 9 and 1 to 6 are its own
@@ -33,7 +33,7 @@ pub record Said (s : List ℕ) (w : scene.ReaderState) (n p : ℕ) : Type 0 wher
 pub data Outcome (table s : List ℕ) (z : Session) (out : List ℕ) : Step → Type 0 where
   refuses : (n p : ℕ) → Said s (readerOf z) n p → Outcome table s z out (refusedStep n p z out)
   accepts : Accepted table ≡ true → length s ≤ 16777215 → (p : ℕ) (rs : List (Record Body ℕ)) (z″ : Session) → planOf (decode table) s z ≡ event p rs z″ → 16 * length rs ≤ length out
-      → Outcome table s z out (record { answer = answered 0 (z″ .place) 1 (length rs); session = z″; output = overwrite out 0 (gather bytesOf rs) })
+      → Outcome table s z out (record { answer = answered 0 (z″ .place) 1 (length rs); session = z″; output = overwrite out 0 (gather recordBytesOf rs) })
 
 pub outcome : (table s : List ℕ) (z : Session) (out : List ℕ) → Sound (decode table) s z → Outcome table s z out (stepOf table s z out)
 outcome table s z out h = by (answered-by table s z out)
@@ -50,4 +50,4 @@ outcome table s z out h = by (answered-by table s z out)
     by (all-read r p q) = refuses 9 p (record { not-event = omega arith; not-20 = omega arith; ends = λ n. q; reads = λ l. absurd (omega arith) })
     by (limited r e o q n l lo hi) = above n (e .at) (omega arith) (omega arith) (omega arith)
     by (no-room r p rs z″ q l) = above 25 p (omega arith) (omega arith) (omega arith)
-    by (written r p rs z″ q l) = accepts (eq-eqb (judged table .number) 0 (r .accepted)) (r .short) p rs z″ q l
+    by (wrote r p rs z″ q l) = accepts (eq-eqb (judged table .number) 0 (r .accepted)) (r .short) p rs z″ q l

@@ -20,7 +20,7 @@ use Rattle.reader.specs.Held.{Held}
 use Rattle.reader.proofs.Held.{EventHeld, held-fresh, held-next, event-inside}
 use Rattle.reader.proofs.EventsFirst.{events-first, stateAfter, event-at}
 use Rattle.model.specs.Theory.{Theory}
-use Rattle.model.specs.Tree.{Event, start, text, end, stillOpen}
+use Rattle.model.specs.Tree.{TreeEvent, start, text, end, stillOpen}
 use Rattle.model.specs.Records.{OpenElement}
 use Rattle.model.specs.Dispatch.{dispatch, told}
 use Rattle.model.proofs.Cut.{IsPrefix}
@@ -29,7 +29,7 @@ use Rattle.dispatcher.proofs.MoreScene.{told-more}
 use Rattle.demands.proofs.Goes.{Goes, event-goes, then-closed, not-closed, Onward, state-count, goes-on}
 
 -- the first k events of a scene as the dispatcher takes them
-abbrev pub toldFirst : (t : Table) → List ℕ → ℕ → List (Event (dispatch t))
+abbrev pub toldFirst : (t : Table) → List ℕ → ℕ → List (TreeEvent (dispatch t))
 toldFirst t s k = map (told t s) (take k (events s))
 
 pub told-first-on : (t : Table) (s : List ℕ) (k : ℕ) (e : scene.Event) (w : ReaderState) → Onward s k e w → toldFirst t s (k + 1) ≡ toldFirst t s k ++ (told t s e ∷ [])
@@ -61,9 +61,9 @@ told-first-more t s r k le =
     ap (map (told t (s ++ r))) same ∙ told-same t s r k (events s) (events-held s _ freshReader (held-fresh s))
 
 -- ---- by the reader's state
-still-open-on : (Θ : Theory) (es : List (Event Θ)) (e : Event Θ) (around : List (Θ .Kept)) → stillOpen Θ around (es ++ (e ∷ [])) ≡ stillOpen Θ (stillOpen Θ around es) (e ∷ [])
+still-open-on : (Θ : Theory) (es : List (TreeEvent Θ)) (e : TreeEvent Θ) (around : List (Θ .Kept)) → stillOpen Θ around (es ++ (e ∷ [])) ≡ stillOpen Θ (stillOpen Θ around es) (e ∷ [])
 still-open-on Θ [] e around = refl
-still-open-on Θ (start σ ∷ es) e around = still-open-on Θ es e (Θ .keep σ ∷ around)
+still-open-on Θ (start σ ∷ es) e around = still-open-on Θ es e (Θ .keptOf σ ∷ around)
 still-open-on Θ (text τ ∷ es) e around = still-open-on Θ es e around
 still-open-on Θ (end ε ∷ es) e around = still-open-on Θ es e (tail around)
 
@@ -98,7 +98,7 @@ module _ (t : Table) (s : List ℕ) where
         none [] e = refl
         none (o ∷ os) e = absurd (omega arith)
 
-        by : (es : List (Event (dispatch t))) (around : List OpenElement) → length es ≡ k → length around ≡ length (w .opened) → (e : scene.Event) → Goes w (scene.event e w′) → (w .opened ≡ [] → w .closed ≡ false) → MayFollow (dispatch t) es around (told t s e)
+        by : (es : List (TreeEvent (dispatch t))) (around : List OpenElement) → length es ≡ k → length around ≡ length (w .opened) → (e : scene.Event) → Goes w (scene.event e w′) → (w .opened ≡ [] → w .closed ≡ false) → MayFollow (dispatch t) es around (told t s e)
         by [] around m o (scene.start e) g c = tt
         by [] around m o (scene.text v) g c = g .0 (first (sym m))
         by [] around m o (scene.end part at) g c = g .0 (first (sym m))

@@ -25,13 +25,13 @@ use Rattle.model.specs.Theory.{Record}
 use Rattle.model.specs.Tree.{start}
 use Rattle.model.specs.Elements.{elementOf}
 use Rattle.model.specs.Records.{Body, recordBytes}
-use Rattle.model.specs.Stream.{enter, after}
-use Rattle.model.specs.Dispatch.{dispatch, bytesOf}
+use Rattle.model.specs.Stream.{entriesAt, after}
+use Rattle.model.specs.Dispatch.{dispatch, recordBytesOf}
 use Rattle.dispatcher.specs.Sessions.{readerOf, stateOf}
 use Rattle.dispatcher.specs.Coherence.{coherent}
 use Rattle.dispatcher.specs.Stepping.{Plan, refused, finished, event, startPlan, ownDeclarations, planBy, planOf, Step, answered, refusedStep, eventStep, planned, longest, stepOf}
 use Rattle.dispatcher.specs.declared.Session.{Session}
-use Rattle.demands.specs.Answers.{Ready, Deep, Full, Crowded, Spent, Limit, Starts, Answered, bad-table, long-scene, bad-session, unread, all-read, limited, no-room, written, Unchanged, Changed, Exactly, ExactlyAt, Unread, AllRead, NoRoom}
+use Rattle.demands.specs.Answers.{Ready, Deep, Full, Crowded, Spent, Limit, Starts, Answered, bad-table, long-scene, bad-session, unread, all-read, limited, no-room, wrote, Unchanged, Changed, Exactly, ExactlyAt, Unread, AllRead, NoRoom}
 use Rattle.demands.proofs.Goes.{event-goes}
 use Rattle.demands.proofs.CoherentHeld.{coherent-held}
 
@@ -60,14 +60,14 @@ module _ (table s : List ℕ) (z : Session) (out : List ℕ) where
     by-event p rs z″ q =
         holds-cond (Answered table s z out) (ltb (length out) (16 * length rs))
         (λ l. no-room r p rs z″ q (ltb-true (length out) (16 * length rs) l))
-        (λ l. written r p rs z″ q (ltb-false (length out) (16 * length rs) l))
+        (λ l. wrote r p rs z″ q (ltb-false (length out) (16 * length rs) l))
 
     by-start : (e : scene.Start) (o : scene.Open) (place : ℕ) → Starts s z e o → planOf (decode table) s z ≡ startPlan (decode table) s z e (o .declarations) place → Answered table s z out (planned (startPlan (decode table) s z e (o .declarations) place) z out)
     unfolding startPlan
     by-start e o place q plan =
         let t = decode table in
         let state = stateOf t s z in
-        let strands = length (enter (dispatch t) (state .levels) (elementOf t s e)) in
+        let strands = length (entriesAt (dispatch t) (state .levels) (elementOf t s e)) in
         let units = after (dispatch t) state (start (elementOf t s e)) .units in
         let bound = z .scope .bound + length (o .declarations) in
         holds-cond (λ (x : Plan). planOf t s z ≡ x → Answered table s z out (planned x z out)) (leb 64 (z .scope .depth))
@@ -132,9 +132,9 @@ module _ (table s : List ℕ) (z : Session) (out : List ℕ) where
   limit-plan e o place n (inl (q, d)) = rw (le-leb 64 (z .scope .depth) d, q)
   limit-plan e o place n (inr (inl (q, h))) = rw (lt-leb 64 (z .scope .depth) (h .0), lt-ltb 64 (z .scope .bound + length (o .declarations)) (h .1), q)
   limit-plan e o place n (inr (inr (inl (q, h)))) =
-      rw (lt-leb 64 (z .scope .depth) (h .0), le-ltb 64 (z .scope .bound + length (o .declarations)) (h .1), lt-ltb 16 (length (enter (dispatch (decode table)) (stateOf (decode table) s z .levels) (elementOf (decode table) s e))) (h .2), q)
+      rw (lt-leb 64 (z .scope .depth) (h .0), le-ltb 64 (z .scope .bound + length (o .declarations)) (h .1), lt-ltb 16 (length (entriesAt (dispatch (decode table)) (stateOf (decode table) s z .levels) (elementOf (decode table) s e))) (h .2), q)
   limit-plan e o place n (inr (inr (inr (q, h)))) =
-      rw (lt-leb 64 (z .scope .depth) (h .0), le-ltb 64 (z .scope .bound + length (o .declarations)) (h .1), le-ltb 16 (length (enter (dispatch (decode table)) (stateOf (decode table) s z .levels) (elementOf (decode table) s e))) (h .2), lt-ltb 65536 (after (dispatch (decode table)) (stateOf (decode table) s z) (start (elementOf (decode table) s e)) .units) (h .3), q)
+      rw (lt-leb 64 (z .scope .depth) (h .0), le-ltb 64 (z .scope .bound + length (o .declarations)) (h .1), le-ltb 16 (length (entriesAt (dispatch (decode table)) (stateOf (decode table) s z .levels) (elementOf (decode table) s e))) (h .2), lt-ltb 65536 (after (dispatch (decode table)) (stateOf (decode table) s z) (start (elementOf (decode table) s e)) .units) (h .3), q)
 
   starts-plan : (e : scene.Start) (o : scene.Open) (q : Starts s z e o) → planOf (decode table) s z ≡ startPlan (decode table) s z e (o .declarations) (q .behind .place)
   starts-plan e o q = plan-next (scene.event (scene.start e) (q .behind)) (q .told) ∙ ap (λ (os : List scene.Open). startPlan (decode table) s z e (ownDeclarations os) (q .behind .place)) (q .opens)
@@ -148,10 +148,10 @@ module _ (table s : List ℕ) (z : Session) (out : List ℕ) where
   answered-so (all-read r p q) = step-planned r ∙ ap (λ (x : Plan). planned x z out) (plan-next (scene.finished p) q)
   answered-so (limited r e o q n l lo hi) = step-planned r ∙ ap (λ (x : Plan). planned x z out) (starts-plan e o q ∙ limit-plan e o (q .behind .place) n l)
   answered-so (no-room r p rs z″ q l) = step-planned r ∙ ap (λ (x : Plan). planned x z out) q ∙ rw (lt-ltb (length out) (16 * length rs) l)
-  answered-so (written r p rs z″ q l) = step-planned r ∙ ap (λ (x : Plan). planned x z out) q ∙ rw (le-ltb (length out) (16 * length rs) l)
+  answered-so (wrote r p rs z″ q l) = step-planned r ∙ ap (λ (x : Plan). planned x z out) q ∙ rw (le-ltb (length out) (16 * length rs) l)
 
 -- ---- what a step changes
-pub records-length : (rs : List (Record Body ℕ)) → length (gather bytesOf rs) ≡ 16 * length rs
+pub records-length : (rs : List (Record Body ℕ)) → length (gather recordBytesOf rs) ≡ 16 * length rs
 unfolding gather recordBytes
 records-length [] = refl
 records-length (r ∷ rs) = simp length-append (omega (arith, records-length rs))
@@ -165,7 +165,7 @@ module _ (table s : List ℕ) (z : Session) (out : List ℕ) where
   keeps (all-read r p q) n = record { session = refl; output = refl; events = refl; records = refl }
   keeps (limited r e o q k l lo hi) n = record { session = refl; output = refl; events = refl; records = refl }
   keeps (no-room r p rs z″ q l) n = record { session = refl; output = refl; events = refl; records = refl }
-  keeps (written r p rs z″ q l) n = absurd (n refl)
+  keeps (wrote r p rs z″ q l) n = absurd (n refl)
 
   writes : {r : Step} → Answered table s z out r → r .answer .number ≡ 0 → Ready table s z × Changed (decode table) s z out r
   writes (bad-table lo hi) n = absurd (omega arith)
@@ -175,9 +175,9 @@ module _ (table s : List ℕ) (z : Session) (out : List ℕ) where
   writes (all-read r p q) n = absurd (omega arith)
   writes (limited r e o q k l lo hi) n = absurd (omega arith)
   writes (no-room r p rs z″ q l) n = absurd (omega arith)
-  writes (written r p rs z″ q l) n =
-      let size : length (gather bytesOf rs) ≡ 16 * length rs = records-length rs in
-      let from : 0 + length (gather bytesOf rs) ≡ 16 * length rs = omega arith in (
+  writes (wrote r p rs z″ q l) n =
+      let size : length (gather recordBytesOf rs) ≡ 16 * length rs = records-length rs in
+      let from : 0 + length (gather recordBytesOf rs) ≡ 16 * length rs = omega arith in (
         r,
         record {
           at = p;
@@ -189,8 +189,8 @@ module _ (table s : List ℕ) (z : Session) (out : List ℕ) where
           room = l;
           output = refl;
           bytes = size;
-          rest = subst (λ (k : ℕ). drop k (overwrite out 0 (gather bytesOf rs)) ≡ drop k out) from (drop-over out 0 (gather bytesOf rs) (omega arith));
-          size = length-over out 0 (gather bytesOf rs) (omega arith);
+          rest = subst (λ (k : ℕ). drop k (overwrite out 0 (gather recordBytesOf rs)) ≡ drop k out) from (drop-over out 0 (gather recordBytesOf rs) (omega arith));
+          size = length-over out 0 (gather recordBytesOf rs) (omega arith);
         },
       )
 
@@ -218,7 +218,7 @@ module _ (table s : List ℕ) (z : Session) (out : List ℕ) where
       by (all-read r p q) e = absurd (omega arith)
       by (limited r x o q k l a b) e = absurd (omega arith)
       by (no-room r p rs z″ q l) e = absurd (omega arith)
-      by (written r p rs z″ q l) e = absurd (omega arith)
+      by (wrote r p rs z″ q l) e = absurd (omega arith)
 
   pub exactly-7 : Exactly table s z out 7 0 ((judged table .number ≡ 0) × (longest < length s))
   exactly-7 = record { when = λ c. answered-so table s z out (long-scene (c .0) (c .1)); only = by (answered-by table s z out) }
@@ -231,7 +231,7 @@ module _ (table s : List ℕ) (z : Session) (out : List ℕ) where
       by (all-read r p q) e = absurd (omega arith)
       by (limited r x o q k l a b) e = absurd (omega arith)
       by (no-room r p rs z″ q l) e = absurd (omega arith)
-      by (written r p rs z″ q l) e = absurd (omega arith)
+      by (wrote r p rs z″ q l) e = absurd (omega arith)
 
   pub exactly-20 : Exactly table s z out 20 0 ((judged table .number ≡ 0) × (length s ≤ longest) × (coherent (decode table) s z ≡ false))
   exactly-20 = record { when = λ c. answered-so table s z out (bad-session (c .0) (c .1) (c .2)); only = by (answered-by table s z out) }
@@ -244,7 +244,7 @@ module _ (table s : List ℕ) (z : Session) (out : List ℕ) where
       by (all-read r p q) e = absurd (omega arith)
       by (limited r x o q k l a b) e = absurd (omega arith)
       by (no-room r p rs z″ q l) e = absurd (omega arith)
-      by (written r p rs z″ q l) e = absurd (omega arith)
+      by (wrote r p rs z″ q l) e = absurd (omega arith)
 
   -- 1 to 6: the reader's
   pub exactly-read : (n : ℕ) → 1 ≤ n → n ≤ 6 → ExactlyAt table s z out n (Unread table s z n)
@@ -259,7 +259,7 @@ module _ (table s : List ℕ) (z : Session) (out : List ℕ) where
       by (all-read r p q) e = absurd (omega arith)
       by (limited r x o q k l a b) e = absurd (omega arith)
       by (no-room r p rs z″ q l) e = absurd (omega arith)
-      by (written r p rs z″ q l) e = absurd (omega arith)
+      by (wrote r p rs z″ q l) e = absurd (omega arith)
 
   pub exactly-9 : ExactlyAt table s z out 9 (AllRead table s z)
   exactly-9 = record { when = λ p c. answered-so table s z out (all-read (c .0) p (c .1)); only = by (answered-by table s z out) }
@@ -272,7 +272,7 @@ module _ (table s : List ℕ) (z : Session) (out : List ℕ) where
       by (all-read r p q) e = (r, q)
       by (limited r x o q k l a b) e = absurd (omega arith)
       by (no-room r p rs z″ q l) e = absurd (omega arith)
-      by (written r p rs z″ q l) e = absurd (omega arith)
+      by (wrote r p rs z″ q l) e = absurd (omega arith)
 
   pub exactly-25 : ExactlyAt table s z out 25 (NoRoom table s z out)
   exactly-25 =
@@ -286,7 +286,7 @@ module _ (table s : List ℕ) (z : Session) (out : List ℕ) where
       by (all-read r p q) e = absurd (omega arith)
       by (limited r x o q k l a b) e = absurd (omega arith)
       by (no-room r p rs z″ q l) e = (r, (rs, z″, q, l))
-      by (written r p rs z″ q l) e = absurd (omega arith)
+      by (wrote r p rs z″ q l) e = absurd (omega arith)
 
   -- 21 to 24: the reader reads the start e, which opens o
   module _ (r : Ready table s z) (e : scene.Start) (o : scene.Open) (q : Starts s z e o) where
@@ -307,7 +307,7 @@ module _ (table s : List ℕ) (z : Session) (out : List ℕ) where
             let opens : o′ ≡ o = cc in
             subst (Limit (decode table) s z e o) k (subst (λ (y : scene.Open). Limit (decode table) s z e y i) opens (subst (λ (y : scene.Start). Limit (decode table) s z y o′ i) same l))
         by (no-room r p rs z″ x l) k = absurd (omega arith)
-        by (written r p rs z″ x l) k = absurd (omega arith)
+        by (wrote r p rs z″ x l) k = absurd (omega arith)
 
     limit-when : (n : ℕ) → 21 ≤ n → n ≤ 24 → Limit (decode table) s z e o n → stepOf table s z out ≡ refusedStep n (e .at) z out
     limit-when n lo hi l = answered-so table s z out (limited r e o q n l lo hi)
@@ -361,7 +361,7 @@ module _ (table s : List ℕ) (z : Session) (out : List ℕ) where
       by (all-read r p q) hi lo = absurd (omega arith)
       by (limited r e o q k l a b) hi lo = (r, (e, o, q, refl))
       by (no-room r p rs z″ q l) hi lo = absurd (omega arith)
-      by (written r p rs z″ q l) hi lo = absurd (omega arith)
+      by (wrote r p rs z″ q l) hi lo = absurd (omega arith)
 
   -- 9 and 1 at the scene's end alone, 9 behind the root alone
   pub finished-there : stepOf table s z out .answer .number ≡ 9 → (stepOf table s z out .answer .place ≡ length s) × (z .closed ≡ true)

@@ -14,7 +14,7 @@ use lib.Seq.{length-take-le}
 use Rattle.laws.proofs.Flags.{differ}
 use Rattle.table.specs.Table.{decode}
 use Rattle.table.specs.Judge.{judged}
-use Rattle.lexer.specs.Stops.{after}
+use Rattle.lexer.specs.Stops.{afterRead}
 use Rattle.lexer.specs.Names.{spacesEnd}
 use Rattle.lexer.specs.Tags.{ending, beginOutside, beginAt}
 use Rattle.lexer.specs.declared.Stop.the-variants.{Bad, Long, Cut}
@@ -34,7 +34,7 @@ use Rattle.dispatcher.specs.declared.Session.{Session}
 use Rattle.demands.proofs.CoherentHeld.{coherent-held, coherent-more}
 use Rattle.demands.proofs.Completed.{Whole, next-completed}
 use Rattle.demands.proofs.Late.{LateNext, next-ext, next-stays}
-use Rattle.demands.specs.Answers.{Ready, Answered, bad-table, long-scene, bad-session, unread, all-read, limited, no-room, written, Through, Completes}
+use Rattle.demands.specs.Answers.{Ready, Answered, bad-table, long-scene, bad-session, unread, all-read, limited, no-room, wrote, Through, Completes}
 use Rattle.demands.proofs.Refusals.{answered-by, answered-so, exactly-read}
 
 -- behind the root a byte is refused, or the scene is finished
@@ -51,7 +51,7 @@ begin-behind : (s : List ℕ) (at : ℕ) → Behind (beginAt s at false true)
 unfolding beginAt beginOutside
 begin-behind s at = by (spacesEnd s at) (spaces-inside s at)
   where
-    by : (r : Read) → ReadInside (SpacesTo s at) s at r → Behind (after (ending true) r (λ (i : ℕ). beginOutside s i true))
+    by : (r : Read) → ReadInside (SpacesTo s at) s at r → Behind (afterRead (ending true) r (λ (i : ℕ). beginOutside s i true))
     by (read.Stopped x) h = tt
     by (read.End j) h = rw (lt-ltb j (length s) (h .1)) tt
 
@@ -136,4 +136,4 @@ cut-completed table s z out q =
     by u l a c w (all-read r p k) = absurd (subst Whole k w)
     by u l a c w (limited r e o k n m lo hi) = inr (inr (lo, omega arith))
     by u l a c w (no-room r p rs z″ k m) = inr (inr (omega arith))
-    by u l a c w (written r p rs z″ k m) = inl refl
+    by u l a c w (wrote r p rs z″ k m) = inl refl

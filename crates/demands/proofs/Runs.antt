@@ -21,7 +21,7 @@ use Rattle.reader.proofs.Progress.{leftOf, less, onward, history, history-next,
 use Rattle.reader.proofs.EventsFirst.{stateAfter, state-rest, ending-is}
 use Rattle.model.specs.Theory.{Record}
 use Rattle.model.specs.Records.{Body}
-use Rattle.model.specs.Dispatch.{bytesOf, expected}
+use Rattle.model.specs.Dispatch.{recordBytesOf, expected}
 use Rattle.dispatcher.specs.Sessions.{readerOf, freshOf}
 use Rattle.dispatcher.specs.Stepping.{Step, answered, refusedStep, stepOf, Run, runFrom, runOf}
 use Rattle.dispatcher.specs.declared.Session.{Session}
@@ -36,7 +36,7 @@ use Rattle.demands.proofs.Outcomes.{Said, Outcome, refuses, accepts, ou
 
 -- an output with records laid over it
 abbrev pub laid : List (Record Body ℕ) → List ℕ → List ℕ
-laid rs out = overwrite out 0 (gather bytesOf rs)
+laid rs out = overwrite out 0 (gather recordBytesOf rs)
 
 abbrev pub answer : ℕ → ℕ → ℕ → List (Record Body ℕ) → List ℕ → Run
 answer number place events rs out = record { answer = answered number place events (length rs); output = laid rs out }
@@ -58,25 +58,25 @@ pub record Ended (table s out : List ℕ) (r : Run) : Type 0 where
 module _ (rs : List (Record Body ℕ)) (out : List ℕ) (room : 16 * length rs ≤ length out) where
   behind-laid : drop (16 * length rs) (laid rs out) ≡ drop (16 * length rs) out
   behind-laid =
-      let n : 16 * length rs ≡ 0 + length (gather bytesOf rs) = omega (arith, records-length rs) in
-      rw n (drop-over out 0 (gather bytesOf rs) (omega arith))
+      let n : 16 * length rs ≡ 0 + length (gather recordBytesOf rs) = omega (arith, records-length rs) in
+      rw n (drop-over out 0 (gather recordBytesOf rs) (omega arith))
 
   laid-length : length (laid rs out) ≡ length out
-  laid-length = length-over out 0 (gather bytesOf rs) (omega (arith, records-length rs))
+  laid-length = length-over out 0 (gather recordBytesOf rs) (omega (arith, records-length rs))
 
-  laid-on : (ps : List (Record Body ℕ)) → take (16 * length rs) (laid rs out) ++ overwrite (drop (16 * length rs) (laid rs out)) 0 (gather bytesOf ps) ≡ laid (rs ++ ps) out
+  laid-on : (ps : List (Record Body ℕ)) → take (16 * length rs) (laid rs out) ++ overwrite (drop (16 * length rs) (laid rs out)) 0 (gather recordBytesOf ps) ≡ laid (rs ++ ps) out
   laid-on ps =
-      let n : 16 * length rs + 0 ≡ 0 + length (gather bytesOf rs) = omega (arith, records-length rs) in
-      over-part (laid rs out) (16 * length rs) 0 (gather bytesOf ps) (omega (arith, laid-length))
-      ∙ ap (λ (i : ℕ). overwrite (laid rs out) i (gather bytesOf ps)) n
-      ∙ over-over out 0 (gather bytesOf rs) (gather bytesOf ps) (omega arith)
-      ∙ ap (overwrite out 0) (sym (gather-append bytesOf rs ps))
+      let n : 16 * length rs + 0 ≡ 0 + length (gather recordBytesOf rs) = omega (arith, records-length rs) in
+      over-part (laid rs out) (16 * length rs) 0 (gather recordBytesOf ps) (omega (arith, laid-length))
+      ∙ ap (λ (i : ℕ). overwrite (laid rs out) i (gather recordBytesOf ps)) n
+      ∙ over-over out 0 (gather recordBytesOf rs) (gather recordBytesOf ps) (omega arith)
+      ∙ ap (overwrite out 0) (sym (gather-append recordBytesOf rs ps))
 
 pub laid-expected : (t : Table) (s : List ℕ) (z : Session) (k : ℕ) (rs : List (Record Body ℕ)) → Reached t s z k rs → (out : List ℕ) → laid rs out ≡ expected t s k ++ drop (16 * length rs) out
 unfolding overwrite
 laid-expected t s z k rs h out =
-    let n : 0 + length (gather bytesOf rs) ≡ 16 * length rs = omega (arith, records-length rs) in
-    ap (λ (i : ℕ). gather bytesOf rs ++ drop i out) n ∙ ap (λ (l : List ℕ). l ++ drop (16 * length rs) out) (reached-expected t s z k rs h)
+    let n : 0 + length (gather recordBytesOf rs) ≡ 16 * length rs = omega (arith, records-length rs) in
+    ap (λ (i : ℕ). gather recordBytesOf rs ++ drop i out) n ∙ ap (λ (l : List ℕ). l ++ drop (16 * length rs) out) (reached-expected t s z k rs h)
 
 -- the reader says how reading ends
 pub ends-here : (s : List ℕ) (k : ℕ) (w : ReaderState) (x : Next) → stateAfter k s freshReader ≡ some w → next s w ≡ x → eventThen (λ (z : ReaderState). history s z) x ≡ [] → lastThen (λ (z : ReaderState). ending s z) x ≡ x → (k ≡ length (events s)) × (lastOf s ≡ x)
@@ -127,7 +127,7 @@ module _ (table s out : List ℕ) where
   pub run-ended : Ended table s out (runOf table s out)
   unfolding runOf
   run-ended =
-      subst (λ (o : List ℕ). Ended table s out (runFrom (2 * length s + 2) table s freshOf o 0 0 0)) (ap (overwrite out 0) (gather-none bytesOf) ∙ over-none out 0)
+      subst (λ (o : List ℕ). Ended table s out (runFrom (2 * length s + 2) table s freshOf o 0 0 0)) (ap (overwrite out 0) (gather-none recordBytesOf) ∙ over-none out 0)
       (ended (2 * length s + 2) freshOf 0 [] (reached-fresh (decode table) s) (omega arith) (omega arith))
 
 -- ---- where it stopped

@@ -24,11 +24,11 @@ use Rattle.reader.specs.Events.{Event, finished, next, events}
 use Rattle.reader.proofs.Held.{finished-at}
 use Rattle.model.specs.Theory.{Record}
 use Rattle.model.specs.Records.{Body}
-use Rattle.model.specs.Dispatch.{bytesOf, expected}
+use Rattle.model.specs.Dispatch.{recordBytesOf, expected}
 use Rattle.dispatcher.specs.Sessions.{readerOf, freshOf}
 use Rattle.dispatcher.specs.Stepping.{eventPlace, Step, stepOf}
 use Rattle.dispatcher.specs.declared.Session.{Session}
-use Rattle.demands.specs.Calls.{Call, BeginsWith, GrowingFrom, Growing, lastFrom, lastScene, stepsFrom, isAccepted, acceptedIn, recordsOf, joinedOf, numberFrom, lastNumber}
+use Rattle.demands.specs.Calls.{Call, BeginsWith, GrowingFrom, Growing, lastSceneFrom, lastScene, stepsFrom, isAccepted, acceptedIn, recordsOf, joinedOf, numberFrom, lastNumber}
 use Rattle.demands.specs.Scenes.{wholeModel}
 use Rattle.demands.specs.Limits.{passed}
 use Rattle.demands.proofs.Bytes.{first-bytes}
@@ -55,10 +55,10 @@ record Stepped (table before : List ℕ) (z : Session) (s : List ℕ) (k : ℕ) 
   numbers : All NotTwenty rs
   records : List (Record Body ℕ)
   reached : Reached (decode table) s session (k + acceptedIn rs) (out ++ records)
-  joined : joinedOf rs ≡ gather bytesOf records
+  joined : joinedOf rs ≡ gather recordBytesOf records
   finishes : (n : ℕ) → (n ≡ 9 → Finishes before z) → numberFrom n rs ≡ 9 → Finishes s session
 
-stepped : (table : List ℕ) (calls : List Call) (s : List ℕ) (z : Session) (k : ℕ) (out : List (Record Body ℕ)) → Reached (decode table) s z k out → GrowingFrom s calls → Stepped table s z (lastFrom s calls) k out (stepsFrom table z calls) (sessionAfter table z calls)
+stepped : (table : List ℕ) (calls : List Call) (s : List ℕ) (z : Session) (k : ℕ) (out : List (Record Body ℕ)) → Reached (decode table) s z k out → GrowingFrom s calls → Stepped table s z (lastSceneFrom s calls) k out (stepsFrom table z calls) (sessionAfter table z calls)
 unfolding stepsFrom joinedOf keep gather
 stepped table [] s z k out h g =
     record { numbers = tt; records = []; reached = rw (add-zero k, append-nil) h; joined = refl; finishes = λ n f q. f q }
@@ -69,8 +69,8 @@ stepped table (c ∷ cs) s z k out h g =
     there = subst (λ (x : List ℕ). Reached (decode table) x z k out) (sym (g .0 .1)) (reached-more (decode table) s z k out h (g .0 .0))
 
     by : (r : Step) → Outcome table (c .scene) z (c .output) r
-        → ((w : Session) (j : ℕ) (more : List (Record Body ℕ)) → Reached (decode table) (c .scene) w j more → Stepped table (c .scene) w (lastFrom (c .scene) cs) j more (stepsFrom table w cs) (sessionAfter table w cs))
-        → Stepped table s z (lastFrom (c .scene) cs) k out (r ∷ stepsFrom table (r .session) cs) (sessionAfter table (r .session) cs)
+        → ((w : Session) (j : ℕ) (more : List (Record Body ℕ)) → Reached (decode table) (c .scene) w j more → Stepped table (c .scene) w (lastSceneFrom (c .scene) cs) j more (stepsFrom table w cs) (sessionAfter table w cs))
+        → Stepped table s z (lastSceneFrom (c .scene) cs) k out (r ∷ stepsFrom table (r .session) cs) (sessionAfter table (r .session) cs)
     by r (refuses n p said) ih =
         let i = ih z k out there in
         record {
@@ -87,7 +87,7 @@ stepped table (c ∷ cs) s z k out h g =
           numbers = (λ e. omega arith, i .numbers);
           records = rs ++ i .records;
           reached = rw (count, ← append-assoc) (i .reached);
-          joined = rw (first-bytes (c .output) rs, i .joined) (sym (gather-append bytesOf rs (i .records)));
+          joined = rw (first-bytes (c .output) rs, i .joined) (sym (gather-append recordBytesOf rs (i .records)));
           finishes = λ m f q. i .finishes 0 (λ e. absurd (omega arith)) q;
         }
 
@@ -143,7 +143,7 @@ then-steps table (c ∷ cs) more z =
     let r = stepOf table (c .scene) z (c .output) in
     ap (λ (rs : List Step). r ∷ rs) (then-steps table cs more (r .session))
 
-growing-last : (calls : List Call) (s : List ℕ) (c : Call) → GrowingFrom s (calls ++ (c ∷ [])) → GrowingFrom s calls × BeginsWith (c .scene) (lastFrom s calls)
+growing-last : (calls : List Call) (s : List ℕ) (c : Call) → GrowingFrom s (calls ++ (c ∷ [])) → GrowingFrom s calls × BeginsWith (c .scene) (lastSceneFrom s calls)
 growing-last [] s c g = (tt, g .0)
 growing-last (x ∷ cs) s c g = let r = growing-last cs (x .scene) c (g .1) in ((g .0, r .0), r .1)
 

@@ -14,8 +14,8 @@ use Rattle.model.specs.Theory.{Record}
 use Rattle.model.specs.Tree.{start}
 use Rattle.model.specs.Elements.{elementOf}
 use Rattle.model.specs.Records.{Body}
-use Rattle.model.specs.Stream.{enter, after}
-use Rattle.model.specs.Dispatch.{dispatch, bytesOf}
+use Rattle.model.specs.Stream.{entriesAt, after}
+use Rattle.model.specs.Dispatch.{dispatch, recordBytesOf}
 use Rattle.dispatcher.specs.Sessions.{readerOf, stateOf}
 use Rattle.dispatcher.specs.Coherence.{coherent}
 use Rattle.dispatcher.specs.Stepping.{event, planOf, Step, answered, refusedStep, longest, stepOf}
@@ -39,13 +39,13 @@ module _ (t : Table) (s : List ℕ) (z : Session) (e : scene.Start) (o : scene.O
   Crowded =
       (z .scope .depth < 64)
       × (z .scope .bound + length (o .declarations) ≤ 64)
-      × (16 < length (enter (dispatch t) (stateOf t s z .levels) (elementOf t s e)))
+      × (16 < length (entriesAt (dispatch t) (stateOf t s z .levels) (elementOf t s e)))
 
   abbrev pub Spent : Type 0
   Spent =
       (z .scope .depth < 64)
       × (z .scope .bound + length (o .declarations) ≤ 64)
-      × (length (enter (dispatch t) (stateOf t s z .levels) (elementOf t s e)) ≤ 16)
+      × (length (entriesAt (dispatch t) (stateOf t s z .levels) (elementOf t s e)) ≤ 16)
       × (65536 < after (dispatch t) (stateOf t s z) (start (elementOf t s e)) .units)
 
   abbrev pub Limit : ℕ → Type 0
@@ -66,8 +66,8 @@ pub data Answered (table s : List ℕ) (z : Session) (out : List ℕ) : Step →
   all-read : Ready table s z → (p : ℕ) → scene.next s (readerOf z) ≡ scene.finished p → Answered table s z out (refusedStep 9 p z out)
   limited : Ready table s z → (e : scene.Start) (o : scene.Open) → Starts s z e o → (n : ℕ) → Limit (decode table) s z e o n → 21 ≤ n → n ≤ 24 → Answered table s z out (refusedStep n (e .at) z out)
   no-room : Ready table s z → (p : ℕ) (rs : List (Record Body ℕ)) (z″ : Session) → planOf (decode table) s z ≡ event p rs z″ → length out < 16 * length rs → Answered table s z out (refusedStep 25 p z out)
-  written : Ready table s z → (p : ℕ) (rs : List (Record Body ℕ)) (z″ : Session) → planOf (decode table) s z ≡ event p rs z″ → 16 * length rs ≤ length out
-      → Answered table s z out (record { answer = answered 0 (z″ .place) 1 (length rs); session = z″; output = overwrite out 0 (gather bytesOf rs) })
+  wrote : Ready table s z → (p : ℕ) (rs : List (Record Body ℕ)) (z″ : Session) → planOf (decode table) s z ≡ event p rs z″ → 16 * length rs ≤ length out
+      → Answered table s z out (record { answer = answered 0 (z″ .place) 1 (length rs); session = z″; output = overwrite out 0 (gather recordBytesOf rs) })
 
 -- "A step with any number but 0 returns the session unchanged and writes nothing"
 pub record Unchanged (z : Session) (out : List ℕ) (r : Step) : Type 0 where
@@ -85,8 +85,8 @@ pub record Changed (t : Table) (s : List ℕ) (z : Session) (out : List ℕ) (r 
   pub events : r .answer .events ≡ 1
   pub count : r .answer .records ≡ length records
   pub room : 16 * r .answer .records ≤ length out
-  pub output : r .output ≡ overwrite out 0 (gather bytesOf records)
-  pub bytes : length (gather bytesOf records) ≡ 16 * r .answer .records
+  pub output : r .output ≡ overwrite out 0 (gather recordBytesOf records)
+  pub bytes : length (gather recordBytesOf records) ≡ 16 * r .answer .records
   pub rest : drop (16 * r .answer .records) (r .output) ≡ drop (16 * r .answer .records) out
   pub size : length (r .output) ≡ length out
 

@@ -28,12 +28,12 @@ Growing [] = Unit {0}
 Growing (c ∷ cs) = GrowingFrom (c .scene) cs
 
 -- the last call's scene; the empty one where there is no call
-abbrev pub lastFrom : List ℕ → List Call → List ℕ
-lastFrom before [] = before
-lastFrom before (c ∷ cs) = lastFrom (c .scene) cs
+abbrev pub lastSceneFrom : List ℕ → List Call → List ℕ
+lastSceneFrom before [] = before
+lastSceneFrom before (c ∷ cs) = lastSceneFrom (c .scene) cs
 
 abbrev pub lastScene : List Call → List ℕ
-lastScene cs = lastFrom [] cs
+lastScene cs = lastSceneFrom [] cs
 
 -- what the calls hand back: each steps the session that the one before handed back
 unfoldable pub stepsFrom : List ℕ → Session → List Call → List Step

@@ -3,8 +3,8 @@ use mathlib.Core.Bool.{Bool, true}
 use Rattle.dispatcher.specs.Computing as dispatcher
 use Rattle.demands.specs.Calls.{stepsFrom, joinedOf}
 use Rattle.demands.specs.Scenes.{readerAfter}
-use Rattle.demands.specs.Limits.{passed, firstPast, endOf}
+use Rattle.demands.specs.Limits.{passed, firstPast, runEnd}
 
 unfoldable pub computing : Bool
-unfolding dispatcher.computing stepsFrom joinedOf readerAfter passed firstPast endOf
+unfolding dispatcher.computing stepsFrom joinedOf readerAfter passed firstPast runEnd
 computing = true

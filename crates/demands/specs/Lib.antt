@@ -3,6 +3,7 @@ pub mod Scenes
 pub mod Answers
 pub mod Limits
 pub mod Runs
+pub mod Samples
 pub mod Computing
 pub mod CallExamples
 pub mod LimitExamples

@@ -5,7 +5,7 @@ use mathlib.Core.List.{List}
 use Rattle.laws.specs.Text.{bytes}
 use Rattle.table.specs.Table.{decode}
 use Rattle.table.specs.Examples.{T2}
-use Rattle.demands.specs.Limits.{passed, endOf}
+use Rattle.demands.specs.Limits.{passed, runEnd}
 use Rattle.demands.specs.Computing.{computing}
 
 -- the fourth v is event 7, the fifth event 9
@@ -16,6 +16,6 @@ sixteen-pass : passed (decode T2) nested 7 ≡ 0
 unfolding computing
 sixteen-pass = refl
 
-fifth-refused : endOf (decode T2) nested ≡ record { number = 23; place = 117 }
+fifth-refused : runEnd (decode T2) nested ≡ record { number = 23; place = 117 }
 unfolding computing
 fifth-refused = refl

@@ -13,13 +13,13 @@ use Rattle.reader.specs.Spans.{span}
 use Rattle.reader.specs.Events.{Start, start, text, Next, event, refusal, finished, freshReader, bindingsOf, events, lastOf}
 use Rattle.model.specs.Tree as tree
 use Rattle.model.specs.Tree.{Tree, stillOpen, completed, treeOf}
-use Rattle.model.specs.Model.{at, opened, modelOf, assignedOf}
+use Rattle.model.specs.Model.{assignedAt, unitsOpened, modelOf, assignedOf}
 use Rattle.model.specs.Dispatch.{dispatch, told}
 use Rattle.dispatcher.specs.Stepping.{eventPlace}
 use Rattle.demands.specs.Scenes.{readerAfter}
 
 -- the events of a scene as the dispatcher takes them, and their tree, closed behind the last
-abbrev pub toldAll : (t : Table) → List ℕ → List (tree.Event (dispatch t))
+abbrev pub toldAll : (t : Table) → List ℕ → List (tree.TreeEvent (dispatch t))
 toldAll t s = list.map (told t s) (events s)
 
 abbrev pub closedTree : (t : Table) → List ℕ → Option (Tree (dispatch t))
@@ -34,10 +34,10 @@ boundAt s k = length (bindingsOf (readerAfter (suc k) s freshReader .opened))
 
 -- the strands that the model gives the element of the k-th event; the units that its list has opened by then
 abbrev pub strandsAt : Table → List ℕ → ℕ → ℕ
-strandsAt t s k = length (getD (assignedOf (dispatch t) (closedTree t s)) k (at 0 [] []) .strands)
+strandsAt t s k = length (getD (assignedOf (dispatch t) (closedTree t s)) k (assignedAt 0 [] []) .strands)
 
 abbrev pub unitsAt : Table → List ℕ → ℕ → ℕ
-unitsAt t s k = length (opened (gather (λ x. x) (take (suc k) (modelOf (dispatch t) (closedTree t s)))))
+unitsAt t s k = length (unitsOpened (gather (λ x. x) (take (suc k) (modelOf (dispatch t) (closedTree t s)))))
 
 -- the number of the limit that the k-th event passes, 0 for none. "21 depth 65; 22 a 65th open binding; 23 a 17th strand; 24 a unit past 65,535", in
 -- this order
@@ -84,8 +84,8 @@ readEnd (refusal n p) = record { number = n; place = p }
 readEnd (finished p) = record { number = 9; place = p }
 
 -- where the output has room: by the limit that the first event past one passes, at its place, "< of the tag"; where there is none, as reading ends
-unfoldable pub endOf : Table → List ℕ → End
-endOf t s =
+unfoldable pub runEnd : Table → List ℕ → End
+runEnd t s =
     elim (firstPast t s (length (events s)) 0) [
       | none ↦ readEnd (lastOf s)
       | some k ↦ record { number = passed t s k; place = eventPlace (getD (events s) k (text (span 0 0))) }

@@ -7,7 +7,7 @@ use Rattle.table.specs.Table.{Table}
 use Rattle.reader.specs.Events.{ReaderState, Next, event, refusal, finished, next, events}
 use Rattle.model.specs.Tree.{treeOf}
 use Rattle.model.specs.Model.{modelOf, cutModel}
-use Rattle.model.specs.Dispatch.{dispatch, told, joined}
+use Rattle.model.specs.Dispatch.{dispatch, told, joinedBytes}
 
 -- how many records the model has for the first so many events, as `expected` has their bytes
 unfoldable pub modelCount : Table → List ℕ → ℕ → ℕ
@@ -15,7 +15,7 @@ modelCount t s k = length (gather (λ x. x) (cutModel (dispatch t) (map (told t 
 
 -- the bytes of the model's records of the whole scene: of the tree of all its events
 unfoldable pub wholeModel : Table → List ℕ → List ℕ
-wholeModel t s = joined (modelOf (dispatch t) (treeOf (dispatch t) (map (told t s) (events s))))
+wholeModel t s = joinedBytes (modelOf (dispatch t) (treeOf (dispatch t) (map (told t s) (events s))))
 
 -- the reader's state behind so many events; its last where there are fewer
 abbrev pub behindNext : ReaderState → Next → ReaderState

@@ -25,7 +25,7 @@ use Rattle.model.specs.Theory.{Record}
 use Rattle.model.specs.Tree.{start}
 use Rattle.model.specs.Elements.{Space, Element, elementOf}
 use Rattle.model.specs.Records.{Body}
-use Rattle.model.specs.Stream.{enter, written, after, Strand}
+use Rattle.model.specs.Stream.{entriesAt, written, after, HeldStrand}
 use Rattle.model.specs.Dispatch.{dispatch, told}
 use Rattle.strands.specs.Packed.{strandIn}
 use Rattle.dispatcher.specs.Sessions.{strandCount, strandsIn, levelIn, readerOf, stateOf, withStart}
@@ -44,7 +44,7 @@ use Rattle.dispatcher.proofs.Followed.{StartFollowed, followed}
 pub record StartLimits (t : Table) (s : List ℕ) (z : Session) (e : scene.Start) (o : scene.Open) : Type 0 where
   pub shallow : z .scope .depth < 64
   pub bound : z .scope .bound + length (o .declarations) ≤ 64
-  pub strands : length (enter (dispatch t) (stateOf t s z .levels) (elementOf t s e)) ≤ 16
+  pub strands : length (entriesAt (dispatch t) (stateOf t s z .levels) (elementOf t s e)) ≤ 16
   pub units : after (dispatch t) (stateOf t s z) (start (elementOf t s e)) .units ≤ 65536
 
 abbrev pub OpenLimits : (t : Table) → List ℕ → Session → scene.Start → List scene.Open → Type 0
@@ -96,7 +96,7 @@ module _ (table : List ℕ) (accepted : Accepted table ≡ true) (s : List ℕ) 
     abbrev σ : Element
     σ = elementOf t s e
 
-    abbrev strands : List (Strand ℕ)
+    abbrev strands : List (HeldStrand ℕ)
     strands = newStrands t (stateOf t s z) σ
 
     abbrev units : ℕ
@@ -171,13 +171,13 @@ module _ (table : List ℕ) (accepted : Accepted table ≡ true) (s : List ℕ) 
         subst (λ (os : List scene.Open). PlanBehind t s z (startPlan t s z e (ownDeclarations os) (z′ .place))) (sym is-open)
         (holds-cond (PlanBehind t s z) (leb 64 (z .scope .depth)) (λ d. tt) (λ d.
         holds-cond (PlanBehind t s z) (ltb 64 (z .scope .bound + length (begins .own))) (λ b. tt) (λ b.
-        holds-cond (PlanBehind t s z) (ltb 16 (length (enter (dispatch t) (stateOf t s z .levels) σ))) (λ c. tt) (λ c.
+        holds-cond (PlanBehind t s z) (ltb 16 (length (entriesAt (dispatch t) (stateOf t s z .levels) σ))) (λ c. tt) (λ c.
         holds-cond (PlanBehind t s z) (ltb 65536 units) (λ u. tt) (λ u.
         start-behind
         (record {
           shallow = leb-false 64 (z .scope .depth) d;
           bound = ltb-false 64 (z .scope .bound + length (begins .own)) b;
-          strands = ltb-false 16 (length (enter (dispatch t) (stateOf t s z .levels) σ)) c;
+          strands = ltb-false 16 (length (entriesAt (dispatch t) (stateOf t s z .levels) σ)) c;
           units = ltb-false 65536 units u;
         }))))))
 

@@ -21,9 +21,9 @@ use Rattle.reader.specs.Stored.{bindingIn}
 use Rattle.reader.specs.Scope.{nameIn, countIn}
 use Rattle.reader.specs.Counted.{countOf}
 use Rattle.lexer.specs.Whole.{isWholeName}
-use Rattle.model.specs.Stream.{Strand}
+use Rattle.model.specs.Stream.{HeldStrand}
 use Rattle.dispatcher.specs.Sessions.{classIn, uriIn, strandCount, strandsIn, sessionOf}
-use Rattle.dispatcher.specs.Coherence.{levelNumbers, openBindings, spanInside, targetFits, aims, coherent}
+use Rattle.dispatcher.specs.Coherence.{openLevels, openBindings, spanInside, targetFits, aims, coherent}
 use Rattle.dispatcher.specs.Checks.{headFits, bindingFits, nameFits, classFits, strandFits, levelFits}
 use Rattle.dispatcher.specs.declared.Head.{Head}
 use Rattle.dispatcher.specs.declared.Session.{Session}
@@ -95,17 +95,17 @@ module _ (t : Table) (s : List ℕ) (h : Head) (levels bindings spaces strands :
       (both _ _ (p .uri)
       (both _ _ (and-left (leb 1 n) (leb n 16) (p .count)) (both _ _ (and-right (leb 1 n) (leb n 16) (p .count)) (p .strands-fit)))))
 
-  levels-say : (q : ℕ → Bool) → ((k : ℕ) → LevelParts k → q k ≡ true) → all levelTest (levelNumbers z) ≡ true → all q (levelNumbers z) ≡ true
-  levels-say q f = weaker levelTest q (λ k e. f k (level-parts k e)) (levelNumbers z)
+  levels-say : (q : ℕ → Bool) → ((k : ℕ) → LevelParts k → q k ≡ true) → all levelTest (openLevels z) ≡ true → all q (openLevels z) ≡ true
+  levels-say q f = weaker levelTest q (λ k e. f k (level-parts k e)) (openLevels z)
 
   bindings-say : (q : Binding → Bool) → ((b : Binding) → bindingFits s b ≡ true → q b ≡ true) → all (bindingFits s) (openBindings z) ≡ true → all q (openBindings z) ≡ true
   bindings-say q f = weaker (bindingFits s) q f (openBindings z)
 
   -- of each strand of a level
-  strands-say : (q : Strand ℕ → Bool) → ((r : Strand ℕ) → strandFits (t .modes) (h .units) r ≡ true → q r ≡ true) → (k : ℕ) → LevelParts k → all q (strandsIn z k) ≡ true
+  strands-say : (q : HeldStrand ℕ → Bool) → ((r : HeldStrand ℕ) → strandFits (t .modes) (h .units) r ≡ true → q r ≡ true) → (k : ℕ) → LevelParts k → all q (strandsIn z k) ≡ true
   strands-say q f k p = weaker (strandFits (t .modes) (h .units)) q f (strandsIn z k) (p .strands-fit)
 
-  counted : eqb (total (countIn (z .scope)) (levelNumbers z)) (h .bound) ≡ eqb (countOf levels (h .depth)) (h .bound)
+  counted : eqb (total (countIn (z .scope)) (openLevels z)) (h .bound) ≡ eqb (countOf levels (h .depth)) (h .bound)
   counted = ap (λ (n : ℕ). eqb n (h .bound)) (total-numbers levels (h .depth))
 
   abbrev checks : Bool
@@ -149,7 +149,7 @@ module _ (t : Table) (s : List ℕ) (h : Head) (levels bindings spaces strands :
   -- at a level
   level-from : Clauses t s z → (k : ℕ) → k < h .depth → LevelParts k
   level-from c k l =
-      let at : (q : ℕ → Bool) → all q (levelNumbers z) ≡ true → q k ≡ true = λ q e. tested-at q (λ (i : ℕ). i) 0 (h .depth) e k (omega arith) (omega arith) in
+      let at : (q : ℕ → Bool) → all q (openLevels z) ≡ true → q k ≡ true = λ q e. tested-at q (λ (i : ℕ). i) 0 (h .depth) e k (omega arith) (omega arith) in
       let spans = at _ (c .level-spans) in
       record {
         name = and-left (spanInside s (nameIn levels k)) _ spans;

@@ -32,11 +32,11 @@ use Rattle.reader.specs.Scope.{nameIn, countIn, opensIn, opensOf}
 use Rattle.reader.specs.Counted.{countOf, Counted}
 use Rattle.reader.specs.Held.{SpanHeld, BindingHeld, OpenHeld}
 use Rattle.reader.proofs.Opens.{CountedScope, opens-nil}
-use Rattle.model.specs.Stream.{Level, Strand}
+use Rattle.model.specs.Stream.{Level, HeldStrand}
 use Rattle.model.specs.Dispatch.{dispatch}
 use Rattle.strands.proofs.Packing.{Below}
 use Rattle.dispatcher.specs.Sessions.{classIn, uriIn, strandCount, strandsIn, levelIn, levelsIn, stateOf}
-use Rattle.dispatcher.specs.Coherence.{levelNumbers, openBindings, spanInside, prefixFits, targetFits, aims, coherent}
+use Rattle.dispatcher.specs.Coherence.{openLevels, openBindings, spanInside, prefixFits, targetFits, aims, coherent}
 use Rattle.dispatcher.specs.declared.Session.{Session}
 use Rattle.dispatcher.proofs.Sound.{Aims, StrandSound, LevelSound, Sound}
 use Rattle.dispatcher.proofs.SoundCoherent.{total-numbers, strands-counted}
@@ -120,7 +120,7 @@ binding-says s b e f g =
       fits = not-true (refusedBinding s b) f;
     }
 
-strand-says : (t : Table) (units : ℕ) (r : Strand ℕ) → ltb (r .mode) (t .modes) ≡ true → targetFits units (r .target) ≡ true → aims (r .action) (r .target) ≡ true → StrandSound t units r
+strand-says : (t : Table) (units : ℕ) (r : HeldStrand ℕ) → ltb (r .mode) (t .modes) ≡ true → targetFits units (r .target) ≡ true → aims (r .action) (r .target) ≡ true → StrandSound t units r
 strand-says t units r e f g =
     record { mode-in = ltb-true (r .mode) (t .modes) e; below = below-fits units (r .target) f; aims = aims-fits (r .action) (r .target) g }
 
@@ -131,11 +131,11 @@ open-held : (s : List ℕ) (o : Open) → NameHeld s (o .name) × All (BindingHe
 open-held s o h = record { behind = h .0 .0; inside = h .0 .1; named = h .0 .2; declarations = h .1 }
 
 module _ (t : Table) (s : List ℕ) (z : Session) (c : Clauses t s z) where
-  at-level : (p : ℕ → Bool) → all p (levelNumbers z) ≡ true → (k : ℕ) → k < z .scope .depth → p k ≡ true
+  at-level : (p : ℕ → Bool) → all p (openLevels z) ≡ true → (k : ℕ) → k < z .scope .depth → p k ≡ true
   at-level p e k l = tested-at p (λ (i : ℕ). i) 0 (z .scope .depth) e k (omega arith) (omega arith)
 
   pub counted : CountedScope (z .scope)
-  counted = sym (total-numbers (z .scope .levels) (z .scope .depth)) ∙ eqb-true (total (countIn (z .scope)) (levelNumbers z)) (z .scope .bound) (c .sum)
+  counted = sym (total-numbers (z .scope .levels) (z .scope .depth)) ∙ eqb-true (total (countIn (z .scope)) (openLevels z)) (z .scope .bound) (c .sum)
 
   pub name-held : (k : ℕ) → k < z .scope .depth → NameHeld s (nameIn (z .scope .levels) k)
   name-held k l =

@@ -14,12 +14,12 @@ use Rattle.lexer.specs.Attrs.{attrsIn}
 use Rattle.reader.specs.declared.Binding.{Binding}
 use Rattle.reader.specs.declared.Found.{Found}
 use Rattle.reader.specs.Namespaces.{Namespace, uriOf}
-use Rattle.reader.specs.Stored.{coded, spaceOf}
+use Rattle.reader.specs.Stored.{coded, storedSpace}
 use Rattle.reader.specs.Events.{Start}
-use Rattle.model.specs.Stream.{Entry, enter}
+use Rattle.model.specs.Stream.{Entry, entriesAt}
 use Rattle.model.specs.Elements as elements
 use Rattle.model.specs.Elements.{Element, elementOf}
-use Rattle.model.specs.Groups.{sectionsOf}
+use Rattle.model.specs.Groups.{groupsOf}
 use Rattle.model.specs.Dispatch.{dispatch}
 use Rattle.strands.specs.declared.Placing.{Placing}
 use Rattle.strands.specs.Entries.{Unnumbered}
@@ -27,7 +27,7 @@ use Rattle.strands.specs.Attributes.{Given, placingOf, givensOf, laidGivens, gi
 use Rattle.strands.proofs.Numbered.{allOf}
 use Rattle.strands.proofs.Entered.{SchemaSmall, EntryPackable}
 use Rattle.dispatcher.specs.Sessions.{stateOf}
-use Rattle.dispatcher.specs.Turns.{Ready, Told, DecidedAs, onlyNumber, startOf}
+use Rattle.dispatcher.specs.Turns.{TurnReady, Told, DecidedAs, onlyNumber, startOf}
 use Rattle.dispatcher.specs.declared.Session.{Session}
 use Rattle.dispatcher.specs.declared.Decided.{Decided}
 use Rattle.dispatcher.proofs.Deciding.{nextEntries, Entering, Weighed}
@@ -38,7 +38,7 @@ use Rattle.dispatcher.proofs.DecidedStart.{decided-many, decided-start}
 -- what `decide` is given, and the session and the tag that it is given for
 module _ (table : List ℕ) (header : Header) (index s attrs codes own outer spaces strands : List ℕ) (tagged depth units : ℕ) (found : Found) (placing : Placing) where
   abbrev n : Namespace
-  n = spaceOf own outer found
+  n = storedSpace own outer found
 
   abbrev t : Table
   t = decode table
@@ -49,9 +49,9 @@ module _ (table : List ℕ) (header : Header) (index s attrs codes own outer spa
     pub depth-is : z .scope .depth ≡ depth
     pub units-are : z .units ≡ units
     pub tagged-is : tag .count ≡ tagged
-    pub ready : Ready table header index s z
+    pub ready : TurnReady table header index s z
     pub told : Told s outer own attrs codes at tag found (length ds) ds
-    pub placed : placing ≡ placingOf (elements.spaceOf (decode table) s (spaceOf own outer found))
+    pub placed : placing ≡ placingOf (elements.spaceOf (decode table) s (storedSpace own outer found))
 
   module _ (z : Session) (at : ℕ) (tag : Tag) (ds : List Binding) (g : StartGiven z at tag ds) where
     abbrev e : Start
@@ -61,7 +61,7 @@ module _ (table : List ℕ) (header : Header) (index s attrs codes own outer spa
     σ = elementOf t s e
 
     abbrev es : List Entry
-    es = enter (dispatch t) (stateOf t s z .levels) σ
+    es = entriesAt (dispatch t) (stateOf t s z .levels) σ
 
     abbrev ours : List Entry
     ours = nextEntries index s (uriOf s n) spaces strands (placing .class) depth
@@ -85,15 +85,15 @@ module _ (table : List ℕ) (header : Header) (index s attrs codes own outer spa
         (enters table (g .ready .accepted) s z (g .ready .coherent′) n σ space-is)
 
     pub decided-23 : (words₀ schemas₀ words schemas attributes sections : List ℕ) (count : ℕ) (r : Decided)
-        → Entering (nextEntries index s (uriOf s (spaceOf own outer found)) spaces strands (placing .class) depth) words₀ schemas₀ words schemas count → 16 < count → r ≡ onlyNumber 23
+        → Entering (nextEntries index s (uriOf s (storedSpace own outer found)) spaces strands (placing .class) depth) words₀ schemas₀ words schemas count → 16 < count → r ≡ onlyNumber 23
         → DecidedAs (decode table) s z (elementOf (decode table) s (startOf s outer own attrs codes at tag found)) r words schemas attributes sections
     decided-23 words₀ schemas₀ words schemas attributes sections count r en h q =
         decided-many table (g .ready .accepted) s z e words₀ schemas₀ words schemas attributes sections count r (subst (λ (xs : List Entry). Entering xs words₀ schemas₀ words schemas count) entries-are en) h q
 
     pub decided-on : (words₀ schemas₀ words₁ schemas words attributes₀ attributes sections₀ sections : List ℕ) (count k m : ℕ) (r : Decided)
-        → Entering (nextEntries index s (uriOf s (spaceOf own outer found)) spaces strands (placing .class) depth) words₀ schemas₀ words₁ schemas count → count ≤ 16
+        → Entering (nextEntries index s (uriOf s (storedSpace own outer found)) spaces strands (placing .class) depth) words₀ schemas₀ words₁ schemas count → count ≤ 16
         → (let gs = givensOf (tableOf table header) s own outer (coded (attrsIn attrs tagged) codes) in (k ≡ length gs) × (k ≤ 16) × (attributes ≡ laidGivens gs attributes₀))
-        → (let ns = codeNamespaces own outer (tabulate (givenIn attributes) 0 k) in (m ≡ length (sectionsAfter s (spaceOf own outer found) [] ns)) × (sections ≡ overwrite sections₀ 0 (numbersFrom s (spaceOf own outer found) [] ns)))
+        → (let ns = codeNamespaces own outer (tabulate (givenIn attributes) 0 k) in (m ≡ length (sectionsAfter s (storedSpace own outer found) [] ns)) × (sections ≡ overwrite sections₀ 0 (numbersFrom s (storedSpace own outer found) [] ns)))
         → Weighed index (allSorted attributes sections k) k m count units words₁ words r
         → DecidedAs (decode table) s z (elementOf (decode table) s (startOf s outer own attrs codes at tag found)) r words schemas attributes sections
     decided-on words₀ schemas₀ words₁ schemas words attributes₀ attributes sections₀ sections count k m r en few held numbered weighed =
@@ -124,6 +124,6 @@ module _ (table : List ℕ) (header : Header) (index s attrs codes own outer spa
         sorted =
             sorted-start table (g .ready .accepted) s outer own attrs codes at tag found (g .ready .short) (g .told .attributes-inside) (g .told .few-codes) attributes₀ sections₀ attributes k count-is laid sections (numbered .1)
 
-        sectioned : m ≡ length (sectionsOf σ)
+        sectioned : m ≡ length (groupsOf σ)
         sectioned =
             sections-start table (g .ready .accepted) s outer own attrs codes at tag found (g .ready .short) (g .told .attributes-inside) (g .told .few-codes) attributes₀ sections₀ attributes k count-is laid m (numbered .0)

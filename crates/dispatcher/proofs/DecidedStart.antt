@@ -17,9 +17,9 @@ use Rattle.table.specs.Index.{indexOf}
 use Rattle.table.specs.Judge.{Accepted}
 use Rattle.reader.specs.Events.{Start}
 use Rattle.model.specs.Tree.{start}
-use Rattle.model.specs.Stream.{Entry, State, allot, enter, unitsOf, entered, written, after}
+use Rattle.model.specs.Stream.{Entry, State, allot, entriesAt, unitsOf, entered, written, after}
 use Rattle.model.specs.Elements.{Element, elementOf}
-use Rattle.model.specs.Groups.{sectionsOf}
+use Rattle.model.specs.Groups.{groupsOf}
 use Rattle.model.specs.Dispatch.{dispatch}
 use Rattle.strands.specs.Entries.{strandWord, schemaWord, hereCount, Unnumbered, entriesIn}
 use Rattle.strands.specs.Attributes.{Sorted, allSorted}
@@ -47,17 +47,17 @@ module _ (table : List ℕ) (a : Accepted table ≡ true) (s : List ℕ) (z : Se
   state = stateOf t s z
 
   abbrev es : List Entry
-  es = enter (dispatch t) (state .levels) σ
+  es = entriesAt (dispatch t) (state .levels) σ
 
   abbrev m : ℕ
-  m = length (sectionsOf σ)
+  m = length (groupsOf σ)
 
   abbrev base : ℕ
   base = z .units + length (unitsOf (dispatch t) σ es)
 
   -- ---- more than 16 strands
   pub decided-many : (words₀ schemas₀ words schemas attributes sections : List ℕ) (count : ℕ) (r : Decided)
-      → Entering (enter (dispatch (decode table)) (stateOf (decode table) s z .levels) (elementOf (decode table) s e)) words₀ schemas₀ words schemas count → 16 < count → r ≡ onlyNumber 23
+      → Entering (entriesAt (dispatch (decode table)) (stateOf (decode table) s z .levels) (elementOf (decode table) s e)) words₀ schemas₀ words schemas count → 16 < count → r ≡ onlyNumber 23
       → DecidedAs (decode table) s z (elementOf (decode table) s e) r words schemas attributes sections
   decided-many words₀ schemas₀ words schemas attributes sections count r en h q =
       let k : r .number ≡ 23 = ap (λ (d : Decided). d .number) q in
@@ -65,13 +65,13 @@ module _ (table : List ℕ) (a : Accepted table ≡ true) (s : List ℕ) (z : Se
       record { number-is = k ∙ sym d; made = λ y. absurd (omega arith) }
 
   -- ---- the others
-  module _ (unnumbered : All Unnumbered (enter (dispatch (decode table)) (stateOf (decode table) s z .levels) (elementOf (decode table) s e)))
-      (small : All SchemaSmall (enter (dispatch (decode table)) (stateOf (decode table) s z .levels) (elementOf (decode table) s e)))
-      (pack : All EntryPackable (enter (dispatch (decode table)) (stateOf (decode table) s z .levels) (elementOf (decode table) s e)))
+  module _ (unnumbered : All Unnumbered (entriesAt (dispatch (decode table)) (stateOf (decode table) s z .levels) (elementOf (decode table) s e)))
+      (small : All SchemaSmall (entriesAt (dispatch (decode table)) (stateOf (decode table) s z .levels) (elementOf (decode table) s e)))
+      (pack : All EntryPackable (entriesAt (dispatch (decode table)) (stateOf (decode table) s z .levels) (elementOf (decode table) s e)))
       (words₀ schemas₀ words₁ schemas words attributes sections : List ℕ) (count k j : ℕ) (r : Decided)
-      (en : Entering (enter (dispatch (decode table)) (stateOf (decode table) s z .levels) (elementOf (decode table) s e)) words₀ schemas₀ words₁ schemas count)
+      (en : Entering (entriesAt (dispatch (decode table)) (stateOf (decode table) s z .levels) (elementOf (decode table) s e)) words₀ schemas₀ words₁ schemas count)
       (few-strands : count ≤ 16) (few-attributes : k ≤ 16) (few-sections : j ≤ 16)
-      (sorted : allSorted attributes sections k ≡ allOf (elementOf (decode table) s e)) (sections-are : j ≡ length (sectionsOf (elementOf (decode table) s e)))
+      (sorted : allSorted attributes sections k ≡ allOf (elementOf (decode table) s e)) (sections-are : j ≡ length (groupsOf (elementOf (decode table) s e)))
       (weighed : Weighed (indexOf table (headerOf table)) (allSorted attributes sections k) k j count (z .units) words₁ words r) where
     count-is : count ≡ length es
     count-is = few (length es) count (en .0) few-strands

@@ -19,7 +19,7 @@ use Rattle.laws.specs.Reading.{le-or-lt}
 use Rattle.laws.specs.Over.{overwrite}
 use Rattle.laws.specs.Gather.{gather, total}
 use Rattle.table.specs.Table.{Table}
-use Rattle.lexer.specs.Stops.{numberOf, placeOf}
+use Rattle.lexer.specs.Stops.{numberOf, stopPlace}
 use Rattle.lexer.specs.Values.{textEnd}
 use Rattle.lexer.specs.Tags.{endTagAt}
 use Rattle.lexer.specs.declared.Stop.{Stop}
@@ -88,7 +88,7 @@ module _ (at n : ℕ) (rs : List (Record Body ℕ)) (next′ z : Session) (out :
       → _≡_ {A = Step} (record { answer = answered 0 (next′ .place) 1 n; session = next′; output = out′ }) (eventStep at rs next′ z out)
   room-turn used out′ h l =
       let m : 0 + 16 * length (map rowOf rs) ≤ length out = omega (arith, rows-length rs) in
-      let o : out′ ≡ overwrite out 0 (gather model.bytesOf rs) = rows-end (map rowOf rs) out 0 out′ used m l .1 ∙ ap (overwrite out 0) (rows-bytes rs) in
+      let o : out′ ≡ overwrite out 0 (gather model.recordBytesOf rs) = rows-end (map rowOf rs) out 0 out′ used m l .1 ∙ ap (overwrite out 0) (rows-bytes rs) in
       rw (le-ltb (length out) (16 * length rs) (omega arith), e, o)
 
 -- an event of the innermost level by what was counted and laid
@@ -140,7 +140,7 @@ pub stop-step : (n p : ℕ) (head : Head) (levels bindings spaces strands out : 
 stop-step n p head levels bindings spaces strands out h = rw (ne-eqb n 0 h)
 
 pub stopped-step : (s : List ℕ) (x : Stop) (head : Head) (levels bindings spaces strands out : List ℕ)
-    → stepBy (stopTurn (numberOf x) (placeOf s x) head) levels bindings spaces strands out ≡ refusedStep (numberOf x) (placeOf s x) (sessionOf head levels bindings spaces strands) out
+    → stepBy (stopTurn (numberOf x) (stopPlace s x) head) levels bindings spaces strands out ≡ refusedStep (numberOf x) (stopPlace s x) (sessionOf head levels bindings spaces strands) out
 stopped-step s (Bad p) head levels bindings spaces strands out = refl
 stopped-step s (Long p) head levels bindings spaces strands out = refl
 stopped-step s Cut head levels bindings spaces strands out = refl
@@ -192,7 +192,7 @@ module _ (t : Table) (s : List ℕ) (z : Session) (h : 1 ≤ z .scope .depth) wh
       ap₂ (λ (b : Bool) (os : List Open). planBy t s z (nextBy s (readerOf z) b os)) a (opens-inner (z .scope) h)
       ∙ ap (λ (b : Bool). event (innerName .at - 1) (written (dispatch t) (stateOf t s z) (end (partOf s innerName))) (withEnd z (z .place) b)) (rest-nil (z .scope) h)
 
-  pub stopped-plan : (at : ℕ) (x : Stop) → planBy t s z (endRead s at (opensOf (z .scope)) (ended.Stopped x)) ≡ refused (numberOf x) (placeOf s x)
+  pub stopped-plan : (at : ℕ) (x : Stop) → planBy t s z (endRead s at (opensOf (z .scope)) (ended.Stopped x)) ≡ refused (numberOf x) (stopPlace s x)
   stopped-plan at x = ap (λ (os : List Open). planBy t s z (endRead s at os (ended.Stopped x))) (opens-inner (z .scope) h)
 
   module _ (at : ℕ) (tag : EndTag) where
@@ -250,7 +250,7 @@ module _ (t : Table) (s : List ℕ) (z : Session) (out : List ℕ) (r : Step) wh
         ∙ ap₂ (λ (w : Span) (i : ℕ). endStep w i (z .place)) (p ∙ ap (partOf s) n) (k ∙ ap (λ (w : Span). w .at - 1) n)
         ∙ sym (ap (λ (x : Plan). planned x z out) (awaited-plan t s z h a))
 
-    pub stopped-end : (at : ℕ) (x : Stop) → r ≡ refusedStep (numberOf x) (placeOf s x) z out → r ≡ planned (planBy t s z (endRead s at (opensOf (z .scope)) (ended.Stopped x))) z out
+    pub stopped-end : (at : ℕ) (x : Stop) → r ≡ refusedStep (numberOf x) (stopPlace s x) z out → r ≡ planned (planBy t s z (endRead s at (opensOf (z .scope)) (ended.Stopped x))) z out
     stopped-end at x e = e ∙ sym (ap (λ (y : Plan). planned y z out) (stopped-plan t s z h at x))
 
     module _ (at : ℕ) (tag : EndTag) (whole name : Span) (same : Bool) (w : whole ≡ wholeSpan (tag .name)) (n : name ≡ nameIn (z .scope .levels) (z .scope .depth - 1)) (q : same ≡ sameList (bytesOf s whole) (bytesOf s name)) where

@@ -26,7 +26,7 @@ use Rattle.reader.specs.declared.Binding.{Binding}
 use Rattle.reader.specs.declared.Kind.{Kind}
 use Rattle.reader.specs.declared.Kind.the-variants.{Plain, Prefixed, Default, Declares}
 use Rattle.reader.specs.Spans.{bytesOf, wholeSpan, kindOf}
-use Rattle.reader.specs.Namespaces.{declaredBy, declarationsOf, refusedBinding, Namespace, Attribute, Meaning, refused, meant, meantBy, meaningOf, ofElement, resolved, sameName, sameExpanded}
+use Rattle.reader.specs.Namespaces.{declaredBy, declarationsOf, refusedBinding, Namespace, ReadAttribute, Meaning, refused, meant, meantBy, meaningOf, ofElement, resolved, sameName, sameExpanded}
 use Rattle.reader.specs.Events.{Start, Event, start, text, end, Open, ReaderState, bindingsOf, Next, event, refusal, finished, partOf, isNil, endRead, startMeant, startRead, textRead, begun, nextBy, next}
 use Rattle.reader.specs.Held.{Held}
 use Rattle.reader.proofs.ReadNames.{part-of}
@@ -73,7 +73,7 @@ module _ (s : List ℕ) where
       own : List Binding
       own = declarationsOf s attrs
 
-      by : (o : Option Namespace) (r : Option (List Attribute)) → MeaningFew (length attrs) (meantBy s attrs own o r)
+      by : (o : Option Namespace) (r : Option (List ReadAttribute)) → MeaningFew (length attrs) (meantBy s attrs own o r)
       by none r = tt
       by (some m) none = tt
       by (some m) (some as′) =

@@ -27,7 +27,7 @@ use Rattle.reader.specs.declared.Span.{Span}
 use Rattle.reader.specs.Spans.{bytesOf}
 use Rattle.reader.specs.Namespaces.{Namespace, uriOf}
 use Rattle.model.specs.Elements.{Element, Space, spaceOf, sameSpace}
-use Rattle.model.specs.Stream.{Entry, enter}
+use Rattle.model.specs.Stream.{Entry, entriesAt}
 use Rattle.model.specs.Dispatch.{dispatch}
 use Rattle.strands.specs.Packed.{strandIn}
 use Rattle.strands.specs.Entries.{entriesBy, entriesFrom, stayEntry, Unnumbered}
@@ -149,7 +149,7 @@ module _ (table : List ℕ) (a : Accepted table ≡ true) (s : List ℕ) (z : Se
   unfolding levelIn
   joins k l = joined-is table a s n (classIn z k) (uriIn z k) (level-in k l) ∙ ap (sameList (levelUri (decode table) s (classIn z k) (uriIn z k))) (sym bytes-are)
 
-  enters-at : (d : ℕ) → d ≤ z .scope .depth → nextEntries index s (uriOf s n) (z .spaces) (z .strands) class d ≡ enter (dispatch (decode table)) (levelsIn (decode table) s z d) σ
+  enters-at : (d : ℕ) → d ≤ z .scope .depth → nextEntries index s (uriOf s n) (z .spaces) (z .strands) class d ≡ entriesAt (dispatch (decode table)) (levelsIn (decode table) s z d) σ
   unfolding levelsIn levelIn strandsIn
   enters-at zero l = ap (λ (c : ℕ). entriesBy index c (strandIn 32)) (sym class-is) ∙ before-root table (headerOf table) (header-in table a .few-rules) σ few-classes
   enters-at (suc k) l =
@@ -159,7 +159,7 @@ module _ (table : List ℕ) (a : Accepted table ≡ true) (s : List ℕ) (z : Se
       (ap (λ (c : ℕ). entriesFrom index c ws) (sym class-is) ∙ take-rules-are table (headerOf table) (header-in table a .few-rules) σ few-classes ws)
 
   pub enters : nextEntries (indexOf table (headerOf table)) s (uriOf s n) (z .spaces) (z .strands) (spaceOf (decode table) s n .class) (z .scope .depth)
-      ≡ enter (dispatch (decode table)) (stateOf (decode table) s z .levels) σ
+      ≡ entriesAt (dispatch (decode table)) (stateOf (decode table) s z .levels) σ
   enters = enters-at (z .scope .depth) (omega arith)
 
 -- ---- what holds of each

@@ -49,7 +49,7 @@ module _ (t : Table) (s r : List ℕ) where
   space-more scene.xml h = refl
   space-more (scene.declared w) h = rw (bytes-more s r w h)
 
-  attribute-more : (a : scene.Attribute) → AttributeHeld s a → attributeOf t (s ++ r) a ≡ attributeOf t s a
+  attribute-more : (a : scene.ReadAttribute) → AttributeHeld s a → attributeOf t (s ++ r) a ≡ attributeOf t s a
   unfolding attributeOf
   attribute-more a h = rw (space-more (a .namespace) (h .namespace))
 

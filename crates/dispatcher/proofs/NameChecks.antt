@@ -10,9 +10,9 @@ use borrow.Author.Tests.{eq-eqb, ne-eqb, lt-ltb, eqb-false}
 use lib.ListN.{length, drop, getD, length-append, length-drop, List·getD-append}
 use lib.Seq.{getD-at}
 use lib.Dec.{eqb}
-use Rattle.laws.specs.Reading.{Next, go, follow, run, run-go, run-stop, drop-here}
+use Rattle.laws.specs.Reading.{RunNext, go, follow, run, run-go, run-stop, drop-here}
 use Rattle.laws.proofs.Holds.{holds-cond}
-use Rattle.lexer.specs.Stops.{after}
+use Rattle.lexer.specs.Stops.{afterRead}
 use Rattle.lexer.specs.Names.{startLen, nameLen, partStep, partEnd, nameOf, prefixedAt, nameAt}
 use Rattle.lexer.specs.Whole.{partTo, nameTo, isPart, isWholeName}
 use Rattle.lexer.specs.declared.Stop.{Stop}
@@ -24,7 +24,7 @@ use Rattle.lexer.proofs.Inside.{ReadInside, PartTo, part-inside}
 use Rattle.lexer.proofs.Stable.{start-same, name-same, part-stable}
 
 -- a name whose last part is read: it ends where the part does
-name-to-part : (n at part : ℕ) (r : Read) → partTo n r ≡ nameTo n (after named.Stopped r (λ (end : ℕ). nameOf at part end))
+name-to-part : (n at part : ℕ) (r : Read) → partTo n r ≡ nameTo n (afterRead named.Stopped r (λ (end : ℕ). nameOf at part end))
 name-to-part n at part (read.End j) = refl
 name-to-part n at part (read.Stopped x) = refl
 
@@ -83,7 +83,7 @@ module _ (l : List ℕ) where
           (q : ℕ) → q ≤ 64 → (q ≡ 64 → ⊥) → run (read.Stopped Cut) (partStep l) q rest (i + 1) ≡ read.Stopped Cut
           → run (read.Stopped Cut) (partStep ended) q (drop (i + 1) ended) (i + 1) ≡ read.End (length l)
 
-      Turn : Next ℕ Read → Type 0
+      Turn : RunNext ℕ Read → Type 0
       Turn n = n ≡ partStep ended room (getD ended i 0) i → follow n (λ (q : ℕ). run (read.Stopped Cut) (partStep l) q rest (i + 1)) ≡ read.Stopped Cut → Goal
 
       next : i < length l → Further → (q : ℕ) → q ≤ 64 → (q ≡ 64 → ⊥) → Turn (go q)

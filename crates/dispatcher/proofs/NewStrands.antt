@@ -13,7 +13,7 @@ use Rattle.laws.specs.Members.{All}
 use Rattle.laws.proofs.Holds.{holds-cond}
 use Rattle.laws.proofs.Members.{kept-in, all-by}
 use Rattle.laws.proofs.Elementwise.{each-map, each-gather}
-use Rattle.table.specs.Table.{Table, decode, orElse, any, written as namesClass, fallback, rulesOf}
+use Rattle.table.specs.Table.{Table, decode, orElse, anyClass, namesClass as namesClass, fallback, rulesOf}
 use Rattle.table.specs.Judge.{Accepted}
 use Rattle.table.specs.declared.Action.{Action}
 use Rattle.table.specs.declared.Action.the-variants.{Attach, Unwrap, Validate}
@@ -23,7 +23,7 @@ use Rattle.model.specs.Theory.{taken}
 use Rattle.model.specs.Tree.{start}
 use Rattle.model.specs.Elements.{Element, sameSpace}
 use Rattle.model.specs.Records.{keptOf}
-use Rattle.model.specs.Stream.{Level, State, Entry, allot, takeRules, enter, entered, after, Strand, beforeRoot, byRule}
+use Rattle.model.specs.Stream.{Level, State, Entry, allot, takeRules, entriesAt, entered, after, HeldStrand, heldBeforeRoot, byRule}
 use Rattle.model.specs.Dispatch.{dispatch}
 use Rattle.model.proofs.Lists as model
 use Rattle.model.proofs.Steps as model-steps
@@ -49,11 +49,11 @@ allot-length u (e ∷ es) = by (e .strand .mode) (e .strand .action) (e .strand 
     by m c t false n ih = ap suc (ih u)
     by m c t true n ih = ap suc (ih (suc u))
 
-abbrev pub newStrands : (t : Table) → State (dispatch t) → Element → List (Strand ℕ)
+abbrev pub newStrands : (t : Table) → State (dispatch t) → Element → List (HeldStrand ℕ)
 newStrands t z σ = map (λ (e : Entry). e .strand) (entered (dispatch t) z σ)
 
-pub new-length : (t : Table) (z : State (dispatch t)) (σ : Element) → length (newStrands t z σ) ≡ length (enter (dispatch t) (z .levels) σ)
-new-length t z σ = length-map (entered (dispatch t) z σ) (λ (e : Entry). e .strand) ∙ allot-length _ (enter (dispatch t) (z .levels) σ)
+pub new-length : (t : Table) (z : State (dispatch t)) (σ : Element) → length (newStrands t z σ) ≡ length (entriesAt (dispatch t) (z .levels) σ)
+new-length t z σ = length-map (entered (dispatch t) z σ) (λ (e : Entry). e .strand) ∙ allot-length _ (entriesAt (dispatch t) (z .levels) σ)
 
 -- ---- modes
 ModeIn : ℕ → Entry → Type 0
@@ -89,7 +89,7 @@ ok-some : {A : Type 0} (l : List A) → (1 ≤ length l → model-steps.NonEmpty
 ok-some [] = (λ h. omega arith, λ h. absurd h)
 ok-some (x ∷ l) = (λ h. tt, λ h. omega arith)
 
-ok-strands : (t : Table) (u : ℕ) (rs : List (Strand ℕ)) → All (StrandSound t u) rs → model.All (model-steps.StrandOk u) rs
+ok-strands : (t : Table) (u : ℕ) (rs : List (HeldStrand ℕ)) → All (StrandSound t u) rs → model.All (model-steps.StrandOk u) rs
 ok-strands t u [] h = tt
 ok-strands t u (r ∷ rs) h = ((ok-target u (r .target) .0 (h .0 .below), ok-aims (r .action) (r .target) .0 (h .0 .aims)), ok-strands t u rs (h .1))
 
@@ -97,7 +97,7 @@ ok-levels : (t : Table) (s : List ℕ) (u : ℕ) (ls : List (Level (dispatch t))
 ok-levels t s u [] h = tt
 ok-levels t s u (l ∷ ls) h = ((ok-strands t u (l .strands) (h .0 .strands), ok-some (l .strands) .0 (h .0 .some-strand)), ok-levels t s u ls (h .1))
 
-strands-ok : (t : Table) (u : ℕ) (rs : List (Strand ℕ)) → All (λ (r : Strand ℕ). r .mode < t .modes) rs → model.All (model-steps.StrandOk u) rs → All (StrandSound t u) rs
+strands-ok : (t : Table) (u : ℕ) (rs : List (HeldStrand ℕ)) → All (λ (r : HeldStrand ℕ). r .mode < t .modes) rs → model.All (model-steps.StrandOk u) rs → All (StrandSound t u) rs
 strands-ok t u [] m h = tt
 strands-ok t u (r ∷ rs) m h =
     (record { mode-in = m .0; below = ok-target u (r .target) .1 (h .0 .0); aims = ok-aims (r .action) (r .target) .1 (h .0 .1) }, strands-ok t u rs (m .1) (h .1))
@@ -111,22 +111,22 @@ module _ (table : List ℕ) (accepted : Accepted table ≡ true) where
   unfolding rulesOf
   taken-next mode σ l =
       orElse-each (λ (q : Rule). q .next < decode table .modes) (rulesOf (decode table) mode 0 (σ .space .class)) (fallback 0 mode ∷ [])
-      (orElse-each (λ (q : Rule). q .next < decode table .modes) (keep (namesClass mode 0 (σ .space .class)) (decode table .rules)) (keep (namesClass mode 0 any) (decode table .rules)) (kept-next _) (kept-next _))
+      (orElse-each (λ (q : Rule). q .next < decode table .modes) (keep (namesClass mode 0 (σ .space .class)) (decode table .rules)) (keep (namesClass mode 0 anyClass) (decode table .rules)) (kept-next _) (kept-next _))
       (l, tt)
 
-  take-modes : (σ : Element) (rs : List (Strand ℕ)) → All (λ (r : Strand ℕ). r .mode < decode table .modes) rs → All (ModeIn (decode table .modes)) (takeRules (dispatch (decode table)) σ rs)
+  take-modes : (σ : Element) (rs : List (HeldStrand ℕ)) → All (λ (r : HeldStrand ℕ). r .mode < decode table .modes) rs → All (ModeIn (decode table .modes)) (takeRules (dispatch (decode table)) σ rs)
   unfolding ModeIn
   take-modes σ rs h =
-      each-gather (λ (r : Strand ℕ). r .mode < decode table .modes) (ModeIn (decode table .modes)) _
+      each-gather (λ (r : HeldStrand ℕ). r .mode < decode table .modes) (ModeIn (decode table .modes)) _
       (λ r l. map-each (λ (q : Rule). q .next < decode table .modes) (ModeIn (decode table .modes)) _ (λ q k. rw (rule-mode (q .action) (q .next) (r .target)) k) (taken (dispatch (decode table)) (r .mode) σ) (taken-next (r .mode) σ l))
       rs h
 
-  enter-modes : (ls : List (Level (dispatch (decode table)))) (σ : Element) → All (λ (l : Level (dispatch (decode table))). All (λ (r : Strand ℕ). r .mode < decode table .modes) (l .strands)) ls → All (ModeIn (decode table .modes)) (enter (dispatch (decode table)) ls σ)
+  enter-modes : (ls : List (Level (dispatch (decode table)))) (σ : Element) → All (λ (l : Level (dispatch (decode table))). All (λ (r : HeldStrand ℕ). r .mode < decode table .modes) (l .strands)) ls → All (ModeIn (decode table .modes)) (entriesAt (dispatch (decode table)) ls σ)
   unfolding ModeIn
-  enter-modes [] σ h = take-modes σ (beforeRoot ∷ []) (header-in table accepted .some-mode, tt)
+  enter-modes [] σ h = take-modes σ (heldBeforeRoot ∷ []) (header-in table accepted .some-mode, tt)
   enter-modes (l ∷ ls) σ h =
       holds-cond (All (ModeIn (decode table .modes))) (sameSpace (l .at .space) (σ .space))
-      (λ e. map-each (λ (r : Strand ℕ). r .mode < decode table .modes) (ModeIn (decode table .modes)) _ (λ r k. k) (l .strands) (h .0))
+      (λ e. map-each (λ (r : HeldStrand ℕ). r .mode < decode table .modes) (ModeIn (decode table .modes)) _ (λ r k. k) (l .strands) (h .0))
       (λ e. take-modes σ (l .strands) (h .0))
 
   module _ (s : List ℕ) (z : State (dispatch (decode table))) (σ : Element) (h : All (LevelSound (decode table) s (z .units)) (z .levels)) where
@@ -141,7 +141,7 @@ module _ (table : List ℕ) (accepted : Accepted table ≡ true) where
     unfolding ModeIn
     new-strands =
         strands-ok (decode table) _ (newStrands (decode table) z σ)
-        (map-each (ModeIn (decode table .modes)) (λ (r : Strand ℕ). r .mode < decode table .modes) (λ (e : Entry). e .strand) (λ e k. k) (entered (dispatch (decode table)) z σ)
-        (allot-modes (decode table .modes) _ (enter (dispatch (decode table)) (z .levels) σ)
+        (map-each (ModeIn (decode table .modes)) (λ (r : HeldStrand ℕ). r .mode < decode table .modes) (λ (e : Entry). e .strand) (λ e k. k) (entered (dispatch (decode table)) z σ)
+        (allot-modes (decode table .modes) _ (entriesAt (dispatch (decode table)) (z .levels) σ)
         (enter-modes (z .levels) σ (each-map _ _ (λ l k. each-map _ _ (λ r m. m .mode-in) (l .strands) (k .strands)) (z .levels) h))))
         (new-ok .0)

@@ -30,7 +30,7 @@ use Rattle.model.specs.Theory.{Record}
 use Rattle.model.specs.Tree.{start}
 use Rattle.model.specs.Elements.{Space, Element, elementOf, spaceOf, uriSpan}
 use Rattle.model.specs.Records.{Body, startBody}
-use Rattle.model.specs.Stream.{Entry, enter, entered, written, after}
+use Rattle.model.specs.Stream.{Entry, entriesAt, entered, written, after}
 use Rattle.model.specs.Dispatch.{dispatch}
 use Rattle.records.specs.Rows.{laid, laidRows}
 use Rattle.strands.specs.declared.Placing.{Placing}
@@ -40,7 +40,7 @@ use Rattle.strands.specs.Attributes.{placingOf}
 use Rattle.strands.specs.Writing.{rowOf, begunBody}
 use Rattle.dispatcher.specs.Sessions.{sessionOf, stateOf, withStart}
 use Rattle.dispatcher.specs.Stepping.{Plan, refused, event, startPlan, planned, Step, answered, eventStep}
-use Rattle.dispatcher.specs.Turns.{Ready, Told, Made, DecidedAs, Roomy, begunOf, startOf, stopTurn, stepBy, openedHead, decidedNumber}
+use Rattle.dispatcher.specs.Turns.{TurnReady, Told, Made, DecidedAs, Roomy, begunOf, startOf, stopTurn, stepBy, openedHead, decidedNumber}
 use Rattle.dispatcher.specs.declared.Session.{Session}
 use Rattle.dispatcher.specs.declared.Head.{Head}
 use Rattle.dispatcher.specs.declared.Decided.{Decided}
@@ -72,7 +72,7 @@ module _ (t : Table) (s : List ℕ) (z : Session) (e : Start) (o : Open) (place 
   eventOf = event (e .at) (written (dispatch t) (stateOf t s z) (start σ)) nextOf
 
   abbrev many : Bool
-  many = ltb 16 (length (enter (dispatch t) (stateOf t s z .levels) σ))
+  many = ltb 16 (length (entriesAt (dispatch t) (stateOf t s z .levels) σ))
 
   abbrev far : Bool
   far = ltb 65536 (after (dispatch t) (stateOf t s z) (start σ) .units)
@@ -130,7 +130,7 @@ module _ (table s attrs codes : List ℕ) (header : Header) (found : Found) (ds 
   abbrev wanted : Step
   wanted = planned (startPlan (decode table) s z e ds (tag .next)) z out
 
-  module _ (roomy : Roomy head owned) (ready : Ready table header index s z) (told : Told s bindings own attrs codes at tag found owned ds) (placing-is : placing ≡ placingOf (spaceOf (decode table) s (stored.spaceOf own bindings found))) (as-decided : DecidedAs (decode table) s z element decided words schemas attributes sections) where
+  module _ (roomy : Roomy head owned) (ready : TurnReady table header index s z) (told : Told s bindings own attrs codes at tag found owned ds) (placing-is : placing ≡ placingOf (spaceOf (decode table) s (stored.storedSpace own bindings found))) (as-decided : DecidedAs (decode table) s z element decided words schemas attributes sections) where
     few : head .bound + length ds ≤ 64
     few = omega (arith, roomy .few-bound, told .owned-is)
 

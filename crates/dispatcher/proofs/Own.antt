@@ -12,7 +12,7 @@ use Rattle.laws.specs.Members.{All}
 use Rattle.reader.specs.declared.Span.{Span}
 use Rattle.reader.specs.declared.Binding.{Binding}
 use Rattle.reader.specs.declared.Scope.{Scope}
-use Rattle.reader.specs.Stored.{bindingIn, numbersOf}
+use Rattle.reader.specs.Stored.{bindingIn, bindingNumbers}
 use Rattle.reader.specs.Scope.{withLevel, opensOf}
 use Rattle.reader.proofs.Opens.{CountedScope, open-counted, open-opens, open-lengths}
 
@@ -25,14 +25,14 @@ pub record BindingSmall (b : Binding) : Type 0 where
   pub prefix : SpanSmall (b .prefix)
   pub uri : SpanSmall (b .uri)
 
-numbers-long : (own : List Binding) → length (gather numbersOf own) ≡ 4 * length own
+numbers-long : (own : List Binding) → length (gather bindingNumbers own) ≡ 4 * length own
 unfolding gather
 numbers-long [] = refl
 numbers-long (b ∷ own) = omega (arith, numbers-long own)
 
 -- a binding whose numbers stand at its place
-module _ (l : List ℕ) (k : ℕ) (b : Binding) (rest : List ℕ) (e : drop (4 * k) l ≡ numbersOf b ++ rest) (h : BindingSmall b) where
-  number-at : (j : ℕ) → getD l (4 * k + j) 0 ≡ getD (numbersOf b ++ rest) j 0
+module _ (l : List ℕ) (k : ℕ) (b : Binding) (rest : List ℕ) (e : drop (4 * k) l ≡ bindingNumbers b ++ rest) (h : BindingSmall b) where
+  number-at : (j : ℕ) → getD l (4 * k + j) 0 ≡ getD (bindingNumbers b ++ rest) j 0
   number-at j = sym (getD-drop (4 * k) l j 0) ∙ ap (λ (x : List ℕ). getD x j 0) e
 
   binding-at : bindingIn l k ≡ b
@@ -52,29 +52,29 @@ module _ (l : List ℕ) (k : ℕ) (b : Binding) (rest : List ℕ) (e : drop (4 *
         mod-eq-of-lt {n = b .uri .len} {m = 4294967296} (u .len),
       )
 
-pub own-back : (l pad : List ℕ) (k : ℕ) (own : List Binding) → drop (4 * k) l ≡ gather numbersOf own ++ pad → All BindingSmall own → tabulate (bindingIn l) k (length own) ≡ own
+pub own-back : (l pad : List ℕ) (k : ℕ) (own : List Binding) → drop (4 * k) l ≡ gather bindingNumbers own ++ pad → All BindingSmall own → tabulate (bindingIn l) k (length own) ≡ own
 unfolding tabulate gather
 own-back l pad k [] e h = refl
 own-back l pad k (b ∷ own) e h =
     let n : 4 * suc k ≡ 4 * k + 4 = omega arith in
-    ap₂ _∷_ (binding-at l k b (gather numbersOf own ++ pad) e (h .0))
+    ap₂ _∷_ (binding-at l k b (gather bindingNumbers own ++ pad) e (h .0))
     (own-back l pad (suc k) own (ap (λ (i : ℕ). drop i l) n ∙ sym (drop-drop 4 (4 * k) l) ∙ ap (drop 4) e) (h .1))
 
 -- the array of sixteen that begins with them
 abbrev padded : List Binding → List ℕ
-padded own = gather numbersOf own ++ replicate (64 - 4 * length own) 0
+padded own = gather bindingNumbers own ++ replicate (64 - 4 * length own) 0
 
 module _ (sc : Scope) (name : Span) (own : List Binding) where
   abbrev pub opened : Scope
-  opened = withLevel sc name (gather numbersOf own) (length own)
+  opened = withLevel sc name (gather bindingNumbers own) (length own)
 
   as-padded : opened ≡ withLevel sc name (padded own) (length own)
-  as-padded = rw (take-append-le (4 * length own) (gather numbersOf own) (replicate (64 - 4 * length own) 0) (omega (arith, numbers-long own)))
+  as-padded = rw (take-append-le (4 * length own) (gather bindingNumbers own) (replicate (64 - 4 * length own) 0) (omega (arith, numbers-long own)))
 
   module _ (few : length own ≤ 16) (lv : length (sc .levels) ≡ 192) (lb : length (sc .bindings) ≡ 256) (d : sc .depth < 64) (b : sc .bound + length own ≤ 64) where
     padded-long : length (padded own) ≡ 64
     padded-long =
-        omega (arith, length-append (gather numbersOf own) (replicate (64 - 4 * length own) 0), numbers-long own, length-replicate {A = ℕ} (64 - 4 * length own) 0)
+        omega (arith, length-append (gather bindingNumbers own) (replicate (64 - 4 * length own) 0), numbers-long own, length-replicate {A = ℕ} (64 - 4 * length own) 0)
 
     pub opened-opens : CountedScope sc → SpanSmall name → All BindingSmall own → opensOf opened ≡ record { name = name; declarations = own } ∷ opensOf sc
     opened-opens c n h =
@@ -83,7 +83,7 @@ module _ (sc : Scope) (name : Span) (own : List Binding) where
         ∙ ap (λ (ds : List Binding). record { name = name; declarations = ds } ∷ opensOf sc) (own-back (padded own) (replicate (64 - 4 * length own) 0) 0 own refl h)
 
     pub opened-counted : CountedScope sc → CountedScope opened
-    opened-counted c = open-counted sc name (gather numbersOf own) (length own) lv d c
+    opened-counted c = open-counted sc name (gather bindingNumbers own) (length own) lv d c
 
     pub opened-lengths : (length (opened .levels) ≡ 192) × (length (opened .bindings) ≡ 256)
     opened-lengths =

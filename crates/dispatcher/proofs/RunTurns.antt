@@ -17,11 +17,11 @@ use Rattle.table.specs.declared.Header.{Header}
 use Rattle.table.specs.Judge.{judged, Accepted}
 use Rattle.model.specs.Theory.{Record}
 use Rattle.model.specs.Records.{Body}
-use Rattle.model.specs.Dispatch.{bytesOf}
+use Rattle.model.specs.Dispatch.{recordBytesOf}
 use Rattle.dispatcher.specs.Sessions.{freshOf, sessionOf}
 use Rattle.dispatcher.specs.Coherence.{coherent}
 use Rattle.dispatcher.specs.Stepping.{Plan, refused, finished, event, planOf, planned, Step, Run, answered, refusedStep, eventStep, longest, stepOf, handed, runFrom, runOf, ran}
-use Rattle.dispatcher.specs.Turns.{Ready, stepBy, turnAnswer}
+use Rattle.dispatcher.specs.Turns.{TurnReady, stepBy, turnAnswer}
 use Rattle.dispatcher.specs.declared.Session.{Session}
 use Rattle.dispatcher.specs.declared.Turn.{Turn}
 use Rattle.dispatcher.proofs.Sound.{Sound}
@@ -56,7 +56,7 @@ room-of (refused n p) z out e = omega arith
 room-of (finished p) z out e = omega arith
 room-of (event at rs next) z out e = by (ltb (length out) (16 * length rs)) refl e
   where
-    by : (b : Bool) → b ≡ ltb (length out) (16 * length rs) → Roomed out (cond b (refusedStep 25 at z out) (record { answer = answered 0 (next .place) 1 (length rs); session = next; output = overwrite out 0 (gather bytesOf rs) }))
+    by : (b : Bool) → b ≡ ltb (length out) (16 * length rs) → Roomed out (cond b (refusedStep 25 at z out) (record { answer = answered 0 (next .place) 1 (length rs); session = next; output = overwrite out 0 (gather recordBytesOf rs) }))
     by true q e = omega arith
     by false q e = ltb-false (length out) (16 * length rs) (sym q)
 
@@ -153,7 +153,7 @@ module _ (table s : List ℕ) (header : Header) (z : Session) (head-is : header 
       ap (λ (x : Answer). handed (record { answer = x; session = z }) out) e
       ∙ step-incoherent table s z out accepted short (sym judged-coherent ∙ not-true r n)
 
-  pub next-ready : (index : List ℕ) → not r ≡ false → index ≡ indexOf table header → Ready table header index s z
+  pub next-ready : (index : List ℕ) → not r ≡ false → index ≡ indexOf table header → TurnReady table header index s z
   next-ready index n e = record { accepted = accepted; header-is = head-is; index-is = e; short = short; coherent′ = sym judged-coherent ∙ not-false r n }
 
   pub next-turned : (turn : Turn) (a : Answer) (levels bindings spaces strands out′ out : List ℕ) → not r ≡ false → a ≡ turnAnswer turn

@@ -27,7 +27,7 @@ use Rattle.reader.specs.Events.{Start}
 use Rattle.reader.specs.Held.{SpanHeld}
 use Rattle.reader.proofs.AgreeWhole.{attributesIn}
 use Rattle.model.specs.Elements.{Element, uriSpan, spaceOf, elementOf}
-use Rattle.model.specs.Groups.{sectionsOf}
+use Rattle.model.specs.Groups.{groupsOf}
 use Rattle.strands.specs.Attributes.{Given, namespaceOf, givenOf, delivered, givensOf, laidGivens, givenIn, codeNamespaces, numbersFrom, sectionsAfter, allSorted}
 use Rattle.strands.proofs.Giving.{GivenSmall, givens-back}
 use Rattle.strands.proofs.Numbering as numbering
@@ -43,7 +43,7 @@ sections-few s e own outer attributes n m few q =
     omega (arith, numbering.sections-few s e [] (codeNamespaces own outer gs), length-map gs (λ (g : Given). namespaceOf own outer (g .code)), length-tabulate (givenIn attributes) 0 n)
 
 -- ---- what the arrays hold
-abbrev pub AttributeInside : List ℕ → scene.Attribute → Type 0
+abbrev pub AttributeInside : List ℕ → scene.ReadAttribute → Type 0
 AttributeInside s a = SpanHeld s (a .part) × SpanHeld s (a .value) × SpanHeld s (uriSpan (a .namespace))
 
 uri-inside : (t : Table) (s : List ℕ) (n : Namespace) → SpanHeld s (uriSpan n) → SpanHeld s (spaceOf t s n .uri)
@@ -51,7 +51,7 @@ unfolding spaceOf
 uri-inside t s n h = holds-cond (SpanHeld s) (eqb (classOf t (uriOf s n)) 255) (λ e. h) (λ e. omega arith)
 
 module _ (table : List ℕ) (a : Accepted table ≡ true) (s own outer : List ℕ) (short : length s ≤ 16777215) where
-  abbrev made : Coded → scene.Attribute
+  abbrev made : Coded → scene.ReadAttribute
   made c = attribute (c .attr) (namespaceOf own outer (c .code))
 
   given-small : (c : Coded) → AttributeInside s (made c) → CodeSmall c → GivenSmall (givenOf (decode table) s own outer c)
@@ -85,7 +85,7 @@ module _ (table : List ℕ) (a : Accepted table ≡ true) (s outer own attrs cod
   t = decode table
 
   abbrev n : Namespace
-  n = stored.spaceOf own outer found
+  n = stored.storedSpace own outer found
 
   abbrev cs : List Coded
   cs = coded (attrsIn attrs (tag .count)) codes
@@ -109,15 +109,15 @@ module _ (table : List ℕ) (a : Accepted table ≡ true) (s outer own attrs cod
     back : tabulate (givenIn attributes) 0 k ≡ gs
     back = ap₂ (λ (l : List ℕ) (i : ℕ). tabulate (givenIn l) 0 i) ea ek ∙ givens-back gs attributes₀ small
 
-    pub sections-start : (m : ℕ) → m ≡ length (sectionsAfter s (stored.spaceOf own outer found) [] (codeNamespaces own outer (tabulate (givenIn attributes) 0 k)))
-        → m ≡ length (sectionsOf (elementOf (decode table) s (startOf s outer own attrs codes at tag found)))
+    pub sections-start : (m : ℕ) → m ≡ length (sectionsAfter s (stored.storedSpace own outer found) [] (codeNamespaces own outer (tabulate (givenIn attributes) 0 k)))
+        → m ≡ length (groupsOf (elementOf (decode table) s (startOf s outer own attrs codes at tag found)))
     sections-start m q =
         q
         ∙ ap (λ (l : List Given). length (sectionsAfter s n [] (codeNamespaces own outer l))) back
         ∙ sections-are t s n own outer at (partSpan (tag .name)) cs
-        ∙ ap (λ (σ : Element). length (sectionsOf σ)) element
+        ∙ ap (λ (σ : Element). length (groupsOf σ)) element
 
-    pub sorted-start : (sections : List ℕ) → sections ≡ overwrite sections₀ 0 (numbersFrom s (stored.spaceOf own outer found) [] (codeNamespaces own outer (tabulate (givenIn attributes) 0 k)))
+    pub sorted-start : (sections : List ℕ) → sections ≡ overwrite sections₀ 0 (numbersFrom s (stored.storedSpace own outer found) [] (codeNamespaces own outer (tabulate (givenIn attributes) 0 k)))
         → allSorted attributes sections k ≡ allOf (elementOf (decode table) s (startOf s outer own attrs codes at tag found))
     sorted-start sections q =
         let es : sections ≡ overwrite sections₀ 0 (numbersFrom s n [] (codeNamespaces own outer gs)) = q ∙ ap (λ (l : List Given). overwrite sections₀ 0 (numbersFrom s n [] (codeNamespaces own outer l))) back in

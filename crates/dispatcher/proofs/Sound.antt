@@ -11,7 +11,7 @@ use Rattle.table.specs.declared.Action.{Action}
 use Rattle.table.specs.declared.Action.the-variants.{Attach, Unwrap, Validate}
 use Rattle.reader.specs.Held.{Held, SpanHeld}
 use Rattle.reader.proofs.Opens.{CountedScope}
-use Rattle.model.specs.Stream.{Level, Strand}
+use Rattle.model.specs.Stream.{Level, HeldStrand}
 use Rattle.model.specs.Dispatch.{dispatch}
 use Rattle.strands.proofs.Packing.{Below}
 use Rattle.dispatcher.specs.Sessions.{readerOf, stateOf}
@@ -33,7 +33,7 @@ Aims Unwrap target = Unit {0}
 Aims Validate none = ⊥
 Aims Validate (some u) = Unit {0}
 
-pub record StrandSound (t : Table) (units : ℕ) (r : Strand ℕ) : Type 0 where
+pub record StrandSound (t : Table) (units : ℕ) (r : HeldStrand ℕ) : Type 0 where
   pub mode-in : r .mode < t .modes
   pub below : Below units (r .target)
   pub aims : Aims (r .action) (r .target)

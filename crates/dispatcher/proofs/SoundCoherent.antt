@@ -38,11 +38,11 @@ use Rattle.reader.specs.Counted.{countOf}
 use Rattle.reader.specs.Held.{SpanHeld, BindingHeld, OpenHeld}
 use Rattle.reader.proofs.Opens.{opens-bindings, opens-nil}
 use Rattle.reader.proofs.Tabulated.{tabulate-append}
-use Rattle.model.specs.Stream.{Level, Strand}
+use Rattle.model.specs.Stream.{Level, HeldStrand}
 use Rattle.model.specs.Dispatch.{dispatch}
 use Rattle.strands.specs.Packed.{strandIn}
 use Rattle.dispatcher.specs.Sessions.{classIn, uriIn, strandCount, strandsIn, levelIn, levelsIn}
-use Rattle.dispatcher.specs.Coherence.{levelNumbers, openBindings, spanInside, prefixFits, targetFits, aims, coherent}
+use Rattle.dispatcher.specs.Coherence.{openLevels, openBindings, spanInside, prefixFits, targetFits, aims, coherent}
 use Rattle.dispatcher.specs.declared.Session.{Session}
 use Rattle.strands.proofs.Packing.{Below}
 use Rattle.dispatcher.proofs.Sound.{Aims, StrandSound, LevelSound, Sound}
@@ -136,10 +136,10 @@ module _ (t : Table) (s : List ℕ) (z : Session) (h : Sound t s z) where
   pub sound-name : (k : ℕ) → k < z .scope .depth → (ds : List Binding) × OpenHeld s (record { name = nameIn (z .scope .levels) k; declarations = ds })
   sound-name k l = open-at (z .scope .levels) (z .scope .bindings) (OpenHeld s) (z .scope .depth) (z .scope .bound) k l (h .held .opened)
 
-  each-level : (p : ℕ → Bool) → ((k : ℕ) → k < z .scope .depth → p k ≡ true) → all p (levelNumbers z) ≡ true
+  each-level : (p : ℕ → Bool) → ((k : ℕ) → k < z .scope .depth → p k ≡ true) → all p (openLevels z) ≡ true
   each-level p f = all-numbers p 0 (z .scope .depth) (λ k l. f k (omega arith))
 
-  by-strand : (p : Strand ℕ → Bool) → ((r : Strand ℕ) → StrandSound t (z .units) r → p r ≡ true) → all (λ (k : ℕ). all p (strandsIn z k)) (levelNumbers z) ≡ true
+  by-strand : (p : HeldStrand ℕ → Bool) → ((r : HeldStrand ℕ) → StrandSound t (z .units) r → p r ≡ true) → all (λ (k : ℕ). all p (strandsIn z k)) (openLevels z) ≡ true
   unfolding levelIn
   by-strand p f = each-level (λ (k : ℕ). all p (strandsIn z k)) (λ k l. all-each (StrandSound t (z .units)) p f (strandsIn z k) (sound-level k l .strands))
 
@@ -147,8 +147,8 @@ module _ (t : Table) (s : List ℕ) (z : Session) (h : Sound t s z) where
   by-binding p f =
       all-each (BindingHeld s) p f (openBindings z) (subst (All (BindingHeld s)) (opens-bindings (z .scope) (h .fits .counted)) (bindings-held s (opensOf (z .scope)) (h .held .opened)))
 
-  counts : eqb (total (countIn (z .scope)) (levelNumbers z)) (z .scope .bound) ≡ true
-  counts = eq-eqb (total (countIn (z .scope)) (levelNumbers z)) (z .scope .bound) (total-numbers (z .scope .levels) (z .scope .depth) ∙ h .fits .counted)
+  counts : eqb (total (countIn (z .scope)) (openLevels z)) (z .scope .bound) ≡ true
+  counts = eq-eqb (total (countIn (z .scope)) (openLevels z)) (z .scope .bound) (total-numbers (z .scope .levels) (z .scope .depth) ∙ h .fits .counted)
 
   awaited-fits : (a : Bool) → (a ≡ true → opensOf (z .scope) ≡ [] → ⊥) → (not a || not (eqb (z .scope .depth) 0)) ≡ true
   unfolding opensIn

@@ -22,7 +22,7 @@ use Rattle.model.specs.Theory.{Record}
 use Rattle.model.specs.Tree.{start}
 use Rattle.model.specs.Elements.{elementOf}
 use Rattle.model.specs.Records.{Body, keptOf}
-use Rattle.model.specs.Stream.{Level, State, enter, after}
+use Rattle.model.specs.Stream.{Level, State, entriesAt, after}
 use Rattle.model.specs.Dispatch.{dispatch, told}
 use Rattle.dispatcher.specs.Sessions.{readerOf, stateOf}
 use Rattle.reader.specs.declared.Binding.{Binding}
@@ -54,12 +54,12 @@ level-units t s u v le l h =
 
 -- ---- the levels behind an event
 -- a start that is planned has at most 16 strands
-few-strands : (t : Table) (s : List ℕ) (z : Session) (e : reading.Start) (os : List reading.Open) → OpenLimits t s z e os → length (enter (dispatch t) (stateOf t s z .levels) (elementOf t s e)) ≤ 16
+few-strands : (t : Table) (s : List ℕ) (z : Session) (e : reading.Start) (os : List reading.Open) → OpenLimits t s z e os → length (entriesAt (dispatch t) (stateOf t s z .levels) (elementOf t s e)) ≤ 16
 few-strands t s z e [] l = absurd l
 few-strands t s z e (o ∷ os) l = l .strands
 
 module _ (table : List ℕ) (accepted : Accepted table ≡ true) (s : List ℕ) where
-  level-new : (z : State (dispatch (decode table))) → All (LevelSound (decode table) s (z .units)) (z .levels) → (e : reading.Start) → StartHeld s e → length (enter (dispatch (decode table)) (z .levels) (elementOf (decode table) s e)) ≤ 16
+  level-new : (z : State (dispatch (decode table))) → All (LevelSound (decode table) s (z .units)) (z .levels) → (e : reading.Start) → StartHeld s e → length (entriesAt (dispatch (decode table)) (z .levels) (elementOf (decode table) s e)) ≤ 16
       → LevelSound (decode table) s (after (dispatch (decode table)) z (start (elementOf (decode table) s e)) .units) (record { at = keptOf (elementOf (decode table) s e); strands = newStrands (decode table) z (elementOf (decode table) s e) })
   unfolding elementOf
   level-new z h e k few =
@@ -103,7 +103,7 @@ module _ (t : Table) (s : List ℕ) (z : Session) where
   start-not : (e : reading.Start) (own : List Binding) (place : ℕ) → NotTwenty (startPlan t s z e own place)
   unfolding startPlan
   start-not e own place =
-      limits-not (leb 64 (z .scope .depth)) (ltb 64 (z .scope .bound + length own)) (ltb 16 (length (enter (dispatch t) (stateOf t s z .levels) (elementOf t s e))))
+      limits-not (leb 64 (z .scope .depth)) (ltb 64 (z .scope .bound + length own)) (ltb 16 (length (entriesAt (dispatch t) (stateOf t s z .levels) (elementOf t s e))))
       (ltb 65536 (after (dispatch t) (stateOf t s z) (start (elementOf t s e)) .units)) (e .at) (event _ _ _) tt
 
   plan-not : Held s (readerOf z) → NotTwenty (planOf t s z)

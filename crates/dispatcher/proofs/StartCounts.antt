@@ -30,9 +30,9 @@ use Rattle.table.proofs.Accepted.{header-in}
 use Rattle.reader.specs.Events.{Start}
 use Rattle.model.specs.Theory.{AttributeUnit}
 use Rattle.model.specs.Tree.{start}
-use Rattle.model.specs.Stream.{Entry, State, newUnits, enter, unitsOf, entered, startRecords, written, after, Strand, attributesFrom}
+use Rattle.model.specs.Stream.{Entry, State, newUnits, entriesAt, unitsOf, entered, startRecords, written, after, HeldStrand, attributesFrom}
 use Rattle.model.specs.Elements.{Element, elementOf}
-use Rattle.model.specs.Groups.{sectionsOf}
+use Rattle.model.specs.Groups.{groupsOf}
 use Rattle.model.specs.Records.{Body, startBody}
 use Rattle.model.specs.Dispatch.{dispatch}
 use Rattle.model.proofs.Lists.{gather-map}
@@ -98,10 +98,10 @@ module _ (table : List ℕ) (a : Accepted table ≡ true) (s : List ℕ) (z : Se
   state = stateOf t s z
 
   abbrev es : List Entry
-  es = enter (dispatch t) (state .levels) σ
+  es = entriesAt (dispatch t) (state .levels) σ
 
   abbrev m : ℕ
-  m = length (sectionsOf σ)
+  m = length (groupsOf σ)
 
   abbrev base : ℕ
   base = z .units + length (unitsOf (dispatch t) σ es)
@@ -119,7 +119,7 @@ module _ (table : List ℕ) (a : Accepted table ≡ true) (s : List ℕ) (z : Se
   modes-in = each-map EntryPackable (λ (x : Entry). x .strand .mode < 32) (λ x p. p .mode-in)
 
   -- ---- units and records
-  module _ (pack : All EntryPackable (enter (dispatch (decode table)) (stateOf (decode table) s z .levels) (elementOf (decode table) s e))) where
+  module _ (pack : All EntryPackable (entriesAt (dispatch (decode table)) (stateOf (decode table) s z .levels) (elementOf (decode table) s e))) where
     abbrev unitsIn : ℕ → List (AttributeUnit Body)
     unitsIn mode = strandUnits index (σ .at) (allOf σ) m mode
 
@@ -127,7 +127,7 @@ module _ (table : List ℕ) (a : Accepted table ≡ true) (s : List ℕ) (z : Se
     tag-is =
         gather-map (λ (w : ℕ). unitsIn (strandIn w .mode)) strandWord es
         ∙ elementwise.gather-same EntryPackable (λ (x : Entry). unitsIn (strandIn (strandWord x) .mode)) (λ (x : Entry). unitsIn (x .strand .mode))
-        (λ x p. ap (λ (r : Strand ℕ). unitsIn (r .mode)) (packed-back (x .strand) p)) es pack
+        (λ x p. ap (λ (r : HeldStrand ℕ). unitsIn (r .mode)) (packed-back (x .strand) p)) es pack
         ∙ tag-units-are table (headerOf table) (header-in table a .few-rules) σ (element-classed table a s e) es (modes-in es pack)
 
     pub units-loaded : loadUnits index (allOf σ) m (map strandWord es) ≡ length (unitsOf (dispatch t) σ es)

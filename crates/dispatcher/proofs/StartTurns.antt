@@ -45,8 +45,8 @@ use Rattle.reader.specs.declared.Found.the-variants as found
 use Rattle.reader.specs.declared.Meant.{Meant}
 use Rattle.reader.specs.declared.Meant.the-variants as told
 use Rattle.reader.specs.Spans.{wholeSpan, partSpan, kindOf}
-use Rattle.reader.specs.Namespaces.{Namespace, nothing, xml, declared, Attribute, attribute, declarationsOf, refusedBinding, meant, meaningOf}
-use Rattle.reader.specs.Stored.{narrowed, Coded, coded, codesOf, codeThen, codesAfter, foundIn, foundElement, foundAttribute, isDeclaration, isUnbound, spaceOf, laidBindings, fitting}
+use Rattle.reader.specs.Namespaces.{Namespace, nothing, xml, declared, ReadAttribute, attribute, declarationsOf, refusedBinding, meant, meaningOf}
+use Rattle.reader.specs.Stored.{narrowed, Coded, coded, codesOf, codeThen, codesAfter, foundIn, foundElement, foundAttribute, isDeclaration, isUnbound, storedSpace, laidBindings, fitting}
 use Rattle.reader.specs.Events.{Start, Open, bindingsOf, begun, startRead, startMeant}
 use Rattle.reader.specs.Scope.{opensIn, opensOf}
 use Rattle.reader.specs.Held.{SpanHeld}
@@ -57,9 +57,9 @@ use Rattle.reader.proofs.TagMeaning.{NamespaceHeld, AttributeHeld, MeaningHeld,
 use Rattle.reader.proofs.Held.{bindings-in}
 use Rattle.reader.proofs.Opens.{opens-nil}
 use Rattle.model.specs.Tree.{start}
-use Rattle.model.specs.Stream.{Entry, allot, enter, unitsOf, entered, after}
+use Rattle.model.specs.Stream.{Entry, allot, entriesAt, unitsOf, entered, after}
 use Rattle.model.specs.Elements.{Element, uriSpan, elementOf}
-use Rattle.model.specs.Groups.{sectionsOf}
+use Rattle.model.specs.Groups.{groupsOf}
 use Rattle.model.specs.Elements as elements
 use Rattle.model.specs.Dispatch.{dispatch}
 use Rattle.strands.specs.declared.Placing.{Placing}
@@ -73,7 +73,7 @@ use Rattle.strands.proofs.StartRecords.{tag-units-are}
 use Rattle.dispatcher.specs.Sessions.{classIn, strandCount, levelIn, sessionOf, readerOf, stateOf}
 use Rattle.dispatcher.specs.Stepping as plan
 use Rattle.dispatcher.specs.Stepping.{Step, planBy, planOf, planned, startPlan}
-use Rattle.dispatcher.specs.Turns.{Innermost, Ready, startOf, Told, Made, Roomy, arrayUnits, Openable, stopTurn, stepBy}
+use Rattle.dispatcher.specs.Turns.{Innermost, TurnReady, startOf, Told, Made, Roomy, arrayUnits, Openable, stopTurn, stepBy}
 use Rattle.dispatcher.specs.declared.Session.{Session}
 use Rattle.dispatcher.specs.declared.Head.{Head}
 use Rattle.dispatcher.specs.declared.Decided.{Decided}
@@ -113,7 +113,7 @@ uris-few : (table : List ℕ) → Accepted table ≡ true → length (decode tab
 uris-few table a = omega (arith, all-listed table a, header-in table a .few-namespaces)
 
 -- its innermost level
-module _ (table : List ℕ) (header : Header) (index s : List ℕ) (head : Head) (levels bindings spaces strands : List ℕ) (r : Ready table header index s (sessionOf head levels bindings spaces strands)) where
+module _ (table : List ℕ) (header : Header) (index s : List ℕ) (head : Head) (levels bindings spaces strands : List ℕ) (r : TurnReady table header index s (sessionOf head levels bindings spaces strands)) where
   abbrev z : Session
   z = sessionOf head levels bindings spaces strands
 
@@ -180,7 +180,7 @@ allot-gather {B} f u (e ∷ es) = by (e .strand .mode) (e .strand .action) (e .s
     by m c t false n ih = ap (λ (l : List B). f m ++ l) (ih u)
     by m c t true n ih = ap (λ (l : List B). f m ++ l) (ih (suc u))
 
-module _ (table : List ℕ) (header : Header) (index s : List ℕ) (z : Session) (r : Ready table header index s z) (e : Start) (d : Decided) (words schemas attributes sections : List ℕ)
+module _ (table : List ℕ) (header : Header) (index s : List ℕ) (z : Session) (r : TurnReady table header index s z) (e : Start) (d : Decided) (words schemas attributes sections : List ℕ)
     (m : Made (decode table) s z (elementOf (decode table) s e) d words schemas attributes sections) where
   abbrev t : Table
   t = decode table
@@ -197,15 +197,15 @@ module _ (table : List ℕ) (header : Header) (index s : List ℕ) (z : Session)
       (λ x k. omega (arith, k .mode-in, header-in table (r .accepted) .few-modes)) es
       (map-each (StrandSound t (after (dispatch t) (stateOf t s z) (start σ) .units)) (λ (x : Entry). x .strand) es (new-strands table (r .accepted) s (stateOf t s z) σ (levels-sound t s z (clauses t s z (r .coherent′)))))
 
-  units-are : arrayUnits index attributes sections words (σ .at) d ≡ unitsOf (dispatch t) σ (enter (dispatch t) (stateOf t s z .levels) σ)
+  units-are : arrayUnits index attributes sections words (σ .at) d ≡ unitsOf (dispatch t) σ (entriesAt (dispatch t) (stateOf t s z .levels) σ)
   unfolding entriesIn
   units-are =
       words-entries (strandUnits index (σ .at) _ (d .sections)) words schemas 0 (d .strands)
       ∙ ap (tagUnits index (σ .at) _ (d .sections)) (m .entries-are)
       ∙ ap₂ (λ (l : List Sorted) (n : ℕ). tagUnits index (σ .at) l n es) (m .attributes-are) (m .sections-are)
-      ∙ ap (λ (i : List ℕ). tagUnits i (σ .at) (allOf σ) (length (sectionsOf σ)) es) (r .index-is ∙ ap (indexOf table) (r .header-is))
+      ∙ ap (λ (i : List ℕ). tagUnits i (σ .at) (allOf σ) (length (groupsOf σ)) es) (r .index-is ∙ ap (indexOf table) (r .header-is))
       ∙ tag-units-are table (headerOf table) (header-in table (r .accepted) .few-rules) σ (element-classed table (r .accepted) s e) es modes-few
-      ∙ allot-gather (λ (k : ℕ). dispatch t .attributeUnits k σ) _ (enter (dispatch t) (stateOf t s z .levels) σ)
+      ∙ allot-gather (λ (k : ℕ). dispatch t .attributeUnits k σ) _ (entriesAt (dispatch t) (stateOf t s z .levels) σ)
 
   units-fit : z .units + length (arrayUnits index attributes sections words (σ .at) d) ≤ 65536
   unfolding after
@@ -242,7 +242,7 @@ module _ (s outer own attrs codes : List ℕ) (at : ℕ) (tag : Tag) (f : Found)
   pub roomy : (head : Head) → head .depth < 64 → head .bound + owned ≤ 64 → Roomy head owned
   roomy head l k = record { shallow = l; few-own = omega (arith, h .owned-is, h .few-own); few-bound = k }
 
-pub placing-is : (table : List ℕ) (header : Header) (index s : List ℕ) (z : Session) → Ready table header index s z → (n : Namespace) (w : Placing)
+pub placing-is : (table : List ℕ) (header : Header) (index s : List ℕ) (z : Session) → TurnReady table header index s z → (n : Namespace) (w : Placing)
     → w ≡ placingOf (elements.spaceOf (tableOf table header) s n) → w ≡ placingOf (elements.spaceOf (decode table) s n)
 placing-is table header index s z r n w e = e ∙ ap (λ (x : Header). placingOf (elements.spaceOf (tableOf table x) s n)) (r .header-is)
 
@@ -290,7 +290,7 @@ space-inside s (declared w) h = h
 
 -- what `meaning` answers and leaves in its arrays, of the tag whose < stands at a place
 module _ (table : List ℕ) (header : Header) (index s : List ℕ) (head : Head) (levels bindings spaces strands : List ℕ)
-    (r : Ready table header index s (sessionOf head levels bindings spaces strands))
+    (r : TurnReady table header index s (sessionOf head levels bindings spaces strands))
     (at : ℕ) (tag : Tag) (attrs : List ℕ) (lt : at + 1 ≤ length s) (e : tagAt s (at + 1) .answer ≡ tagged.Got tag) (p : attrs ≡ laid (tagAt s (at + 1) .attrs) (replicate 80 0))
     (m : Meant) (own codes : List ℕ) (g : Given s (tag .name) (attrsIn attrs (tag .count)) (replicate 64 0) bindings (head .bound) (replicate 16 0) m own codes) where
   abbrev t₂ : Table
@@ -344,9 +344,9 @@ module _ (table : List ℕ) (header : Header) (index s : List ℕ) (head : Head)
     given : Given s (tag .name) all (replicate 64 0) bindings (head .bound) (replicate 16 0) (told.Element f owned) own codes
     given = (sym q ∙ g .0, g .1, g .2)
 
-    element-in : NamespaceHeld s (spaceOf own bindings f) × All (AttributeHeld s) (attributesIn s own bindings (coded all codes))
+    element-in : NamespaceHeld s (storedSpace own bindings f) × All (AttributeHeld s) (attributesIn s own bindings (coded all codes))
     element-in =
-        let k : MeaningHeld s (meant (spaceOf own bindings f) (attributesIn s own bindings (coded all codes)) ds) = subst (λ (x : Meant). MeaningHeld s (asMeaning own bindings (attributesIn s own bindings (coded all codes)) ds x)) q meaning-in in
+        let k : MeaningHeld s (meant (storedSpace own bindings f) (attributesIn s own bindings (coded all codes)) ds) = subst (λ (x : Meant). MeaningHeld s (asMeaning own bindings (attributesIn s own bindings (coded all codes)) ds x)) q meaning-in in
         (k .0, k .1)
 
     pub tag-gives : Told s bindings own attrs codes at tag f owned (declarationsOf s (attrsIn attrs (tag .count)))
@@ -360,8 +360,8 @@ module _ (table : List ℕ) (header : Header) (index s : List ℕ) (head : Head)
           at-inside = omega arith;
           name-inside = omega (arith, n .inside, n .some, n .onward, n .begins);
           part-inside = omega (arith, n .inside, n .some);
-          uri-inside = space-inside s (spaceOf own bindings f) (element-in .0);
-          attributes-inside = subst (All (λ (a : Attribute). SpanHeld s (a .part) × SpanHeld s (a .value) × SpanHeld s (uriSpan (a .namespace)))) (kept-are s own bindings (coded all codes)) (each-map (AttributeHeld s) _ (λ a x. (x .part, x .value, space-inside s (a .namespace) (x .namespace))) (attributesIn s own bindings (coded all codes)) (element-in .1));
+          uri-inside = space-inside s (storedSpace own bindings f) (element-in .0);
+          attributes-inside = subst (All (λ (a : ReadAttribute). SpanHeld s (a .part) × SpanHeld s (a .value) × SpanHeld s (uriSpan (a .namespace)))) (kept-are s own bindings (coded all codes)) (each-map (AttributeHeld s) _ (λ a x. (x .part, x .value, space-inside s (a .namespace) (x .namespace))) (attributesIn s own bindings (coded all codes)) (element-in .1));
           few-codes = small-codes all codes codes-few;
         }
 
@@ -369,7 +369,7 @@ module _ (table : List ℕ) (header : Header) (index s : List ℕ) (head : Head)
         ≡ startPlan t₂ s z₂ (startOf s bindings own attrs codes at tag f) (declarationsOf s (attrsIn attrs (tag .count))) (tag .next)
     tag-plan =
         ap (planBy t₂ s z₂) (read-as ∙ ap (λ (x : Meant). startMeant at (opensOf (z₂ .scope)) tag (asMeaning own bindings (attributesIn s own bindings (coded all codes)) ds x)) q)
-        ∙ ap (λ (as′ : List Attribute). startPlan t₂ s z₂ (record { at = at; name = wholeSpan (tag .name); part = partSpan (tag .name); namespace = spaceOf own bindings f; attributes = as′; empty = tag .empty }) ds (tag .next))
+        ∙ ap (λ (as′ : List ReadAttribute). startPlan t₂ s z₂ (record { at = at; name = wholeSpan (tag .name); part = partSpan (tag .name); namespace = storedSpace own bindings f; attributes = as′; empty = tag .empty }) ds (tag .next))
         (kept-are s own bindings (coded all codes))
 
   -- 5 and 6

@@ -23,7 +23,7 @@ use Rattle.model.specs.Tree.{start}
 use Rattle.model.specs.Elements.{Element, elementOf}
 use Rattle.model.specs.Records.{Body, startBody}
 use Rattle.model.specs.Groups.{attributeUnits}
-use Rattle.model.specs.Stream.{Entry, allot, enter, entered, unitsOf, startRecords, written, attributesFrom}
+use Rattle.model.specs.Stream.{Entry, allot, entriesAt, entered, unitsOf, startRecords, written, attributesFrom}
 use Rattle.model.specs.Dispatch.{dispatch}
 use Rattle.strands.specs.declared.Begun.{Begun}
 use Rattle.strands.specs.Packed.{strandIn}
@@ -84,7 +84,7 @@ module _ (table s : List ℕ) (z : Session) (e : Start) (ok : Accepted table ≡
   entered-modes = entry-modes t _ es (header-in table ok .few-modes) (new-strands table ok s (stateOf t s z) σ sound)
 
   module _ (index attributes sections words schemas : List ℕ) (b : Begun) (r : Decided) (made : Made (decode table) s z (elementOf (decode table) s e) r words schemas attributes sections) (index-is : index ≡ indexOf table (headerOf table)) (tag-is : b .tag ≡ elementOf (decode table) s e .at) (body-is : begunBody b ≡ startBody (elementOf (decode table) s e)) where
-    units-written : arrayUnits index attributes sections words (b .tag) r ≡ unitsOf (dispatch t) σ (enter (dispatch t) (stateOf t s z .levels) σ)
+    units-written : arrayUnits index attributes sections words (b .tag) r ≡ unitsOf (dispatch t) σ (entriesAt (dispatch t) (stateOf t s z .levels) σ)
     unfolding entriesIn
     units-written =
         words-units (strandUnits index (b .tag) (allSorted attributes sections (r .attributes)) (r .sections)) words schemas 0 (r .strands)
@@ -92,7 +92,7 @@ module _ (table s : List ℕ) (z : Session) (e : Start) (ok : Accepted table ≡
         ∙ ap₂ (λ (i : List ℕ) (k : ℕ). tagUnits i k (allSorted attributes sections (r .attributes)) (r .sections) es) index-is tag-is
         ∙ ap₂ (λ (l : List Sorted) (m : ℕ). tagUnits (indexOf table (headerOf table)) (σ .at) l m es) (made .attributes-are) (made .sections-are)
         ∙ tag-units-are table (headerOf table) (header-in table ok .few-rules) σ (element-classed table ok s e) es entered-modes
-        ∙ numbered-units (λ (mode : ℕ). attributeUnits t mode σ) _ (enter (dispatch t) (stateOf t s z .levels) σ)
+        ∙ numbered-units (λ (mode : ℕ). attributeUnits t mode σ) _ (entriesAt (dispatch t) (stateOf t s z .levels) σ)
 
     strands-written : strandRecords index attributes sections words schemas b r ≡ gather (startRecords (dispatch t) σ) es
     strands-written =

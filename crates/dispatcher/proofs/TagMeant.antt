@@ -37,7 +37,7 @@ use Rattle.reader.specs.declared.Meant.{Meant}
 use Rattle.reader.specs.declared.Meant.the-variants as told
 use Rattle.reader.specs.Spans.{kindOf}
 use Rattle.reader.specs.Namespaces.{declaredBy, declarationsOf, refusedBinding, meaningOf}
-use Rattle.reader.specs.Stored.{bindingsIn, numbersOf, laidBindings, fitting, foundElement, codesOf, coded, twiceIn, isUnbound, meantOf, codesAfter}
+use Rattle.reader.specs.Stored.{bindingsIn, bindingNumbers, laidBindings, fitting, foundElement, codesOf, coded, twiceIn, isUnbound, meantOf, codesAfter}
 use Rattle.reader.specs.Events.{ReaderState, bindingsOf, isNil, startMeant, startRead, begun, nextBy, next}
 use Rattle.reader.specs.Scope.{withLevel, opensOf}
 use Rattle.reader.proofs.Laying.{fitting-whole, four-long}
@@ -188,14 +188,14 @@ own-few s t attrs k = omega (arith, declared-few s attrs, k .few)
 
 -- where none is refused
 module _ (s : List ℕ) (ds : List Binding) (own : List ℕ) (fit : any (refusedBinding s) ds ≡ false) where
-  pub own-laid : take (4 * length ds) (laidBindings (fitting s ds) own) ≡ gather numbersOf ds
+  pub own-laid : take (4 * length ds) (laidBindings (fitting s ds) own) ≡ gather bindingNumbers ds
   unfolding laidBindings
   own-laid =
       rw (fitting-whole s ds fit)
-      (take-append-le (4 * length ds) (gather numbersOf ds) (drop (4 * length ds) own) (omega (arith, four-long ds)) ∙ take-all (4 * length ds) (gather numbersOf ds) (omega (arith, four-long ds)))
+      (take-append-le (4 * length ds) (gather bindingNumbers ds) (drop (4 * length ds) own) (omega (arith, four-long ds)) ∙ take-all (4 * length ds) (gather bindingNumbers ds) (omega (arith, four-long ds)))
 
   -- a scope that is opened with the array is opened with them
-  pub level-laid : (sc : Scope) (name : Span) → withLevel sc name (laidBindings (fitting s ds) own) (length ds) ≡ withLevel sc name (gather numbersOf ds) (length ds)
+  pub level-laid : (sc : Scope) (name : Span) → withLevel sc name (laidBindings (fitting s ds) own) (length ds) ≡ withLevel sc name (gather bindingNumbers ds) (length ds)
   level-laid sc name =
-      let whole : take (4 * length ds) (gather numbersOf ds) ≡ gather numbersOf ds = take-all (4 * length ds) (gather numbersOf ds) (omega (arith, four-long ds)) in
+      let whole : take (4 * length ds) (gather bindingNumbers ds) ≡ gather bindingNumbers ds = take-all (4 * length ds) (gather bindingNumbers ds) (omega (arith, four-long ds)) in
       rw (own-laid, whole)

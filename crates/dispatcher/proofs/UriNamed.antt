@@ -26,7 +26,7 @@ use Rattle.reader.specs.declared.Span.{Span}
 use Rattle.reader.proofs.TagMeaning.{NamespaceHeld}
 use Rattle.model.specs.Elements.{spaceOf}
 use Rattle.dispatcher.specs.Sessions.{levelUri}
-use Rattle.uris.specs.Uris.{stands, uriSpanOf, sliceOf, uriOf}
+use Rattle.uris.specs.Uris.{stands, uriSpanOf, sliceOf, uriPart}
 use Rattle.uris.specs.declared.UriSpan.{UriSpan}
 use Rattle.uris.specs.declared.Source.{Source}
 use Rattle.uris.specs.declared.Source.the-variants.{Table, Scene}
@@ -62,11 +62,11 @@ module _ (table : List ℕ) (a : Accepted table ≡ true) (s : List ℕ) where
   most = header-in table a .few-namespaces
 
   -- the bytes of the span that is named
-  as-part : (class at len : ℕ) (w : UriSpan) → w ≡ uriSpanOf table s class at len → uriOf table s class at len ≡ spanOf (sliceOf table s (w .source)) (w .at) (w .len)
-  unfolding uriOf
+  as-part : (class at len : ℕ) (w : UriSpan) → w ≡ uriSpanOf table s class at len → uriPart table s class at len ≡ spanOf (sliceOf table s (w .source)) (w .at) (w .len)
+  unfolding uriPart
   as-part class at len w e = ap (λ (v : UriSpan). spanOf (sliceOf table s (v .source)) (v .at) (v .len)) (sym e)
 
-  uri-listed : (class at len : ℕ) → 1 ≤ class → class ≤ headerOf table .namespaces → uriOf table s class at len ≡ getD (decode table .uris) (class - 1) []
+  uri-listed : (class at len : ℕ) → 1 ≤ class → class ≤ headerOf table .namespaces → uriPart table s class at len ≡ getD (decode table .uris) (class - 1) []
   uri-listed class at len lo hi =
       let f : (leb 1 class && leb class (headerOf table .namespaces)) ≡ true = rw (le-leb 1 class lo, le-leb class (headerOf table .namespaces) hi) in
       let c : class ≡ suc (class - 1) = omega arith in
@@ -75,25 +75,25 @@ module _ (table : List ℕ) (a : Accepted table ≡ true) (s : List ℕ) where
       ∙ span-of table (headerOf table) (class - 1)
 
   -- of a class that is neither listed nor 255
-  uri-empty : (class at len : ℕ) → (leb 1 class && leb class (headerOf table .namespaces)) ≡ false → (class ≡ 255 → ⊥) → uriOf table s class at len ≡ []
+  uri-empty : (class at len : ℕ) → (leb 1 class && leb class (headerOf table .namespaces)) ≡ false → (class ≡ 255 → ⊥) → uriPart table s class at len ≡ []
   uri-empty class at len f n =
       let k : (eqb class 255 && leb (at + len) (length s)) ≡ false = rw (ne-eqb class 255 n) in
       as-part class at len (stands Scene 0 0) (nowhere table s class at len (judged table) refl zero (headerOf table) refl f (leb (at + len) (length s)) refl k)
 
-  pub uri-unlisted : (at len : ℕ) → at + len ≤ length s → uriOf table s 255 at len ≡ spanOf s at len
+  pub uri-unlisted : (at len : ℕ) → at + len ≤ length s → uriPart table s 255 at len ≡ spanOf s at len
   uri-unlisted at len h =
       let f : (leb 1 255 && leb 255 (headerOf table .namespaces)) ≡ false = lt-leb 255 (headerOf table .namespaces) (omega (arith, most)) in
       as-part 255 at len (stands Scene at len) (in-scene table s 255 at len (judged table) refl zero (headerOf table) refl f (leb (at + len) (length s)) refl (le-leb (at + len) (length s) h))
 
-  pub uri-xml : (at len : ℕ) → uriOf table s 254 at len ≡ []
+  pub uri-xml : (at len : ℕ) → uriPart table s 254 at len ≡ []
   uri-xml at len = uri-empty 254 at len (lt-leb 254 (headerOf table .namespaces) (omega (arith, most))) (λ e. omega arith)
 
-  pub uri-level : (class : ℕ) (w : Span) → (class ≤ length (decode table .uris)) ⊎ (class ≡ 255) → SpanHeld s w → uriOf table s class (w .at) (w .len) ≡ levelUri (decode table) s class w
+  pub uri-level : (class : ℕ) (w : Span) → (class ≤ length (decode table .uris)) ⊎ (class ≡ 255) → SpanHeld s w → uriPart table s class (w .at) (w .len) ≡ levelUri (decode table) s class w
   unfolding levelUri
   uri-level class w o h = ⊎-elim (λ l. ⊎-elim (λ z. none (omega arith)) (λ z. listed z l) (le-or-lt class 0)) last o
     where
       Level : Type 0
-      Level = uriOf table s class (w .at) (w .len) ≡ levelUri (decode table) s class w
+      Level = uriPart table s class (w .at) (w .len) ≡ levelUri (decode table) s class w
 
       none : class ≡ 0 → Level
       none e = rw e (uri-empty 0 (w .at) (w .len) refl (λ q. omega arith))
@@ -108,7 +108,7 @@ module _ (table : List ℕ) (a : Accepted table ≡ true) (s : List ℕ) where
           (uri-listed class (w .at) (w .len) (omega arith) hi)
 
   pub uri-named : (n : scene.Namespace) → NamespaceHeld s n → (spaceOf (decode table) s n .class ≡ 254 → ⊥)
-      → uriOf table s (spaceOf (decode table) s n .class) (spaceOf (decode table) s n .uri .at) (spaceOf (decode table) s n .uri .len) ≡ scene.uriOf s n
+      → uriPart table s (spaceOf (decode table) s n .class) (spaceOf (decode table) s n .uri .at) (spaceOf (decode table) s n .uri .len) ≡ scene.uriOf s n
   uri-named n h x = uri-level _ _ (other (class-bounds table a s n)) (uri-held (decode table) s n h) ∙ uri-back table a s n
     where
       class : ℕ

@@ -27,7 +27,7 @@ use Rattle.reader.specs.Scope.{levelNumbers, countIn, closedOf, nameIn, opensIn
 use Rattle.reader.proofs.Tabulated.{tabulate-same}
 use Rattle.reader.proofs.Opens.{CountedScope, close-opens, close-counted}
 use Rattle.model.specs.Elements.{Space}
-use Rattle.model.specs.Stream.{Level, Strand}
+use Rattle.model.specs.Stream.{Level, HeldStrand}
 use Rattle.model.specs.Dispatch.{dispatch}
 use Rattle.strands.specs.Packed.{strandIn, packed}
 use Rattle.dispatcher.specs.Sessions.{levelUri, strandCount, strandsIn, levelIn, levelsIn, readerOf, stateOf, withPlace, withEnd, withStart}
@@ -37,7 +37,7 @@ use Rattle.strands.proofs.Packing.{Packable, packed-all}
 use Rattle.dispatcher.proofs.Own.{SpanSmall, BindingSmall, opened-opens, opened-counted, opened-lengths}
 
 -- A start that a session has room for. Where an open level had more than 16 strands they would reach into the next level's
-pub record Room (z : Session) (name : Span) (own : List Binding) (space : Space) (strands : List (Strand ℕ)) : Type 0 where
+pub record Room (z : Session) (name : Span) (own : List Binding) (space : Space) (strands : List (HeldStrand ℕ)) : Type 0 where
   pub counts : (k : ℕ) → k < z .scope .depth → strandCount z k ≤ 16
   pub shallow : z .scope .depth < 64
   pub bound : z .scope .bound + length own ≤ 64
@@ -87,7 +87,7 @@ module _ (t : Table) (s : List ℕ) (z z′ : Session) where
       )
 
 -- ---- one level more
-module _ (z : Session) (place : ℕ) (awaited : Bool) (units : ℕ) (name : Span) (own : List Binding) (space : Space) (strands : List (Strand ℕ)) (f : Fits z) (r : Room z name own space strands) where
+module _ (z : Session) (place : ℕ) (awaited : Bool) (units : ℕ) (name : Span) (own : List Binding) (space : Space) (strands : List (HeldStrand ℕ)) (f : Fits z) (r : Room z name own space strands) where
   abbrev next : Session
   next = withStart z place awaited units name own space strands
 

@@ -11,7 +11,7 @@ use Rattle.reader.specs.declared.Binding.{Binding}
 use Rattle.reader.specs.Spans.{span, bytesOf}
 use Rattle.reader.specs.Namespaces.{refusedBinding}
 use Rattle.reader.specs.Scope.{nameIn}
-use Rattle.model.specs.Stream.{Strand}
+use Rattle.model.specs.Stream.{HeldStrand}
 use Rattle.strands.specs.Packed.{strandIn, wordsAt}
 use Rattle.dispatcher.specs.Coherence.{spanInside, prefixFits, targetFits, aims}
 use Rattle.dispatcher.specs.declared.Head.{Head}
@@ -34,7 +34,7 @@ nameFits s w = spanInside s w && (not (eqb (w .at) 0) && isWholeName (bytesOf s 
 abbrev pub classFits : ℕ → ℕ → Bool
 classFits listed class = leb class listed || (eqb class 254 || eqb class 255)
 
-abbrev pub strandFits : ℕ → ℕ → Strand ℕ → Bool
+abbrev pub strandFits : ℕ → ℕ → HeldStrand ℕ → Bool
 strandFits modes units r = ltb (r .mode) modes && (targetFits units (r .target) && aims (r .action) (r .target))
 
 -- of the k-th level, which has n: sixteen places to a level

@@ -17,13 +17,13 @@ use Rattle.reader.specs.Spans.{bytesOf}
 use Rattle.reader.specs.Namespaces.{refusedBinding}
 use Rattle.reader.specs.Stored.{bindingIn}
 use Rattle.reader.specs.Scope.{nameIn, countIn}
-use Rattle.model.specs.Stream.{Strand}
+use Rattle.model.specs.Stream.{HeldStrand}
 use Rattle.dispatcher.specs.Sessions.{classIn, uriIn, strandCount, strandsIn}
 use Rattle.dispatcher.specs.declared.Session.{Session}
 
 -- the numbers of the open levels, and the open bindings
-abbrev pub levelNumbers : Session → List ℕ
-levelNumbers z = tabulate (λ (k : ℕ). k) 0 (z .scope .depth)
+abbrev pub openLevels : Session → List ℕ
+openLevels z = tabulate (λ (k : ℕ). k) 0 (z .scope .depth)
 
 abbrev pub openBindings : Session → List Binding
 openBindings z = tabulate (bindingIn (z .scope .bindings)) 0 (z .scope .bound)
@@ -36,7 +36,7 @@ abbrev pub spanInside : List ℕ → Span → Bool
 spanInside s w = leb (w .at + w .len) (length s)
 
 abbrev pub levelSpansInside : List ℕ → Session → Bool
-levelSpansInside s z = all (λ (k : ℕ). spanInside s (nameIn (z .scope .levels) k) && spanInside s (uriIn z k)) (levelNumbers z)
+levelSpansInside s z = all (λ (k : ℕ). spanInside s (nameIn (z .scope .levels) k) && spanInside s (uriIn z k)) (openLevels z)
 
 abbrev pub bindingSpansInside : List ℕ → Session → Bool
 bindingSpansInside s z = all (λ (b : Binding). spanInside s (b .prefix) && spanInside s (b .uri)) (openBindings z)
@@ -46,7 +46,7 @@ abbrev pub namesFit : List ℕ → Session → Bool
 namesFit s z =
     all
     (λ (k : ℕ). not (eqb (nameIn (z .scope .levels) k .at) 0) && isWholeName (bytesOf s (nameIn (z .scope .levels) k)))
-    (levelNumbers z)
+    (openLevels z)
 
 -- "a binding that 5 would refuse"
 abbrev pub bindingsAllowed : List ℕ → Session → Bool
@@ -65,21 +65,21 @@ depthFits z = leb (z .scope .depth) 64
 
 -- "a level without 1 to 16 strands"
 abbrev pub strandCountsFit : Session → Bool
-strandCountsFit z = all (λ (k : ℕ). leb 1 (strandCount z k) && leb (strandCount z k) 16) (levelNumbers z)
+strandCountsFit z = all (λ (k : ℕ). leb 1 (strandCount z k) && leb (strandCount z k) 16) (openLevels z)
 
 -- "a mode, class or unit that the table or count lacks"
 abbrev pub modesFit : Table → Session → Bool
-modesFit t z = all (λ (k : ℕ). all (λ (r : Strand ℕ). ltb (r .mode) (t .modes)) (strandsIn z k)) (levelNumbers z)
+modesFit t z = all (λ (k : ℕ). all (λ (r : HeldStrand ℕ). ltb (r .mode) (t .modes)) (strandsIn z k)) (openLevels z)
 
 abbrev pub classesFit : Table → Session → Bool
-classesFit t z = all (λ (k : ℕ). leb (classIn z k) (length (t .uris)) || (eqb (classIn z k) 254 || eqb (classIn z k) 255)) (levelNumbers z)
+classesFit t z = all (λ (k : ℕ). leb (classIn z k) (length (t .uris)) || (eqb (classIn z k) 254 || eqb (classIn z k) 255)) (openLevels z)
 
 abbrev pub targetFits : ℕ → Option ℕ → Bool
 targetFits units none = true
 targetFits units (some u) = ltb u units
 
 abbrev pub targetsFit : Session → Bool
-targetsFit z = all (λ (k : ℕ). all (λ (r : Strand ℕ). targetFits (z .units) (r .target)) (strandsIn z k)) (levelNumbers z)
+targetsFit z = all (λ (k : ℕ). all (λ (r : HeldStrand ℕ). targetFits (z .units) (r .target)) (strandsIn z k)) (openLevels z)
 
 -- "a validate strand without a target"
 abbrev pub aims : Action → Option ℕ → Bool
@@ -89,7 +89,7 @@ aims Validate none = false
 aims Validate (some u) = true
 
 abbrev pub validatesAim : Session → Bool
-validatesAim z = all (λ (k : ℕ). all (λ (r : Strand ℕ). aims (r .action) (r .target)) (strandsIn z k)) (levelNumbers z)
+validatesAim z = all (λ (k : ℕ). all (λ (r : HeldStrand ℕ). aims (r .action) (r .target)) (strandsIn z k)) (openLevels z)
 
 -- "over 65,536 units"
 abbrev pub unitsFit : Session → Bool
@@ -100,7 +100,7 @@ abbrev pub boundFits : Session → Bool
 boundFits z = leb (z .scope .bound) 64
 
 abbrev pub countsAddUp : Session → Bool
-countsAddUp z = eqb (total (countIn (z .scope)) (levelNumbers z)) (z .scope .bound)
+countsAddUp z = eqb (total (countIn (z .scope)) (openLevels z)) (z .scope .bound)
 
 -- "an awaited end at depth 0"
 abbrev pub awaitedFits : Session → Bool

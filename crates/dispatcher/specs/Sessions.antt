@@ -12,12 +12,12 @@ use Rattle.table.specs.Table.{Table}
 use Rattle.reader.specs.declared.Span.{Span}
 use Rattle.reader.specs.declared.Binding.{Binding}
 use Rattle.reader.specs.Spans.{span, bytesOf}
-use Rattle.reader.specs.Stored.{narrowed, numbersOf}
+use Rattle.reader.specs.Stored.{narrowed, bindingNumbers}
 use Rattle.reader.specs.Scope.{freshScope, nameIn, opensOf, withLevel, closedOf}
 use Rattle.reader.specs.Events.{ReaderState, partOf}
 use Rattle.model.specs.Elements.{Space}
 use Rattle.model.specs.Records.{OpenElement}
-use Rattle.model.specs.Stream.{Level, State, Strand}
+use Rattle.model.specs.Stream.{Level, State, HeldStrand}
 use Rattle.model.specs.Dispatch.{dispatch}
 use Rattle.strands.specs.Packed.{strandIn, packed}
 use Rattle.dispatcher.specs.declared.Session.{Session}
@@ -38,7 +38,7 @@ uriIn z k = span (getD (z .spaces) (4 * k + 1) 0) (getD (z .spaces) (4 * k + 2) 
 abbrev pub strandCount : Session → ℕ → ℕ
 strandCount z k = getD (z .spaces) (4 * k + 3) 0
 
-unfoldable pub strandsIn : Session → ℕ → List (Strand ℕ)
+unfoldable pub strandsIn : Session → ℕ → List (HeldStrand ℕ)
 strandsIn z k = map strandIn (tabulate (λ (i : ℕ). getD (z .strands) i 0) (16 * k) (strandCount z k))
 
 -- the k-th level as the stream has it
@@ -116,14 +116,14 @@ withEnd z place closed =
       strands = z .strands;
     }
 
-abbrev pub withStart : Session → ℕ → Bool → ℕ → Span → List Binding → Space → List (Strand ℕ) → Session
+abbrev pub withStart : Session → ℕ → Bool → ℕ → Span → List Binding → Space → List (HeldStrand ℕ) → Session
 withStart z place awaited units name own space strands =
     record {
       place = place;
       units = units;
       closed = false;
       awaited = awaited;
-      scope = withLevel (z .scope) name (gather numbersOf own) (length own);
+      scope = withLevel (z .scope) name (gather bindingNumbers own) (length own);
       spaces =
           overwrite (z .spaces) (4 * z .scope .depth)
           (narrowed (space .class) ∷ narrowed (space .uri .at) ∷ narrowed (space .uri .len) ∷ length strands ∷ []);

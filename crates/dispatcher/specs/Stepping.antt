@@ -15,8 +15,8 @@ use Rattle.model.specs.Theory.{Record}
 use Rattle.model.specs.Tree.{start, text, end}
 use Rattle.model.specs.Elements.{elementOf}
 use Rattle.model.specs.Records.{Body}
-use Rattle.model.specs.Stream.{Entry, enter, entered, written, after}
-use Rattle.model.specs.Dispatch.{dispatch, bytesOf}
+use Rattle.model.specs.Stream.{Entry, entriesAt, entered, written, after}
+use Rattle.model.specs.Dispatch.{dispatch, recordBytesOf}
 use Rattle.dispatcher.specs.Sessions.{readerOf, stateOf, freshOf, withPlace, withEnd, withStart}
 use Rattle.dispatcher.specs.Coherence.{coherent}
 use Rattle.dispatcher.specs.declared.Session.{Session}
@@ -43,7 +43,7 @@ startPlan t s z e own place =
     let behind = after (dispatch t) state (start σ) in
     cond (leb 64 (z .scope .depth)) (refused 21 (e .at))
     (cond (ltb 64 (z .scope .bound + length own)) (refused 22 (e .at))
-    (cond (ltb 16 (length (enter (dispatch t) (state .levels) σ))) (refused 23 (e .at))
+    (cond (ltb 16 (length (entriesAt (dispatch t) (state .levels) σ))) (refused 23 (e .at))
     (cond (ltb 65536 (behind .units)) (refused 24 (e .at))
     (event (e .at) (written (dispatch t) state (start σ))
     (withStart z place (e .empty) (behind .units) (e .name) own (σ .space) (map (λ (e : Entry). e .strand) (entered (dispatch t) state σ)))))))
@@ -86,7 +86,7 @@ refusedStep number place z out = record { answer = answered number place 0 0; se
 abbrev pub eventStep : ℕ → List (Record Body ℕ) → Session → Session → List ℕ → Step
 eventStep at records next z out =
     cond (ltb (length out) (16 * length records)) (refusedStep 25 at z out)
-    (record { answer = answered 0 (next .place) 1 (length records); session = next; output = overwrite out 0 (gather bytesOf records) })
+    (record { answer = answered 0 (next .place) 1 (length records); session = next; output = overwrite out 0 (gather recordBytesOf records) })
 
 abbrev pub planned : Plan → Session → List ℕ → Step
 planned (refused n p) z out = refusedStep n p z out

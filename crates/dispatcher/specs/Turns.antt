@@ -18,15 +18,15 @@ use Rattle.lexer.specs.Attrs.{attrsIn}
 use Rattle.reader.specs.declared.Binding.{Binding}
 use Rattle.reader.specs.declared.Found.{Found}
 use Rattle.reader.specs.Spans.{wholeSpan, partSpan}
-use Rattle.reader.specs.Namespaces.{Attribute, attribute}
+use Rattle.reader.specs.Namespaces.{ReadAttribute, attribute}
 use Rattle.reader.specs.Events.{Start}
-use Rattle.reader.specs.Stored.{narrowed, numbersOf, Coded, coded, spaceOf}
+use Rattle.reader.specs.Stored.{narrowed, bindingNumbers, Coded, coded, storedSpace}
 use Rattle.reader.specs.Scope.{nameIn}
 use Rattle.reader.specs.Held.{SpanHeld}
 use Rattle.model.specs.Tree.{start}
-use Rattle.model.specs.Stream.{Entry, enter, entered, written, after}
+use Rattle.model.specs.Stream.{Entry, entriesAt, entered, written, after}
 use Rattle.model.specs.Elements.{Element, uriSpan}
-use Rattle.model.specs.Groups.{sectionsOf}
+use Rattle.model.specs.Groups.{groupsOf}
 use Rattle.model.specs.Dispatch.{dispatch}
 use Rattle.records.specs.declared.Row.{Row}
 use Rattle.model.specs.Theory.{AttributeUnit}
@@ -98,7 +98,7 @@ closedHead head place levels =
     }
 
 -- a table that judge accepts with its header and index, a scene that is not too long, a session that number 20 accepts
-pub record Ready (table : List ℕ) (header : Header) (index s : List ℕ) (z : Session) : Type 0 where
+pub record TurnReady (table : List ℕ) (header : Header) (index s : List ℕ) (z : Session) : Type 0 where
   pub accepted : Accepted table ≡ true
   pub header-is : header ≡ headerOf table
   pub index-is : index ≡ indexOf table header
@@ -113,7 +113,7 @@ startOf s outer own attrs codes at tag found =
       at = at;
       name = wholeSpan (tag .name);
       part = partSpan (tag .name);
-      namespace = spaceOf own outer found;
+      namespace = storedSpace own outer found;
       attributes =
           map (λ (c : Coded). attribute (c .attr) (namespaceOf own outer (c .code)))
           (keep (delivered s) (coded (attrsIn attrs (tag .count)) codes));
@@ -124,12 +124,12 @@ startOf s outer own attrs codes at tag found =
 pub record Told (s outer own attrs codes : List ℕ) (at : ℕ) (tag : Tag) (found : Found) (owned : ℕ) (ds : List Binding) : Type 0 where
   pub owned-is : owned ≡ length ds
   pub few-own : length ds ≤ 16
-  pub own-laid : take (4 * length ds) own ≡ gather numbersOf ds
+  pub own-laid : take (4 * length ds) own ≡ gather bindingNumbers ds
   pub at-inside : at < length s
   pub name-inside : SpanHeld s (wholeSpan (tag .name))
   pub part-inside : SpanHeld s (partSpan (tag .name))
-  pub uri-inside : SpanHeld s (uriSpan (spaceOf own outer found))
-  pub attributes-inside : All (λ (a : Attribute). SpanHeld s (a .part) × SpanHeld s (a .value) × SpanHeld s (uriSpan (a .namespace))) (startOf s outer own attrs codes at tag found .attributes)
+  pub uri-inside : SpanHeld s (uriSpan (storedSpace own outer found))
+  pub attributes-inside : All (λ (a : ReadAttribute). SpanHeld s (a .part) × SpanHeld s (a .value) × SpanHeld s (uriSpan (a .namespace))) (startOf s outer own attrs codes at tag found .attributes)
   pub few-codes : All (λ (c : Coded). c .code < 82) (coded (attrsIn attrs (tag .count)) codes)
 
 -- what is decided of a start that passes 23 and 24
@@ -141,7 +141,7 @@ pub record Made (t : Table) (s : List ℕ) (z : Session) (σ : Element) (r : Dec
   pub few-attributes : r .attributes ≤ 16
   pub attributes-are : allSorted attributes sections (r .attributes) ≡ map (sortedOf σ) (σ .attributes)
   pub few-sections : r .sections ≤ 16
-  pub sections-are : r .sections ≡ length (sectionsOf σ)
+  pub sections-are : r .sections ≡ length (groupsOf σ)
   pub units-are : r .units ≡ after (dispatch t) (stateOf t s z) (start σ) .units
   pub few-units : r .units ≤ 65536
   pub records-are : r .records ≡ length (written (dispatch t) (stateOf t s z) (start σ))
@@ -149,7 +149,7 @@ pub record Made (t : Table) (s : List ℕ) (z : Session) (σ : Element) (r : Dec
 -- "23 a 17th strand; 24 a unit past 65,535"
 abbrev pub decidedNumber : (t : Table) → List ℕ → Session → Element → ℕ
 decidedNumber t s z σ =
-    cond (ltb 16 (length (enter (dispatch t) (stateOf t s z .levels) σ))) 23
+    cond (ltb 16 (length (entriesAt (dispatch t) (stateOf t s z .levels) σ))) 23
     (cond (ltb 65536 (after (dispatch t) (stateOf t s z) (start σ) .units)) 24 0)
 
 pub record DecidedAs (t : Table) (s : List ℕ) (z : Session) (σ : Element) (r : Decided) (words schemas attributes sections : List ℕ) : Type 0 where

@@ -32,7 +32,7 @@ ghost use Rattle.lexer.specs.declared.Tag.{Tag};
 ghost use Rattle.reader.specs.declared.Binding.{Binding};
 ghost use Rattle.reader.specs.Spans.{span, bytesOf};
 ghost use Rattle.reader.specs.Namespaces.{uriOf};
-ghost use Rattle.reader.specs.Stored.{spaceOf};
+ghost use Rattle.reader.specs.Stored.{storedSpace};
 ghost use Rattle.model.specs.Stream.{Entry, allot};
 ghost use Rattle.model.specs.Elements as elements;
 ghost use Rattle.strands.specs.Packed.{strandIn, wordsAt};
@@ -41,7 +41,7 @@ ghost use Rattle.strands.specs.Rules.{unitsFor};
 ghost use Rattle.strands.specs.Attributes.{placingOf, allSorted};
 ghost use Rattle.strands.specs.Writing.{members, headClass, sectionCount, elementCount};
 ghost use Rattle.dispatcher.specs.declared.Session.{Session};
-ghost use Rattle.dispatcher.specs.Turns.{Ready, Told, DecidedAs, onlyNumber, startOf};
+ghost use Rattle.dispatcher.specs.Turns.{TurnReady, Told, DecidedAs, onlyNumber, startOf};
 
 // Is the element's namespace that of the level?
 fn joins(
@@ -57,7 +57,7 @@ fn joins(
     ensures { λ r. ⌜ (
         let l = now (spaces .entry) in
         r ≡ cond (eqb (getD l (4 * level) 0) 255)
-        (sameList (uriOf (now (scene .entry)) (spaceOf (now (own .entry)) (now (outer .entry)) found)) (bytesOf (now (scene .entry)) (span (getD l (4 * level + 1) 0) (getD l (4 * level + 2) 0))))
+        (sameList (uriOf (now (scene .entry)) (storedSpace (now (own .entry)) (now (outer .entry)) found)) (bytesOf (now (scene .entry)) (span (getD l (4 * level + 1) 0) (getD l (4 * level + 2) 0))))
         (eqb (getD l (4 * level) 0) (placing .class))
         ) ⌝ }
 {
@@ -90,7 +90,7 @@ fn next_strands(
         let level = depth - 1 in
         let ws = wordsAt (now (strands .entry)) level (getD l (4 * level + 3) 0) in
         let joined = cond (eqb (getD l (4 * level) 0) 255)
-        (sameList (uriOf (now (scene .entry)) (spaceOf (now (own .entry)) (now (outer .entry)) found)) (bytesOf (now (scene .entry)) (span (getD l (4 * level + 1) 0) (getD l (4 * level + 2) 0))))
+        (sameList (uriOf (now (scene .entry)) (storedSpace (now (own .entry)) (now (outer .entry)) found)) (bytesOf (now (scene .entry)) (span (getD l (4 * level + 1) 0) (getD l (4 * level + 2) 0))))
         (eqb (getD l (4 * level) 0) (placing .class)) in
         let es = cond (eqb depth 0) (entriesBy (now (index .entry)) (placing .class) (strandIn 32)) (cond joined (map stayEntry ws) (entriesFrom (now (index .entry)) (placing .class) ws)) in
         (r ≡ counted (length es))
@@ -194,9 +194,9 @@ pub fn decide(
         let t = decode (now (table .entry)) in
         let e = startOf s (now (outer .entry)) (now (own .entry)) (now (attrs .entry)) (now (codes .entry)) at tag found in
         z .spaces ≡ now (spaces .entry) → z .strands ≡ now (strands .entry) → z .scope .bindings ≡ now (outer .entry) → z .scope .depth ≡ depth → z .units ≡ units → tag .count ≡ tagged
-        → Ready (now (table .entry)) header (now (index .entry)) s z
+        → TurnReady (now (table .entry)) header (now (index .entry)) s z
         → Told s (now (outer .entry)) (now (own .entry)) (now (attrs .entry)) (now (codes .entry)) at tag found (length ds) ds
-        → placing ≡ placingOf (elements.spaceOf t s (spaceOf (now (own .entry)) (now (outer .entry)) found))
+        → placing ≡ placingOf (elements.spaceOf t s (storedSpace (now (own .entry)) (now (outer .entry)) found))
         → DecidedAs t s z (elements.elementOf t s e) r (now (words .exit)) (now (schemas .exit)) (now (attributes .exit)) (now (sections .exit))
         )) ⌝ }
 {

@@ -28,7 +28,7 @@ ghost use Rattle.table.specs.declared.Header.{Header};
 ghost use Rattle.reader.specs.declared.Binding.{Binding};
 ghost use Rattle.reader.specs.declared.Found.{Found};
 ghost use Rattle.reader.specs.Spans.{wholeSpan};
-ghost use Rattle.reader.specs.Stored.{narrowed, spaceOf};
+ghost use Rattle.reader.specs.Stored.{narrowed, storedSpace};
 ghost use Rattle.reader.specs.Scope.{levelNumbers};
 ghost use Rattle.reader.specs.Pushed.{pushedBindings};
 ghost use Rattle.model.specs.Stream.{attributesFrom};
@@ -39,7 +39,7 @@ ghost use Rattle.strands.specs.Attributes.{placingOf, allSorted};
 ghost use Rattle.strands.specs.Writing.{rowOf, begunBody, elementRecords};
 ghost use Rattle.dispatcher.specs.Sessions.{sessionOf};
 ghost use Rattle.dispatcher.specs.Stepping.{startPlan, planned};
-ghost use Rattle.dispatcher.specs.Turns.{begunOf, Ready, Told, DecidedAs, Roomy, Openable, startOf, arrayUnits, stepBy};
+ghost use Rattle.dispatcher.specs.Turns.{begunOf, TurnReady, Told, DecidedAs, Roomy, Openable, startOf, arrayUnits, stepBy};
 
 // What the starts along the strands have in common.
 fn begun_of(at: usize, tag: Tag, placing: Placing) -> Begun
@@ -164,9 +164,9 @@ pub fn open_level(
         let z = sessionOf head (now (levels .entry)) (now (bindings .entry)) (now (spaces .entry)) (now (strands .entry)) in
         let t = decode table in
         let e = startOf s (now (bindings .entry)) (now (own .entry)) attrs codes at tag found in
-        Ready table header (now (index .entry)) s z
+        TurnReady table header (now (index .entry)) s z
         → Told s (now (bindings .entry)) (now (own .entry)) attrs codes at tag found owned ds
-        → placing ≡ placingOf (elements.spaceOf t s (spaceOf (now (own .entry)) (now (bindings .entry)) found))
+        → placing ≡ placingOf (elements.spaceOf t s (storedSpace (now (own .entry)) (now (bindings .entry)) found))
         → DecidedAs t s z (elements.elementOf t s e) decided (now (words .entry)) (now (schemas .entry)) (now (attributes .entry)) (now (sections .entry))
         → stepBy r (now (levels .exit)) (now (bindings .exit)) (now (spaces .exit)) (now (strands .exit)) (now (out .exit))
         ≡ planned (startPlan t s z e ds (tag .next)) z (now (out .entry))

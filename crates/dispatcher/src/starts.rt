@@ -27,7 +27,7 @@ ghost use Rattle.reader.specs.Scope.{opensOf};
 ghost use Rattle.reader.specs.Events.{startRead};
 ghost use Rattle.dispatcher.specs.Sessions.{sessionOf};
 ghost use Rattle.dispatcher.specs.Stepping.{startPlan, planBy, planned};
-ghost use Rattle.dispatcher.specs.Turns.{Ready, Told, startOf, stepBy};
+ghost use Rattle.dispatcher.specs.Turns.{TurnReady, Told, startOf, stepBy};
 
 // A start with its namespaces: 21, 22, and what follows.
 fn element_turn(
@@ -49,7 +49,7 @@ fn element_turn(
     strands: &mut [u32; Session::STRANDS * Session::DEPTH],
     out: &mut [u8],
 ) -> Turn
-    requires { ⌜ Ready (now table) header (now index) (now scene) (sessionOf head (now levels) (now bindings) (now spaces) (now strands)) × Told (now scene) (now bindings) (now own) (now attrs) (now codes) at tag found owned (declarationsOf (now scene) (attrsIn (now attrs) (tag .count))) ⌝ }
+    requires { ⌜ TurnReady (now table) header (now index) (now scene) (sessionOf head (now levels) (now bindings) (now spaces) (now strands)) × Told (now scene) (now bindings) (now own) (now attrs) (now codes) at tag found owned (declarationsOf (now scene) (attrsIn (now attrs) (tag .count))) ⌝ }
     ensures { λ r. ⌜ (
         let s = now (scene .entry) in
         let t = decode (now (table .entry)) in
@@ -127,7 +127,7 @@ fn tag_turn(
     strands: &mut [u32; Session::STRANDS * Session::DEPTH],
     out: &mut [u8],
 ) -> Turn
-    requires { ⌜ Ready (now table) header (now index) (now scene) (sessionOf head (now levels) (now bindings) (now spaces) (now strands)) × (at + 1 ≤ length (now scene)) × (tagAt (now scene) (at + 1) .answer ≡ tagged.Got tag) × (now attrs ≡ laid (tagAt (now scene) (at + 1) .attrs) (replicate 80 0)) ⌝ }
+    requires { ⌜ TurnReady (now table) header (now index) (now scene) (sessionOf head (now levels) (now bindings) (now spaces) (now strands)) × (at + 1 ≤ length (now scene)) × (tagAt (now scene) (at + 1) .answer ≡ tagged.Got tag) × (now attrs ≡ laid (tagAt (now scene) (at + 1) .attrs) (replicate 80 0)) ⌝ }
     ensures { λ r. ⌜ (
         let s = now (scene .entry) in
         let t = decode (now (table .entry)) in
@@ -187,7 +187,7 @@ pub fn start_turn(
     strands: &mut [u32; Session::STRANDS * Session::DEPTH],
     out: &mut [u8],
 ) -> Turn
-    requires { ⌜ Ready (now table) header (now index) (now scene) (sessionOf head (now levels) (now bindings) (now spaces) (now strands)) × (at + 1 ≤ length (now scene)) ⌝ }
+    requires { ⌜ TurnReady (now table) header (now index) (now scene) (sessionOf head (now levels) (now bindings) (now spaces) (now strands)) × (at + 1 ≤ length (now scene)) ⌝ }
     ensures { λ r. ⌜ (
         let s = now (scene .entry) in
         let t = decode (now (table .entry)) in

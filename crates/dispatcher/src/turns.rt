@@ -14,10 +14,10 @@ use lexer::tags::begin_at;
 use table::Header;
 ghost use mathlib.Core.Path.{_≡_};
 ghost use Rattle.table.specs.Table.{decode};
-ghost use Rattle.lexer.specs.Stops.{numberOf, placeOf};
+ghost use Rattle.lexer.specs.Stops.{numberOf, stopPlace};
 ghost use Rattle.dispatcher.specs.Sessions.{sessionOf};
 ghost use Rattle.dispatcher.specs.Stepping.{planOf, planned};
-ghost use Rattle.dispatcher.specs.Turns.{Ready, stopTurn, stepBy};
+ghost use Rattle.dispatcher.specs.Turns.{TurnReady, stopTurn, stepBy};
 
 // A refusal: the session's numbers stay.
 pub fn stop(number: u8, place: usize, head: Head) -> Turn
@@ -33,7 +33,7 @@ pub fn stop(number: u8, place: usize, head: Head) -> Turn
 
 // Reading stopped.
 pub fn stopped(scene: &[u8], x: Stop, head: Head) -> Turn
-    ensures { λ r. ⌜ r ≡ stopTurn (numberOf x) (placeOf (now (scene .entry)) x) head ⌝ }
+    ensures { λ r. ⌜ r ≡ stopTurn (numberOf x) (stopPlace (now (scene .entry)) x) head ⌝ }
 {
     stop(number_of(x), place_of(scene, x), head)
 }
@@ -51,7 +51,7 @@ pub fn one_turn(
     strands: &mut [u32; Session::STRANDS * Session::DEPTH],
     out: &mut [u8],
 ) -> Turn
-    requires { ⌜ Ready (now table) header (now index) (now scene) (sessionOf head (now levels) (now bindings) (now spaces) (now strands)) ⌝ }
+    requires { ⌜ TurnReady (now table) header (now index) (now scene) (sessionOf head (now levels) (now bindings) (now spaces) (now strands)) ⌝ }
     ensures { λ r. ⌜ (
         let z = sessionOf head (now (levels .entry)) (now (bindings .entry)) (now (spaces .entry)) (now (strands .entry)) in
         stepBy r (now (levels .exit)) (now (bindings .exit)) (now (spaces .exit)) (now (strands .exit)) (now (out .exit))

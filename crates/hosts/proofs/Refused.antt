@@ -5,7 +5,7 @@ use mathlib.Core.List.{List}
 use native.Mathlib.Omega.{arith}
 use Rattle.dispatcher.specs.declared.Session.{Session}
 use Rattle.dispatcher.specs.Stepping.{Step, stepOf}
-use Rattle.demands.specs.Answers.{Answered, bad-table, long-scene, bad-session, unread, all-read, limited, no-room, written}
+use Rattle.demands.specs.Answers.{Answered, bad-table, long-scene, bad-session, unread, all-read, limited, no-room, wrote}
 use Rattle.demands.proofs.Refusals.{answered-by, refused-keeps}
 
 pub record Answers (z : Session) (r : Step) : Type 0 where
@@ -21,7 +21,7 @@ module _ (table s : List ℕ) (z : Session) (out : List ℕ) where
   few-numbers (all-read r p q) = omega arith
   few-numbers (limited r e o q n l lo hi) = omega arith
   few-numbers (no-room r p rs z″ q l) = omega arith
-  few-numbers (written r p rs z″ q l) = omega arith
+  few-numbers (wrote r p rs z″ q l) = omega arith
 
   pub answers : Answers z (stepOf table s z out)
   answers = record { few = few-numbers (answered-by table s z out); keeps = λ n. refused-keeps table s z out n .session }

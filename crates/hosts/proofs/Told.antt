@@ -20,7 +20,7 @@ use Rattle.dispatcher.specs.Sessions.{freshOf}
 use Rattle.dispatcher.specs.Stepping.{Step, stepOf}
 use Rattle.demands.specs.Calls.{stepsFrom, isAccepted, acceptedIn, recordsOf, joinedOf}
 use Rattle.capi.specs.Layout.{sessionSize, sessionIn, holdsSession, sessionBytes}
-use Rattle.capi.specs.Calls.{numbersOf, byteStep, bytesBehind, tooShort}
+use Rattle.capi.specs.Calls.{answerNumbers, byteStep, bytesBehind, tooShort}
 use Rattle.capi.proofs.RoundTrip.{Storable, AllPack, size, fresh-held}
 use Rattle.capi.proofs.NextHeld.{next-held}
 use Rattle.capi.proofs.NextStored.{next-storable, stored-read, stored-held}
@@ -60,7 +60,7 @@ module _ (b : List ℕ) (long : sessionSize ≤ length b) where
 -- ---- a call
 -- what it tells of a step, and the bytes that it leaves
 abbrev telling : Step → List ℕ → HostStep
-telling r b = record { number = r .answer .number; answer = numbersOf (r .answer); output = r .output; session = b }
+telling r b = record { number = r .answer .number; answer = answerNumbers (r .answer); output = r .output; session = b }
 
 module _ (table s b out : List ℕ) (z : Session) (h : Holding b z) where
   byte-step : byteStep table s b out ≡ stepOf table s z out

@@ -11,7 +11,7 @@ use Rattle.laws.specs.Over.{overwrite}
 use Rattle.dispatcher.specs.Sessions.{freshOf}
 use Rattle.demands.specs.Calls.{Call}
 use Rattle.capi.specs.Layout.{sessionSize, sessionBytes}
-use Rattle.capi.specs.Calls.{numbersOf, byteStep, bytesBehind, tooShort}
+use Rattle.capi.specs.Calls.{answerNumbers, byteStep, bytesBehind, tooShort}
 
 -- What calcivorne_fresh hands back: the number that it returns, and the session's bytes
 pub record HostFresh : Type 0 where
@@ -38,7 +38,7 @@ unfoldable pub hostStep : List ℕ → List ℕ → List ℕ → List ℕ → Li
 hostStep table scene session out answer =
     record {
       number = cond (ltb (length session) sessionSize) tooShort (byteStep table scene session out .answer .number);
-      answer = cond (ltb (length session) sessionSize) answer (numbersOf (byteStep table scene session out .answer));
+      answer = cond (ltb (length session) sessionSize) answer (answerNumbers (byteStep table scene session out .answer));
       output = cond (ltb (length session) sessionSize) out (byteStep table scene session out .output);
       session = cond (ltb (length session) sessionSize) session (bytesBehind session (byteStep table scene session out));
     }

@@ -11,7 +11,7 @@ use native.Mathlib.Nat.{not-suc-le-zero, le-of-suc-le-suc}
 use borrow.Author.Tests.{ltb-true}
 use lib.ListN.{length, drop, getD, length-drop}
 use lib.Dec.{ltb}
-use Rattle.laws.specs.Reading.{Next, go, stop, follow, run, drop-here}
+use Rattle.laws.specs.Reading.{RunNext, go, stop, follow, run, drop-here}
 use Rattle.laws.specs.Members.{All}
 
 pub holds-cond : {A : Type 0} (P : A → Type 0) (t : Bool) {a b : A} → (t ≡ true → P a) → (t ≡ false → P b) → P (cond t a b)
@@ -23,12 +23,12 @@ pub holds-peek : {A : Type 0} (P : A → Type 0) (s : List ℕ) (at : ℕ) {x cu
 holds-peek P s at e h = holds-cond P (ltb at (length s)) (λ q. h (ltb-true at (length s) q)) (λ q. e)
 
 -- a step's answer: what its state keeps where it goes on, and what it must meet where it stops
-abbrev pub Turned : {St Out : Type 0} → (St → Type 0) → (Out → Type 0) → Next St Out → Type 0
+abbrev pub Turned : {St Out : Type 0} → (St → Type 0) → (Out → Type 0) → RunNext St Out → Type 0
 Turned I P (go q) = I q
 Turned I P (stop o) = P o
 
 -- I q i: a machine in the state q at the index i of s. Each step is told its byte
-module _ {St Out : Type 0} (cut : Out) (step : St → ℕ → ℕ → Next St Out) (s : List ℕ) (I : St → ℕ → Type 0) (P : Out → Type 0) (e : P cut) (turn : (q : St) (i : ℕ) → i < length s → I q i → Turned (λ (q′ : St). I q′ (i + 1)) P (step q (getD s i 0) i)) where
+module _ {St Out : Type 0} (cut : Out) (step : St → ℕ → ℕ → RunNext St Out) (s : List ℕ) (I : St → ℕ → Type 0) (P : Out → Type 0) (e : P cut) (turn : (q : St) (i : ℕ) → i < length s → I q i → Turned (λ (q′ : St). I q′ (i + 1)) P (step q (getD s i 0) i)) where
   held : (l : List ℕ) (q : St) (i : ℕ) → drop i s ≡ l → I q i → P (run cut step q l i)
   unfolding run
   held [] q i d h = e
@@ -39,7 +39,7 @@ module _ {St Out : Type 0} (cut : Out) (step : St → ℕ → ℕ → Next St Ou
       let rest : drop (i + 1) s ≡ l = cc in
       next (step q b i) (λ (q′ : St) (k : I q′ (i + 1)). held l q′ (i + 1) rest k) (subst (λ (x : ℕ). Turned (λ (q′ : St). I q′ (i + 1)) P (step q x i)) byte (turn q i lt h))
     where
-      next : (n : Next St Out) → ((q′ : St) → I q′ (i + 1) → P (run cut step q′ l (i + 1))) → Turned (λ (q′ : St). I q′ (i + 1)) P n → P (follow n (λ (q′ : St). run cut step q′ l (i + 1)))
+      next : (n : RunNext St Out) → ((q′ : St) → I q′ (i + 1) → P (run cut step q′ l (i + 1))) → Turned (λ (q′ : St). I q′ (i + 1)) P n → P (follow n (λ (q′ : St). run cut step q′ l (i + 1)))
       next (go q′) ih k = ih q′ k
       next (stop o) ih k = k
 

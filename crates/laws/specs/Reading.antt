@@ -83,25 +83,25 @@ pub stable-bind : {A B : Type 0} (cut : A) (cut′ : B) (f g : A → B) → f cu
 stable-bind cut cut′ f g e h v w k n = ap g (k (λ q. n (ap f q ∙ e))) ∙ h v n
 
 -- ---- a machine that reads a list byte by byte: in a state, at a byte, at an index, it goes on in a state or stops with an answer
-pub data Next (St Out : Type 0) : Type 0 where
-  go : St → Next St Out
-  stop : Out → Next St Out
+pub data RunNext (St Out : Type 0) : Type 0 where
+  go : St → RunNext St Out
+  stop : Out → RunNext St Out
 
 -- what a step's answer, if it stops, must meet
-pub data Allowed {St Out : Type 0} (P : Out → Type 0) : Next St Out → Type 0 where
+pub data Allowed {St Out : Type 0} (P : Out → Type 0) : RunNext St Out → Type 0 where
   goes : {q : St} → Allowed P (go q)
   stops : {o : Out} → P o → Allowed P (stop o)
 
 module _ {St Out : Type 0} where
-  abbrev pub follow : Next St Out → (St → Out) → Out
+  abbrev pub follow : RunNext St Out → (St → Out) → Out
   follow (go q) k = k q
   follow (stop o) k = o
 
-  pub allowed-cond : (P : Out → Type 0) (t : Bool) {m n : Next St Out} → Allowed P m → Allowed P n → Allowed P (cond t m n)
+  pub allowed-cond : (P : Out → Type 0) (t : Bool) {m n : RunNext St Out} → Allowed P m → Allowed P n → Allowed P (cond t m n)
   allowed-cond P true a b = a
   allowed-cond P false a b = b
 
-  module _ (cut : Out) (step : St → ℕ → ℕ → Next St Out) where
+  module _ (cut : Out) (step : St → ℕ → ℕ → RunNext St Out) where
     -- the answer on a list: `cut` where the list ends before the machine stops
     unfoldable pub run : St → List ℕ → ℕ → Out
     run q [] at = cut
@@ -112,7 +112,7 @@ module _ {St Out : Type 0} where
     run-kept q [] t at = stable-cut cut (run q t at)
     run-kept q (b ∷ s) t at = kept (step q b at) (λ (q′ : St). run-kept q′ s t (at + 1))
       where
-        kept : (n : Next St Out) → ((q′ : St) → Stable cut (run q′ s (at + 1)) (run q′ (s ++ t) (at + 1))) → Stable cut (follow n (λ (q′ : St). run q′ s (at + 1))) (follow n (λ (q′ : St). run q′ (s ++ t) (at + 1)))
+        kept : (n : RunNext St Out) → ((q′ : St) → Stable cut (run q′ s (at + 1)) (run q′ (s ++ t) (at + 1))) → Stable cut (follow n (λ (q′ : St). run q′ s (at + 1))) (follow n (λ (q′ : St). run q′ (s ++ t) (at + 1)))
         kept (go q′) h = h q′
         kept (stop o) h = stable-same cut o
 
@@ -128,7 +128,7 @@ module _ {St Out : Type 0} where
     run-all P e q (b ∷ l) at h =
         next (step q b at) (λ (q′ : St). run-all P e q′ l (at + 1) (λ q″ b′ j lo hi. h q″ b′ j (omega arith) (omega arith))) (h q b at (omega arith) (omega arith))
       where
-        next : (n : Next St Out) → ((q′ : St) → P (run q′ l (at + 1))) → Allowed P n → P (follow n (λ (q′ : St). run q′ l (at + 1)))
+        next : (n : RunNext St Out) → ((q′ : St) → P (run q′ l (at + 1))) → Allowed P n → P (follow n (λ (q′ : St). run q′ l (at + 1)))
         next (go q′) ih goes = ih q′
         next (stop o) ih (stops a) = a
 
@@ -152,7 +152,7 @@ module _ {St Out : Type 0} where
 
 -- two machines, each of which may know a scene of its own, the second's longer: where their steps agree inside the list, but for the steps that
 -- stop with `cut`, their answers do
-module _ {St Out : Type 0} (cut : Out) (step step′ : St → ℕ → ℕ → Next St Out) where
+module _ {St Out : Type 0} (cut : Out) (step step′ : St → ℕ → ℕ → RunNext St Out) where
   pub run-agree : (q : St) (l t : List ℕ) (at : ℕ) → ((q′ : St) (b j : ℕ) → at ≤ j → j < at + length l → Stable (stop cut) (step q′ b j) (step′ q′ b j)) → Stable cut (run cut step q l at) (run cut step′ q (l ++ t) at)
   unfolding run
   run-agree q [] t at h = stable-cut cut (run cut step′ q t at)
@@ -162,7 +162,7 @@ module _ {St Out : Type 0} (cut : Out) (step step′ : St → ℕ → ℕ → Ne
       differ : (q′ : St) → go q′ ≡ stop cut → ⊥
       differ q′ e = let z : _≡_ {A = ℕ} 0 1 = cc in omega arith
 
-      agree : (n n′ : Next St Out) → Stable (stop cut) n n′ → ((q′ : St) → Stable cut (run cut step q′ l (at + 1)) (run cut step′ q′ (l ++ t) (at + 1))) → Stable cut (follow n (λ (q′ : St). run cut step q′ l (at + 1))) (follow n′ (λ (q′ : St). run cut step′ q′ (l ++ t) (at + 1)))
+      agree : (n n′ : RunNext St Out) → Stable (stop cut) n n′ → ((q′ : St) → Stable cut (run cut step q′ l (at + 1)) (run cut step′ q′ (l ++ t) (at + 1))) → Stable cut (follow n (λ (q′ : St). run cut step q′ l (at + 1))) (follow n′ (λ (q′ : St). run cut step′ q′ (l ++ t) (at + 1)))
       agree (go q′) n′ k ih n = rw (k (differ q′)) (ih q′ n)
       agree (stop o) n′ k ih n = rw (k (λ e. n (cc)))
 

@@ -7,7 +7,7 @@ use native.Mathlib.Omega.{arith}
 use lib.ListN.{length, length-append}
 use Rattle.laws.specs.Over.{overwrite}
 use Rattle.laws.specs.Reading.{room-step}
-use Rattle.lexer.specs.Attrs.{numbersOf, laid}
+use Rattle.lexer.specs.Attrs.{attrNumbers, laid}
 use Rattle.lexer.specs.Names.{nameAt}
 use Rattle.lexer.specs.Tags.{attributeAt, turnAt, TagRead, tagClosed, tagStopped, fullTurn, turnThen, attrsFrom, tagAt}
 use Rattle.lexer.specs.declared.Stop.{Stop}
@@ -77,7 +77,7 @@ module _ (s : List ℕ) (name : Name) (array₀ array : List ℕ) (count at : �
       pub refused : (x : Stop) → v ≡ attributed.Stopped x → Answered (asked s name) array₀ array (tagged.Stopped x)
       refused x g = answered (tagStopped (f .held) x) refl (rw (sym e ∙ g) at (rw (sym p ∙ q) at (turned h)))
 
-      pub more : (a : Attr) → v ≡ attributed.Got a → (array′ : List ℕ) → array′ ≡ overwrite array (5 * count) (numbersOf a) → Filled s name array₀ array′ (count + 1) (a .stop + 1)
+      pub more : (a : Attr) → v ≡ attributed.Got a → (array′ : List ℕ) → array′ ≡ overwrite array (5 * count) (attrNumbers a) → Filled s name array₀ array′ (count + 1) (a .stop + 1)
       more a g array′ w =
           record {
             held = f .held ++ (a ∷ []);

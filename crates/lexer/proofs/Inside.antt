@@ -10,7 +10,7 @@ use lib.ListN.{length, getD, length-append}
 use lib.Dec.{eqb}
 use Rattle.laws.specs.Members.{All}
 use Rattle.laws.proofs.Holds.{holds-cond, holds-peek, Turned, run-held, each-more}
-use Rattle.lexer.specs.Stops.{after, afterName}
+use Rattle.lexer.specs.Stops.{afterRead, afterName}
 use Rattle.lexer.specs.Names.{isSpace, spaceStep, spacesEnd, startLen, nameLen, partStep, partEnd, nameOf, prefixedAt, nameAt}
 use Rattle.lexer.specs.Values.{valueEnd}
 use Rattle.lexer.specs.Tags.{wanted, equalsEnd, quotedAt, attributeAt, slashAt, turnBehind, turnAt, TagRead, tagStopped, tagClosed, fullTurn, attrThen, turnThen, attrsFrom, tagAt, endTagAt, tagBegins, beginInside, beginOutside, ending, beginAt}
@@ -61,7 +61,7 @@ within-read P s at (read.Stopped (Long j)) h = absurd h
 within-read P s at (read.Stopped Cut) h = tt
 
 -- Q holds of what is read behind what was read, if it holds behind each end, and of each stop
-pub after-inside : {A : Type 0} (Q : A → Type 0) (f : Stop → A) (P : ℕ → Type 0) (s : List ℕ) (at : ℕ) (r : Read) (k : ℕ → A) → ReadInside P s at r → ((x : Stop) → StopInside s at x → Q (f x)) → ((j : ℕ) → P j → Q (k j)) → Q (after f r k)
+pub after-inside : {A : Type 0} (Q : A → Type 0) (f : Stop → A) (P : ℕ → Type 0) (s : List ℕ) (at : ℕ) (r : Read) (k : ℕ → A) → ReadInside P s at r → ((x : Stop) → StopInside s at x → Q (f x)) → ((j : ℕ) → P j → Q (k j)) → Q (afterRead f r k)
 after-inside Q f P s at (read.End j) k h g e = e j h
 after-inside Q f P s at (read.Stopped x) k h g e = g x h
 

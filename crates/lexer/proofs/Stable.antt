@@ -12,7 +12,7 @@ use lib.Seq.{take-length}
 use lib.Dec.{eqb}
 use Rattle.laws.specs.Reading.{stop, Stable, stable-same, stable-cond, stable-peek, run-stable, run-agree-at}
 use Rattle.laws.proofs.Kept.{Kept, kept-open, kept-bind, stable-inside, cut-short}
-use Rattle.lexer.specs.Stops.{placeOf, after, afterName}
+use Rattle.lexer.specs.Stops.{stopPlace, afterRead, afterName}
 use Rattle.lexer.specs.Names.{spaceStep, spacesEnd, startLen, nameLen, partStep, partEnd, nameOf, prefixedAt, nameAt}
 use Rattle.lexer.specs.Values.{valueEnd}
 use Rattle.lexer.specs.Tags.{wanted, equalsEnd, attrOf, quotedAt, attributeAt, slashAt, turnBehind, turnAt, TagRead, tagStopped, fullTurn, attrThen, turnThen, attrsFrom, tagAt, endTagAt, tagBegins, beginInside, beginOutside, ending, beginAt}
@@ -39,10 +39,10 @@ use Rattle.lexer.proofs.Inside.{StopInside, ReadInside, within-read, Ta
 
 -- ---- what is read behind what was read. C: the answers that may change, and what Cut becomes is one
 module _ {A : Type 0} (C : A → Type 0) (f : Stop → A) (e : C (f Cut)) where
-  pub kept-after : (k k′ : ℕ → A) → ((j : ℕ) → Kept C (k j) (k′ j)) → (r r′ : Read) → Stable (read.Stopped Cut) r r′ → Kept C (after f r k) (after f r′ k′)
-  kept-after k k′ h = kept-bind (read.Stopped Cut) C (λ (r : Read). after f r k) (λ (r : Read). after f r k′) e each
+  pub kept-after : (k k′ : ℕ → A) → ((j : ℕ) → Kept C (k j) (k′ j)) → (r r′ : Read) → Stable (read.Stopped Cut) r r′ → Kept C (afterRead f r k) (afterRead f r′ k′)
+  kept-after k k′ h = kept-bind (read.Stopped Cut) C (λ (r : Read). afterRead f r k) (λ (r : Read). afterRead f r k′) e each
     where
-      each : (r : Read) → Kept C (after f r k) (after f r k′)
+      each : (r : Read) → Kept C (afterRead f r k) (afterRead f r k′)
       each (read.End j) = h j
       each (read.Stopped x) = λ n. refl
 
@@ -54,7 +54,7 @@ module _ {A : Type 0} (C : A → Type 0) (f : Stop → A) (e : C (f Cut)) where
       each (named.Stopped x) = λ m. refl
 
 module _ {A : Type 0} (f : Stop → A) where
-  pub stable-after : (k k′ : ℕ → A) → ((j : ℕ) → Stable (f Cut) (k j) (k′ j)) → (r r′ : Read) → Stable (read.Stopped Cut) r r′ → Stable (f Cut) (after f r k) (after f r′ k′)
+  pub stable-after : (k k′ : ℕ → A) → ((j : ℕ) → Stable (f Cut) (k j) (k′ j)) → (r r′ : Read) → Stable (read.Stopped Cut) r r′ → Stable (f Cut) (afterRead f r k) (afterRead f r′ k′)
   stable-after = kept-after (λ (a : A). a ≡ f Cut) f refl
 
   pub stable-afterName : (k k′ : Name → A) → ((n : Name) → Stable (f Cut) (k n) (k′ n)) → (r r′ : Named) → Stable (named.Stopped Cut) r r′ → Stable (f Cut) (afterName f r k) (afterName f r′ k′)
@@ -223,7 +223,7 @@ module _ (s t : List ℕ) where
 -- ---- the bytes before the place where reading stops: nothing is settled there
 -- Is a x: the answer a stops with x
 module _ {A : Type 0} (C : A → Type 0) (decided : (a : A) → C a ⊎ (C a → ⊥)) (f : List ℕ → A) (kept : (s t : List ℕ) → Kept C (f s) (f (s ++ t))) (at : ℕ) (Is : A → Stop → Type 0) (cut : (a : A) → Is a Cut → C a) (inside : (l : List ℕ) (x : Stop) → Is (f l) x → StopInside l at x) where
-  stops-short : (s : List ℕ) (x : Stop) → Is (f s) x → C (f (take (placeOf s x) s))
+  stops-short : (s : List ℕ) (x : Stop) → Is (f s) x → C (f (take (stopPlace s x) s))
   stops-short s (Bad p) h = cut-short C decided f kept p s (λ l e. inside l (Bad p) (subst (λ (a : A). Is a (Bad p)) (sym e) h) .1)
   stops-short s (Long p) h = cut-short C decided f kept p s (λ l e. inside l (Long p) (subst (λ (a : A). Is a (Long p)) (sym e) h) .1)
   stops-short s Cut h = rw (take-length s) (cut (f s) h)
@@ -255,30 +255,30 @@ begin-decided (begin.Stopped (Bad p)) = inr (⊎-elim (λ e. let z : _≡_ {A = 
 begin-decided (begin.Stopped (Long p)) = inr (⊎-elim (λ e. let z : _≡_ {A = ℕ} 0 1 = cc in omega arith) (λ e. let z : _≡_ {A = ℕ} 0 1 = cc in omega arith))
 begin-decided (begin.Stopped Cut) = inl (inl refl)
 
-pub value-short : (s : List ℕ) (at quote : ℕ) (x : Stop) → valueEnd s at quote ≡ read.Stopped x → valueEnd (take (placeOf s x) s) at quote ≡ read.Stopped Cut
+pub value-short : (s : List ℕ) (at quote : ℕ) (x : Stop) → valueEnd s at quote ≡ read.Stopped x → valueEnd (take (stopPlace s x) s) at quote ≡ read.Stopped Cut
 value-short s at quote x =
     stops-short (λ (r : Read). r ≡ read.Stopped Cut) read-decided (λ (l : List ℕ). valueEnd l at quote) (λ l m. value-stable l m at quote) at (λ (r : Read) (y : Stop). r ≡ read.Stopped y) (λ r e. e)
     (λ l y e. subst (ReadInside (ValueTo l quote at) l at) e (within-read (ValueTo l quote at) l at (valueEnd l at quote) (value-inside l at quote)))
     s
     x
 
-pub tag-short : (s : List ℕ) (at : ℕ) (x : Stop) → tagAt s at .answer ≡ tagged.Stopped x → tagAt (take (placeOf s x) s) at .answer ≡ tagged.Stopped Cut
+pub tag-short : (s : List ℕ) (at : ℕ) (x : Stop) → tagAt s at .answer ≡ tagged.Stopped x → tagAt (take (stopPlace s x) s) at .answer ≡ tagged.Stopped Cut
 tag-short s at x =
     stops-short CutTag (λ (r : TagRead). tagged-decided (r .answer)) (λ (l : List ℕ). tagAt l at) (λ l m. tag-stable l m at) at (λ (r : TagRead) (y : Stop). r .answer ≡ tagged.Stopped y) (λ r e. e)
     (λ l y e. subst (TaggedInside l at (tagAt l at .attrs)) e (tag-inside l at .answer))
     s
     x
 
-pub endTag-short : (s : List ℕ) (at : ℕ) (x : Stop) → endTagAt s at ≡ ended.Stopped x → endTagAt (take (placeOf s x) s) at ≡ ended.Stopped Cut
+pub endTag-short : (s : List ℕ) (at : ℕ) (x : Stop) → endTagAt s at ≡ ended.Stopped x → endTagAt (take (stopPlace s x) s) at ≡ ended.Stopped Cut
 endTag-short s at x =
     stops-short (λ (r : Ended). r ≡ ended.Stopped Cut) ended-decided (λ (l : List ℕ). endTagAt l at) (λ l m. endTag-stable l m at) at (λ (r : Ended) (y : Stop). r ≡ ended.Stopped y) (λ r e. e)
     (λ l y e. subst (EndedInside l at) e (endTag-inside l at))
     s
     x
 
-pub begin-short : (s : List ℕ) (at : ℕ) (inside closed : Bool) (x : Stop) → beginAt s at inside closed ≡ begin.Stopped x → (beginAt (take (placeOf s x) s) at inside closed ≡ begin.Stopped Cut) ⊎ ((beginAt (take (placeOf s x) s) at inside closed ≡ begin.Finished) × (closed ≡ true))
+pub begin-short : (s : List ℕ) (at : ℕ) (inside closed : Bool) (x : Stop) → beginAt s at inside closed ≡ begin.Stopped x → (beginAt (take (stopPlace s x) s) at inside closed ≡ begin.Stopped Cut) ⊎ ((beginAt (take (stopPlace s x) s) at inside closed ≡ begin.Finished) × (closed ≡ true))
 begin-short s at inside closed x h =
-    ⊎-elim inl (λ e. inr (e, subst (BeginInside (take (placeOf s x) s) at inside closed) e (begin-inside (take (placeOf s x) s) at inside closed) .0))
+    ⊎-elim inl (λ e. inr (e, subst (BeginInside (take (stopPlace s x) s) at inside closed) e (begin-inside (take (stopPlace s x) s) at inside closed) .0))
     (stops-short CutBegin begin-decided (λ (l : List ℕ). beginAt l at inside closed) (λ l m. begin-stable l m at inside closed) at (λ (r : Begin) (y : Stop). r ≡ begin.Stopped y) (λ r e. inl e)
     (λ l y e. subst (BeginInside l at inside closed) e (begin-inside l at inside closed))
     s

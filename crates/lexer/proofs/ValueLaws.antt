@@ -12,7 +12,7 @@ use borrow.Author.Tests.{eqb-true, leb-false, ltb-true, ltb-false, lt-leb}
 use lib.ListN.{length, drop, getD, length-drop, length-append}
 use lib.Seq.{drop-append-le}
 use lib.Dec.{leb, ltb, eqb}
-use Rattle.laws.specs.Reading.{Next, go, stop, Stable, stable-same, stable-cut, stable-cond, stable-bind, run-agree-at, le-or-lt}
+use Rattle.laws.specs.Reading.{RunNext, go, stop, Stable, stable-same, stable-cut, stable-cond, stable-bind, run-agree-at, le-or-lt}
 use Rattle.laws.specs.Text.{bytes}
 use Rattle.laws.proofs.Holds.{holds-cond, Turned, run-held}
 use Rattle.lexer.specs.Values.{references, common, wholeOf, furthest, noReference, referenceEnd, isText, referred, valueStep, valueEnd}
@@ -97,7 +97,7 @@ value-inside s at quote = run-held (Stopped Cut) (valueStep s quote) s (λ (left
     In : Read → Type 0
     In = Within (ValueTo s quote at) s at
 
-    Turn : ℕ → Next ℕ Read → Type 0
+    Turn : ℕ → RunNext ℕ Read → Type 0
     Turn j = Turned (λ (left : ℕ). at ≤ j + 1) In
 
     passed : (j : ℕ) → at ≤ j → (r : Read) → Within (ReferenceTo s j) s j r → Turn j (referred j r)

@@ -9,12 +9,12 @@ use Rattle.laws.specs.Gather.{gather}
 use Rattle.lexer.specs.declared.Name.{Name}
 use Rattle.lexer.specs.declared.Attr.{Attr}
 
-abbrev pub numbersOf : Attr → List ℕ
-numbersOf a = a .name .at ∷ a .name .part ∷ a .name .end ∷ a .value ∷ a .stop ∷ []
+abbrev pub attrNumbers : Attr → List ℕ
+attrNumbers a = a .name .at ∷ a .name .part ∷ a .name .end ∷ a .value ∷ a .stop ∷ []
 
 -- the array with these attributes from its first place on, and what it held behind them
 unfoldable pub laid : List Attr → List ℕ → List ℕ
-laid l array = gather numbersOf l ++ drop (5 * length l) array
+laid l array = gather attrNumbers l ++ drop (5 * length l) array
 
 -- the k-th attribute of an array
 unfoldable pub attrIn : List ℕ → ℕ → Attr

@@ -5,8 +5,8 @@ use mathlib.Core.List.{List}
 use mathlib.Core.Bool.{Bool, cond, _&&_, _||_}
 use lib.ListN.{drop}
 use lib.Dec.{leb, eqb}
-use Rattle.laws.specs.Reading.{Next, go, stop, run, peek}
-use Rattle.lexer.specs.Stops.{after}
+use Rattle.laws.specs.Reading.{RunNext, go, stop, run, peek}
+use Rattle.lexer.specs.Stops.{afterRead}
 use Rattle.lexer.specs.declared.Stop.the-variants.{Bad, Long, Cut}
 use Rattle.lexer.specs.declared.Read.{Read}
 use Rattle.lexer.specs.declared.Read.the-variants as read
@@ -19,7 +19,7 @@ abbrev pub isSpace : ℕ → Bool
 isSpace b = eqb b 0x20 || eqb b 0x0A || eqb b 0x09 || eqb b 0x0D
 
 -- the first byte from a place on that is no space
-abbrev pub spaceStep : ℕ → ℕ → ℕ → Next ℕ Read
+abbrev pub spaceStep : ℕ → ℕ → ℕ → RunNext ℕ Read
 spaceStep q b i = cond (isSpace b) (go q) (stop (read.End i))
 
 unfoldable pub spacesEnd : List ℕ → ℕ → Read
@@ -46,7 +46,7 @@ nameLen s at = peek 0 s at (λ (b : ℕ). cond (isName b) 1 0)
 
 -- "A name part is an ASCII letter or _ and then letters, digits, - . _ , at most 64 bytes". In the state: how many bytes may still come, 64 at
 -- the first. "2 byte that cannot stand there; 3 65th byte of a part": only where it could go on with the part
-abbrev pub partStep : List ℕ → ℕ → ℕ → ℕ → Next ℕ Read
+abbrev pub partStep : List ℕ → ℕ → ℕ → ℕ → RunNext ℕ Read
 partStep s room b i =
     cond (eqb room 64)
     (cond (eqb (startLen s i) 0) (stop (read.Stopped (Bad i))) (go 63))
@@ -60,10 +60,10 @@ nameOf at part end = named.Got (record { at = at; part = part; end = end })
 
 -- the part behind a prefix and its colon
 unfoldable pub prefixedAt : List ℕ → ℕ → ℕ → Named
-prefixedAt s at part = after named.Stopped (partEnd s part) (λ (end : ℕ). nameOf at part end)
+prefixedAt s at part = afterRead named.Stopped (partEnd s part) (λ (end : ℕ). nameOf at part end)
 
 -- "A name is a part, or a prefix part, a colon and a part"
 unfoldable pub nameAt : List ℕ → ℕ → Named
 nameAt s at =
-    after named.Stopped (partEnd s at) (λ (j : ℕ).
+    afterRead named.Stopped (partEnd s at) (λ (j : ℕ).
     peek (named.Stopped Cut) s j (λ (b : ℕ). cond (eqb b 0x3A) (prefixedAt s at (j + 1)) (nameOf at at j)))

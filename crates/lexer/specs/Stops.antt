@@ -17,15 +17,15 @@ numberOf (Bad p) = 2
 numberOf (Long p) = 3
 numberOf Cut = 1
 
-abbrev pub placeOf : List ℕ → Stop → ℕ
-placeOf s (Bad p) = p
-placeOf s (Long p) = p
-placeOf s Cut = length s
+abbrev pub stopPlace : List ℕ → Stop → ℕ
+stopPlace s (Bad p) = p
+stopPlace s (Long p) = p
+stopPlace s Cut = length s
 
 -- what is read behind what was read; f says what a stop becomes
-abbrev pub after : {A : Type 0} → (Stop → A) → Read → (ℕ → A) → A
-after f (read.End j) k = k j
-after f (read.Stopped x) k = f x
+abbrev pub afterRead : {A : Type 0} → (Stop → A) → Read → (ℕ → A) → A
+afterRead f (read.End j) k = k j
+afterRead f (read.Stopped x) k = f x
 
 abbrev pub afterName : {A : Type 0} → (Stop → A) → Named → (Name → A) → A
 afterName f (named.Got n) k = k n

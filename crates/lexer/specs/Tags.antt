@@ -5,7 +5,7 @@ use mathlib.Core.Bool.{Bool, true, false, cond, _||_}
 use lib.ListN.{length}
 use lib.Dec.{eqb}
 use Rattle.laws.specs.Reading.{peek}
-use Rattle.lexer.specs.Stops.{after, afterName}
+use Rattle.lexer.specs.Stops.{afterRead, afterName}
 use Rattle.lexer.specs.Names.{spacesEnd, startLen, nameAt}
 use Rattle.lexer.specs.Values.{valueEnd}
 use Rattle.lexer.specs.declared.Stop.{Stop}
@@ -34,8 +34,8 @@ wanted s at byte = peek (read.Stopped Cut) s at (λ (b : ℕ). cond (eqb b byte)
 -- "optional space, =, optional space": the place of the quote
 unfoldable pub equalsEnd : List ℕ → ℕ → Read
 equalsEnd s at =
-    after read.Stopped (spacesEnd s at) (λ (i : ℕ).
-    after read.Stopped (wanted s i 0x3D) (λ (j : ℕ). spacesEnd s j))
+    afterRead read.Stopped (spacesEnd s at) (λ (i : ℕ).
+    afterRead read.Stopped (wanted s i 0x3D) (λ (j : ℕ). spacesEnd s j))
 
 abbrev pub attrOf : Name → ℕ → ℕ → Attr
 attrOf name value stop = record { name = name; value = value; stop = stop }
@@ -45,18 +45,18 @@ unfoldable pub quotedAt : List ℕ → Name → ℕ → Attributed
 quotedAt s name at =
     peek (attributed.Stopped Cut) s at (λ (q : ℕ).
     cond (eqb q 0x22 || eqb q 0x27)
-    (after attributed.Stopped (valueEnd s (at + 1) q) (λ (stop : ℕ). attributed.Got (attrOf name (at + 1) stop)))
+    (afterRead attributed.Stopped (valueEnd s (at + 1) q) (λ (stop : ℕ). attributed.Got (attrOf name (at + 1) stop)))
     (attributed.Stopped (Bad at)))
 
 -- "name, optional space, =, optional space, value in \" or '", from the name's first byte on
 unfoldable pub attributeAt : List ℕ → ℕ → Attributed
 attributeAt s at =
     afterName attributed.Stopped (nameAt s at) (λ (name : Name).
-    after attributed.Stopped (equalsEnd s (name .end)) (λ (quote : ℕ). quotedAt s name quote))
+    afterRead attributed.Stopped (equalsEnd s (name .end)) (λ (quote : ℕ). quotedAt s name quote))
 
 -- "/>", its / at a place
 unfoldable pub slashAt : List ℕ → ℕ → Turn
-slashAt s at = after turn.Stopped (wanted s (at + 1) 0x3E) (λ (next : ℕ). turn.Close next true)
+slashAt s at = afterRead turn.Stopped (wanted s (at + 1) 0x3E) (λ (next : ℕ). turn.Close next true)
 
 -- behind the space from a place to i: "Space between attributes is required"
 unfoldable pub turnBehind : List ℕ → ℕ → ℕ → Turn
@@ -69,7 +69,7 @@ turnBehind s at i =
 
 -- behind a tag's name or an attribute: "(space, name, ..), optional space, > or />"
 unfoldable pub turnAt : List ℕ → ℕ → Turn
-turnAt s at = after turn.Stopped (spacesEnd s at) (λ (i : ℕ). turnBehind s at i)
+turnAt s at = afterRead turn.Stopped (spacesEnd s at) (λ (i : ℕ). turnBehind s at i)
 
 -- What reading a start tag finds: the attributes that were read, also where it stops
 pub record TagRead : Type 0 where
@@ -111,8 +111,8 @@ tagAt s at = afterName (tagStopped []) (nameAt s at) (λ (name : Name). attrsFro
 unfoldable pub endTagAt : List ℕ → ℕ → Ended
 endTagAt s at =
     afterName ended.Stopped (nameAt s at) (λ (name : Name).
-    after ended.Stopped (spacesEnd s (name .end)) (λ (i : ℕ).
-    after ended.Stopped (wanted s i 0x3E) (λ (next : ℕ). ended.Got (record { name = name; next = next }))))
+    afterRead ended.Stopped (spacesEnd s (name .end)) (λ (i : ℕ).
+    afterRead ended.Stopped (wanted s i 0x3E) (λ (next : ℕ). ended.Got (record { name = name; next = next }))))
 
 -- the < of a tag at a place; "</" where nothing is open is 2 at the /
 unfoldable pub tagBegins : List ℕ → Bool → ℕ → Begin
@@ -137,4 +137,4 @@ ending closed x = cond closed begin.Finished (begin.Stopped x)
 -- where the next event begins: inside an element or not, the root closed or not
 unfoldable pub beginAt : List ℕ → ℕ → Bool → Bool → Begin
 beginAt s at inside closed =
-    cond inside (beginInside s at) (after (ending closed) (spacesEnd s at) (λ (i : ℕ). beginOutside s i closed))
+    cond inside (beginInside s at) (afterRead (ending closed) (spacesEnd s at) (λ (i : ℕ). beginOutside s i closed))

@@ -4,7 +4,7 @@ use mathlib.Core.List.{List, [], _∷_}
 use mathlib.Core.Bool.{Bool, cond, not, _&&_, _||_}
 use lib.ListN.{length, drop}
 use lib.Dec.{leb, ltb, eqb}
-use Rattle.laws.specs.Reading.{Next, go, stop, run}
+use Rattle.laws.specs.Reading.{RunNext, go, stop, run}
 use Rattle.laws.specs.Text.{bytes}
 use Rattle.lexer.specs.declared.Stop.the-variants.{Bad, Cut}
 use Rattle.lexer.specs.declared.Read.{Read}
@@ -45,12 +45,12 @@ abbrev pub isText : ℕ → Bool
 isText b = (leb 0x20 b || eqb b 0x0A || eqb b 0x09 || eqb b 0x0D) && not (eqb b 0x3C)
 
 -- a reference passed over, from its & on
-abbrev pub referred : ℕ → Read → Next ℕ Read
+abbrev pub referred : ℕ → Read → RunNext ℕ Read
 referred i (read.End j) = go (j - (i + 1))
 referred i (read.Stopped x) = stop (read.Stopped x)
 
 -- "a value lacks its own quote; & starts only .." In the state: how many bytes of a reference are still to be passed over
-abbrev pub valueStep : List ℕ → ℕ → ℕ → ℕ → ℕ → Next ℕ Read
+abbrev pub valueStep : List ℕ → ℕ → ℕ → ℕ → ℕ → RunNext ℕ Read
 valueStep s quote left b i =
     cond (eqb left 0)
     (cond (eqb b quote) (stop (read.End i))

@@ -1,7 +1,7 @@
 // The number and the place of what stops reading.
 use crate::Stop;
 ghost use mathlib.Core.Path.{_≡_};
-ghost use Rattle.lexer.specs.Stops.{numberOf, placeOf};
+ghost use Rattle.lexer.specs.Stops.{numberOf, stopPlace};
 
 pub fn number_of(x: Stop) -> u8
     ensures { λ r. ⌜ r ≡ numberOf x ⌝ }
@@ -14,7 +14,7 @@ pub fn number_of(x: Stop) -> u8
 }
 
 pub fn place_of(s: &[u8], x: Stop) -> usize
-    ensures { λ r. ⌜ r ≡ placeOf (now (s .entry)) x ⌝ }
+    ensures { λ r. ⌜ r ≡ stopPlace (now (s .entry)) x ⌝ }
 {
     match x {
         Stop::Bad(p) => p,

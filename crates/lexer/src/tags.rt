@@ -20,7 +20,7 @@ ghost use mathlib.Core.List.{List, []};
 ghost use Prim.Native.Nat.{_*_, _<_};
 ghost use lib.ListN.{length};
 ghost use Rattle.laws.specs.Over.{overwrite};
-ghost use Rattle.lexer.specs.Attrs.{numbersOf, laid, attrIn};
+ghost use Rattle.lexer.specs.Attrs.{attrNumbers, laid, attrIn};
 ghost use Rattle.lexer.specs.Tags.{wanted, equalsEnd, quotedAt, attributeAt, slashAt, turnBehind, turnAt, attrsFrom, tagAt, endTagAt, tagBegins, beginInside, beginOutside, beginAt};
 
 // The place behind this byte, which must stand here.
@@ -130,7 +130,7 @@ pub fn turn_at(s: &[u8], at: usize) -> Turn
 // Stores the k-th attribute.
 fn put_attr(numbers: &mut [usize], k: usize, a: Attr)
     requires { ⌜ (k < 16) × (length (now numbers) ≡ 80) ⌝ }
-    ensures { λ _. ⌜ now (numbers .exit) ≡ overwrite (now (numbers .entry)) (5 * k) (numbersOf a) ⌝ }
+    ensures { λ _. ⌜ now (numbers .exit) ≡ overwrite (now (numbers .entry)) (5 * k) (attrNumbers a) ⌝ }
 {
     let at = 5 * k;
     numbers[at] = a.name.at;

@@ -10,11 +10,11 @@ use lib.ListN.{length, getD, length-map, List·getD-map}
 use Rattle.laws.specs.Gather.{gather}
 use Rattle.model.specs.Stream as stream
 use Rattle.model.specs.Theory.{Action, Attach, Unwrap, Validate, Rule, Theory, taken}
-use Rattle.model.specs.Tree.{Event, start, text, end, Tree, eventsThen, events, stillOpen, completed, treeOf}
+use Rattle.model.specs.Tree.{TreeEvent, start, text, end, Tree, eventsThen, treeEvents, stillOpen, completed, treeOf}
 use Rattle.model.specs.Sections.{Tags, Content, empty, ownText, ownElement, slot, size, divideTree}
 use Rattle.model.specs.Stream as stream
 use Rattle.model.specs.Stream.{Level, State, Entry, allot, takeRules, after, fresh, reached, byRule, stay}
-use Rattle.model.specs.Model.{Strand, Assigned, at, beforeRoot, along, enter, assign, assignedOf}
+use Rattle.model.specs.Model.{Strand, Assigned, assignedAt, beforeRoot, along, enter, assign, assignedOf}
 use Rattle.model.proofs.Lists.{gather-same, map-gather, gather-map}
 use Rattle.model.proofs.Divide.{erase, erase-divide, Divided, divided}
 use Rattle.model.proofs.Cut.{IsPrefix, eventsOf, addedEnds, tree-events, completed-prefix}
@@ -36,8 +36,8 @@ module _ (Θ : Theory) where
   innermost [] = []
   innermost (l ∷ ls) = map (λ s. s .mode) (l .strands)
 
-  abbrev pub modesAt : State Θ → Event Θ → List ℕ
-  modesAt z (start σ) = map (λ e. e .strand .mode) (stream.enter Θ (z .levels) σ)
+  abbrev pub modesAt : State Θ → TreeEvent Θ → List ℕ
+  modesAt z (start σ) = map (λ e. e .strand .mode) (stream.entriesAt Θ (z .levels) σ)
   modesAt z (text τ) = innermost (z .levels)
   modesAt z (end ε) = innermost (z .levels)
 
@@ -53,21 +53,21 @@ module _ (Θ : Theory) where
   firstModes [] = []
   firstModes (l ∷ ls) = l .modes
 
-  abbrev eventModes : List (Moded Θ) → Event Θ → List ℕ
+  abbrev eventModes : List (Moded Θ) → TreeEvent Θ → List ℕ
   eventModes ls (start σ) = enterModes ls σ
   eventModes ls (text τ) = firstModes ls
   eventModes ls (end ε) = firstModes ls
 
-  abbrev behind : List (Moded Θ) → Event Θ → List (Moded Θ)
-  behind ls (start σ) = record { at = Θ .keep σ; modes = enterModes ls σ } ∷ ls
+  abbrev behind : List (Moded Θ) → TreeEvent Θ → List (Moded Θ)
+  behind ls (start σ) = record { at = Θ .keptOf σ; modes = enterModes ls σ } ∷ ls
   behind ls (text τ) = ls
   behind ls (end ε) = tail ls
 
-  abbrev modesFrom : List (Moded Θ) → List (Event Θ) → List (List ℕ)
+  abbrev modesFrom : List (Moded Θ) → List (TreeEvent Θ) → List (List ℕ)
   modesFrom ls [] = []
   modesFrom ls (e ∷ es) = eventModes ls e ∷ modesFrom (behind ls e) es
 
-  modes-at : (es gs : List (Event Θ)) (e : Event Θ) (ls : List (Moded Θ)) (d : List ℕ) → getD (modesFrom ls (es ++ (e ∷ gs))) (length es) d ≡ eventModes (foldl behind ls es) e
+  modes-at : (es gs : List (TreeEvent Θ)) (e : TreeEvent Θ) (ls : List (Moded Θ)) (d : List ℕ) → getD (modesFrom ls (es ++ (e ∷ gs))) (length es) d ≡ eventModes (foldl behind ls es) e
   modes-at [] gs e ls d = refl
   modes-at (x ∷ es) gs e ls d = modes-at es gs e (behind ls x) d
 
@@ -84,14 +84,14 @@ module _ (Θ : Theory) where
       one Unwrap = refl
       one Validate = refl
 
-  take-modes : (σ : Θ .StartInfo) (ss : List (stream.Strand ℕ)) → entryModes (takeRules Θ σ ss) ≡ nextModes σ (map (λ s. s .mode) ss)
+  take-modes : (σ : Θ .StartInfo) (ss : List (stream.HeldStrand ℕ)) → entryModes (takeRules Θ σ ss) ≡ nextModes σ (map (λ s. s .mode) ss)
   take-modes σ ss =
-      map-gather (λ (e : Entry). e .strand .mode) (λ (s : stream.Strand ℕ). map (λ q. record { strand = byRule (q .action) (q .next) none (s .target); schema = q .schema }) (taken Θ (s .mode) σ)) ss
+      map-gather (λ (e : Entry). e .strand .mode) (λ (s : stream.HeldStrand ℕ). map (λ q. record { strand = byRule (q .action) (q .next) none (s .target); schema = q .schema }) (taken Θ (s .mode) σ)) ss
       ∙ gather-same _ (λ s. map (λ q. q .next) (taken Θ (s .mode) σ)) (λ s. rule-modes (s .target) (taken Θ (s .mode) σ)) ss
-      ∙ sym (gather-map (λ m. map (λ q. q .next) (taken Θ m σ)) (λ (s : stream.Strand ℕ). s .mode) ss)
+      ∙ sym (gather-map (λ m. map (λ q. q .next) (taken Θ m σ)) (λ (s : stream.HeldStrand ℕ). s .mode) ss)
 
-  enter-modes : (ls : List (Level Θ)) (σ : Θ .StartInfo) → entryModes (stream.enter Θ ls σ) ≡ enterModes (map moded ls) σ
-  enter-modes [] σ = take-modes σ (stream.beforeRoot ∷ [])
+  enter-modes : (ls : List (Level Θ)) (σ : Θ .StartInfo) → entryModes (stream.entriesAt Θ ls σ) ≡ enterModes (map moded ls) σ
+  enter-modes [] σ = take-modes σ (stream.heldBeforeRoot ∷ [])
   enter-modes (l ∷ ls) σ = go (Θ .sameSection (l .at) σ)
     where
       go : (b : Bool) → entryModes (cond b (map (λ s. record { strand = stay s; schema = 0 }) (l .strands)) (takeRules Θ σ (l .strands))) ≡ cond b (map (λ s. s .mode) (l .strands)) (nextModes σ (map (λ s. s .mode) (l .strands)))
@@ -107,11 +107,11 @@ module _ (Θ : Theory) where
       go m a t false n ih = ap (λ x. m ∷ x) (ih u)
       go m a t true n ih = ap (λ x. m ∷ x) (ih (suc u))
 
-  after-modes : (z : State Θ) (e : Event Θ) → map moded ((after Θ z e) .levels) ≡ behind (map moded (z .levels)) e
+  after-modes : (z : State Θ) (e : TreeEvent Θ) → map moded ((after Θ z e) .levels) ≡ behind (map moded (z .levels)) e
   unfolding after
   after-modes z (start σ) =
-      ap (λ x. record { at = Θ .keep σ; modes = x } ∷ map moded (z .levels))
-      (map-map (λ (s : stream.Strand ℕ). s .mode) (λ (e : Entry). e .strand) (stream.entered Θ z σ) ∙ allot-modes _ (stream.enter Θ (z .levels) σ) ∙ enter-modes (z .levels) σ)
+      ap (λ x. record { at = Θ .keptOf σ; modes = x } ∷ map moded (z .levels))
+      (map-map (λ (s : stream.HeldStrand ℕ). s .mode) (λ (e : Entry). e .strand) (stream.entered Θ z σ) ∙ allot-modes _ (stream.entriesAt Θ (z .levels) σ) ∙ enter-modes (z .levels) σ)
   after-modes z (text τ) = refl
   after-modes z (end ε) = popped (z .levels)
     where
@@ -119,7 +119,7 @@ module _ (Θ : Theory) where
       popped [] = refl
       popped (l ∷ ls) = refl
 
-  reached-modes : (es : List (Event Θ)) (z : State Θ) → map moded ((foldl (after Θ) z es) .levels) ≡ foldl behind (map moded (z .levels)) es
+  reached-modes : (es : List (TreeEvent Θ)) (z : State Θ) → map moded ((foldl (after Θ) z es) .levels) ≡ foldl behind (map moded (z .levels)) es
   reached-modes [] z = refl
   reached-modes (e ∷ es) z = reached-modes es (after Θ z e) ∙ ap (λ ls. foldl behind ls es) (after-modes z e)
 
@@ -127,7 +127,7 @@ module _ (Θ : Theory) where
   first-modes [] = refl
   first-modes (l ∷ ls) = refl
 
-  event-modes : (z : State Θ) (e : Event Θ) → modesAt z e ≡ eventModes (map moded (z .levels)) e
+  event-modes : (z : State Θ) (e : TreeEvent Θ) → modesAt z e ≡ eventModes (map moded (z .levels)) e
   event-modes z (start σ) = enter-modes (z .levels) σ
   event-modes z (text τ) = first-modes (z .levels)
   event-modes z (end ε) = first-modes (z .levels)
@@ -156,53 +156,53 @@ module _ (Θ : Theory) where
       ∙ sym (append-assoc (map given xs) (map given (x ∷ ys)) more)
       ∙ ap (λ l. l ++ more) (sym (map-append given xs (x ∷ ys)))
 
-  spread : (c : Content Θ) (κ : Θ .Kept) (i n : ℕ) → Divided Θ κ i n c → (ss : List (Strand (Θ .Body))) (ls : List (Moded Θ)) (es : List (Event Θ))
+  spread : (c : Content Θ) (κ : Θ .Kept) (i n : ℕ) → Divided Θ κ i n c → (ss : List (Strand (Θ .Body))) (ls : List (Moded Θ)) (es : List (TreeEvent Θ))
       → modesFrom (level κ ss ∷ ls) (eventsThen Θ (erase Θ c) es) ≡ map given (assign Θ c ss) ++ modesFrom (level κ ss ∷ ls) es
   spread empty κ i n d ss ls es = refl
   spread (ownText k τ rest) κ i n d ss ls es = ap (λ l. modesOf ss ∷ l) (spread rest κ (suc k) n (d .1) ss ls es)
   spread (ownElement e inner rest) κ i n d ss ls es =
       rw (d .1) (ap (λ l. modesOf ss ∷ l)
       (parts (assign Θ inner ss) _ (assign Θ rest ss) _ _ (modesFrom (level κ ss ∷ ls) es)
-      (spread inner (Θ .keep (e .start)) (suc (e .startAt)) (e .endAt) (d .2) ss (level κ ss ∷ ls) (end (e .end) ∷ eventsThen Θ (erase Θ rest) es))
+      (spread inner (Θ .keptOf (e .start)) (suc (e .startAt)) (e .endAt) (d .2) ss (level κ ss ∷ ls) (end (e .end) ∷ eventsThen Θ (erase Θ rest) es))
       (spread rest κ (suc (e .endAt)) n (d .3) ss ls es)))
   spread (slot e inner rest) κ i n d ss ls es =
       let new : List (Strand (Θ .Body)) = enter Θ e inner ss in
       rw (d .1, new-modes e inner ss) (ap (λ l. modesOf new ∷ l)
       (parts (assign Θ inner new) _ (assign Θ rest ss) _ _ (modesFrom (level κ ss ∷ ls) es)
-      (spread inner (Θ .keep (e .start)) (suc (e .startAt)) (e .endAt) (d .2) new (level κ ss ∷ ls) (end (e .end) ∷ eventsThen Θ (erase Θ rest) es))
+      (spread inner (Θ .keptOf (e .start)) (suc (e .startAt)) (e .endAt) (d .2) new (level κ ss ∷ ls) (end (e .end) ∷ eventsThen Θ (erase Θ rest) es))
       (spread rest κ (suc (e .endAt)) n (d .3) ss ls es)))
 
   -- The content of a document: its root's slot.
   abbrev Rooted : Tree Θ → Content Θ → Type 0
-  Rooted t (slot e inner rest) = (t .rootStart ≡ e .start) × (t .rootEnd ≡ e .end) × (t .inside ≡ erase Θ inner) × (rest ≡ empty) × Divided Θ (Θ .keep (e .start)) 1 (suc (size Θ (t .inside))) inner
+  Rooted t (slot e inner rest) = (t .rootStart ≡ e .start) × (t .rootEnd ≡ e .end) × (t .inside ≡ erase Θ inner) × (rest ≡ empty) × Divided Θ (Θ .keptOf (e .start)) 1 (suc (size Θ (t .inside))) inner
   Rooted t empty = ⊥
   Rooted t (ownText k τ rest) = ⊥
   Rooted t (ownElement e inner rest) = ⊥
 
   rooted : (t : Tree Θ) → Rooted t (divideTree Θ t)
-  rooted t = (refl, refl, sym (erase-divide Θ (Θ .keep (t .rootStart)) 1 (t .inside)), refl, divided Θ (Θ .keep (t .rootStart)) 1 (suc (size Θ (t .inside))) (t .inside) (omega arith))
+  rooted t = (refl, refl, sym (erase-divide Θ (Θ .keptOf (t .rootStart)) 1 (t .inside)), refl, divided Θ (Θ .keptOf (t .rootStart)) 1 (suc (size Θ (t .inside))) (t .inside) (omega arith))
 
-  document-modes : (t : Tree Θ) (c : Content Θ) → Rooted t c → modesFrom [] (events Θ t) ≡ map given (assign Θ c (beforeRoot Θ ∷ []))
+  document-modes : (t : Tree Θ) (c : Content Θ) → Rooted t c → modesFrom [] (treeEvents Θ t) ≡ map given (assign Θ c (beforeRoot Θ ∷ []))
   document-modes t empty r = absurd r
   document-modes t (ownText k τ rest) r = absurd r
   document-modes t (ownElement e inner rest) r = absurd r
   document-modes t (slot e inner rest) r =
       let new : List (Strand (Θ .Body)) = enter Θ e inner (beforeRoot Θ ∷ []) in
       rw (r .0, r .1, r .2, r .3, new-modes e inner (beforeRoot Θ ∷ [])) (ap (λ l. modesOf new ∷ l)
-      (spread inner (Θ .keep (e .start)) 1 (suc (size Θ (t .inside))) (r .4) new [] (end (e .end) ∷ [])
-      ∙ sym (map-append given (assign Θ inner new) (at (e .endAt) [] new ∷ []))))
+      (spread inner (Θ .keptOf (e .start)) 1 (suc (size Θ (t .inside))) (r .4) new [] (end (e .end) ∷ [])
+      ∙ sym (map-append given (assign Θ inner new) (assignedAt (e .endAt) [] new ∷ []))))
 
   tree-modes : (o : Option (Tree Θ)) → modesFrom [] (eventsOf Θ o) ≡ map given (assignedOf Θ o)
   tree-modes none = refl
   tree-modes (some t) = document-modes t (divideTree Θ t) (rooted t)
 
   -- ---- the same
-  module _ (es fs : List (Event Θ)) (e : Event Θ) (p : IsPrefix Θ (es ++ (e ∷ fs))) (d : Assigned (Θ .Body)) where
+  module _ (es fs : List (TreeEvent Θ)) (e : TreeEvent Θ) (p : IsPrefix Θ (es ++ (e ∷ fs))) (d : Assigned (Θ .Body)) where
     -- The strands of an event's element in the tree closed behind it and more events: those of the stream there, each in the same mode.
     pub assigned-modes : map (λ s. s .mode) (getD (assignedOf Θ (treeOf Θ (completed Θ (es ++ (e ∷ fs))))) (length es) d .strands) ≡ modesAt (reached Θ es) e
     assigned-modes =
-        let all : List (Event Θ) = es ++ (e ∷ fs) in
-        let ends : List (Event Θ) = addedEnds Θ (stillOpen Θ [] all) in
+        let all : List (TreeEvent Θ) = es ++ (e ∷ fs) in
+        let ends : List (TreeEvent Θ) = addedEnds Θ (stillOpen Θ [] all) in
         let c = completed-prefix Θ all p in
         let are : eventsOf Θ (treeOf Θ (completed Θ all)) ≡ es ++ (e ∷ (fs ++ ends)) = tree-events Θ (completed Θ all) (c .0) ∙ c .1 ∙ append-assoc es (e ∷ fs) ends in
         sym (List·getD-map given (assignedOf Θ (treeOf Θ (completed Θ all))) (length es) d)

@@ -18,7 +18,7 @@ use Rattle.model.specs.Sections.{AttributeSection, TagAttribute, putTo, 
 use Rattle.model.specs.Model.{attached, keptBodies, startPieces, virtualPieces, attributePieces}
 use Rattle.model.specs.Groups as stream
 use Rattle.model.specs.Elements.{Attribute, Element, sameSpace, stays}
-use Rattle.model.specs.Groups.{placed, sectionsFrom, sectionsOf, unitBy, attributeRules, attributeUnits, isAttach, keepsSection, kept, startBodies}
+use Rattle.model.specs.Groups.{grouped, groupsFrom, groupsOf, unitBy, groupRules, attributeUnits, isAttach, keepsGroup, kept, startBodies}
 use Rattle.model.specs.Records.{Body, openAttributes, virtualStart, virtualEnd, closeBody, startBody, attributeBodies}
 use Rattle.model.specs.Dispatch.{dispatch}
 use Rattle.model.proofs.Lists.{gather-same, map-gather, gather-map}
@@ -27,27 +27,27 @@ use Rattle.model.proofs.Filling.{Agree}
 
 module _ (t : Table) where
   -- A section of the model, as the stream has it.
-  abbrev asStream : AttributeSection (dispatch t) → stream.AttributeSection
+  abbrev asStream : AttributeSection (dispatch t) → stream.AttributeGroup
   asStream c = record { space = c .first .space; members = c .first ∷ c .others }
 
-  placed-same : (cs : List (AttributeSection (dispatch t))) (a : Attribute) → placed (map asStream cs) a ≡ map asStream (putTo (dispatch t) cs a)
-  unfolding placed
+  placed-same : (cs : List (AttributeSection (dispatch t))) (a : Attribute) → grouped (map asStream cs) a ≡ map asStream (putTo (dispatch t) cs a)
+  unfolding grouped
   placed-same [] a = refl
   placed-same (c ∷ cs) a = by (sameSpace (c .first .space) (a .space)) (placed-same cs a)
     where
-      by : (b : Bool) → placed (map asStream cs) a ≡ map asStream (putTo (dispatch t) cs a)
-          → cond b (record { space = c .first .space; members = (c .first ∷ c .others) ++ (a ∷ []) } ∷ map asStream cs) (asStream c ∷ placed (map asStream cs) a)
+      by : (b : Bool) → grouped (map asStream cs) a ≡ map asStream (putTo (dispatch t) cs a)
+          → cond b (record { space = c .first .space; members = (c .first ∷ c .others) ++ (a ∷ []) } ∷ map asStream cs) (asStream c ∷ grouped (map asStream cs) a)
           ≡ map asStream (cond b (record { first = c .first; others = c .others ++ (a ∷ []) } ∷ cs) (c ∷ putTo (dispatch t) cs a))
       by true ih = refl
-      by false ih = ap (λ (x : List stream.AttributeSection). asStream c ∷ x) ih
+      by false ih = ap (λ (x : List stream.AttributeGroup). asStream c ∷ x) ih
 
-  formed-same : (cs : List (AttributeSection (dispatch t))) (l : List Attribute) → sectionsFrom (map asStream cs) l ≡ map asStream (formedFrom (dispatch t) cs l)
-  unfolding sectionsFrom
+  formed-same : (cs : List (AttributeSection (dispatch t))) (l : List Attribute) → groupsFrom (map asStream cs) l ≡ map asStream (formedFrom (dispatch t) cs l)
+  unfolding groupsFrom
   formed-same cs [] = refl
-  formed-same cs (a ∷ l) = ap (λ (x : List stream.AttributeSection). sectionsFrom x l) (placed-same cs a) ∙ formed-same (putTo (dispatch t) cs a) l
+  formed-same cs (a ∷ l) = ap (λ (x : List stream.AttributeGroup). groupsFrom x l) (placed-same cs a) ∙ formed-same (putTo (dispatch t) cs a) l
 
-  sections-same : (e : Element) → sectionsOf e ≡ map asStream (attributeSections (dispatch t) e)
-  unfolding sectionsOf
+  sections-same : (e : Element) → groupsOf e ≡ map asStream (attributeSections (dispatch t) e)
+  unfolding groupsOf
   sections-same e = formed-same [] (keep (λ (a : Attribute). not (stays e a)) (e .attributes))
 
   -- ---- attribute units
@@ -62,11 +62,11 @@ module _ (t : Table) where
   units-same : (m : ℕ) (e : Element) → map unitPieces (attributeUnits t m e) ≡ attributePieces (dispatch t) m e (attributeSections (dispatch t) e)
   unfolding attributeUnits
   units-same m e =
-      let by : stream.AttributeSection → List (AttributeUnit Body) = λ (c : stream.AttributeSection). gather (λ (r : Rule). unitBy e c (r .action) (r .schema)) (attributeRules t m c) in
-      ap (λ (cs : List stream.AttributeSection). map unitPieces (gather by cs)) (sections-same e)
+      let by : stream.AttributeGroup → List (AttributeUnit Body) = λ (c : stream.AttributeGroup). gather (λ (r : Rule). unitBy e c (r .action) (r .schema)) (groupRules t m c) in
+      ap (λ (cs : List stream.AttributeGroup). map unitPieces (gather by cs)) (sections-same e)
       ∙ map-gather unitPieces by (map asStream (attributeSections (dispatch t) e))
-      ∙ gather-map (λ (c : stream.AttributeSection). map unitPieces (by c)) asStream (attributeSections (dispatch t) e)
-      ∙ gather-same _ _ (λ (c : AttributeSection (dispatch t)). map-gather unitPieces (λ (r : Rule). unitBy e (asStream c) (r .action) (r .schema)) (attributeRules t m (asStream c)) ∙ gather-same _ _ (λ (r : Rule). unit-same e c (r .action) (r .schema)) (attributeRules t m (asStream c))) (attributeSections (dispatch t) e)
+      ∙ gather-map (λ (c : stream.AttributeGroup). map unitPieces (by c)) asStream (attributeSections (dispatch t) e)
+      ∙ gather-same _ _ (λ (c : AttributeSection (dispatch t)). map-gather unitPieces (λ (r : Rule). unitBy e (asStream c) (r .action) (r .schema)) (groupRules t m (asStream c)) ∙ gather-same _ _ (λ (r : Rule). unit-same e c (r .action) (r .schema)) (groupRules t m (asStream c))) (attributeSections (dispatch t) e)
 
   -- ---- kept attributes
   -- Whether a section is of an attribute's namespace.
@@ -129,8 +129,8 @@ module _ (t : Table) where
   formed-holds x (a ∷ l) cs (inl e) = formed-keeps x l (putTo (dispatch t) cs a) (subst (λ (y : Attribute). Holds y (putTo (dispatch t) cs a)) (sym e) (put-holds a cs))
   formed-holds x (a ∷ l) cs (inr m) = formed-holds x l (putTo (dispatch t) cs a) m
 
-  attach-same : (m : ℕ) (c : AttributeSection (dispatch t)) → keepsSection t m (asStream c) ≡ attached (dispatch t) m c
-  attach-same m c = any-same (λ (r : Rule). isAttach (r .action)) (λ (r : Rule). elim (r .action) [ Attach ↦ true | Unwrap ↦ false | Validate ↦ false ]) (λ (r : Rule). by (r .action)) (attributeRules t m (asStream c))
+  attach-same : (m : ℕ) (c : AttributeSection (dispatch t)) → keepsGroup t m (asStream c) ≡ attached (dispatch t) m c
+  attach-same m c = any-same (λ (r : Rule). isAttach (r .action)) (λ (r : Rule). elim (r .action) [ Attach ↦ true | Unwrap ↦ false | Validate ↦ false ]) (λ (r : Rule). by (r .action)) (groupRules t m (asStream c))
     where
       by : (a : Action) → isAttach a ≡ elim a [ Attach ↦ true | Unwrap ↦ false | Validate ↦ false ]
       by Attach = refl
@@ -140,14 +140,14 @@ module _ (t : Table) where
   -- Whether a section is attached, found among the sections by the attribute's namespace.
   module _ (m : ℕ) (a : Attribute) where
     abbrev among : List (AttributeSection (dispatch t)) → Bool
-    among cs = any (λ (c : stream.AttributeSection). sameSpace (c .space) (a .space) && keepsSection t m c) (map asStream cs)
+    among cs = any (λ (c : stream.AttributeGroup). sameSpace (c .space) (a .space) && keepsGroup t m c) (map asStream cs)
 
     none-further : (c : AttributeSection (dispatch t)) → isOf a c ≡ true → (cs : List (AttributeSection (dispatch t))) → All (λ d. isOf (d .first) c ≡ false) cs → among cs ≡ false
     unfolding any
     none-further c e [] h = refl
     none-further c e (d ∷ cs) h = by (isOf a d) refl (none-further c e cs (h .1))
       where
-        by : (b : Bool) → isOf a d ≡ b → among cs ≡ false → (b && keepsSection t m (asStream d) || among cs) ≡ false
+        by : (b : Bool) → isOf a d ≡ b → among cs ≡ false → (b && keepsGroup t m (asStream d) || among cs) ≡ false
         by false q ih = ih
         by true q ih =
             let here : c .first .space .bytes ≡ a .space .bytes = same-eq (c .first .space .bytes) (a .space .bytes) e in
@@ -160,8 +160,8 @@ module _ (t : Table) where
     found (c ∷ cs) p h = by (isOf a c) refl h (found cs (p .1))
       where
         by : (b : Bool) → isOf a c ≡ b → (isOf a c ≡ true) ⊎ Holds a cs → (Holds a cs → among cs ≡ elim (sectionAmong (dispatch t) cs a) [ none ↦ true | some c ↦ attached (dispatch t) m c ])
-            → (b && keepsSection t m (asStream c) || among cs) ≡ elim (cond b (some c) (sectionAmong (dispatch t) cs a)) [ none ↦ true | some c ↦ attached (dispatch t) m c ]
-        by true e h ih = ap (λ (x : Bool). keepsSection t m (asStream c) || x) (none-further c e cs (p .0)) ∙ or-false (keepsSection t m (asStream c)) ∙ attach-same m c
+            → (b && keepsGroup t m (asStream c) || among cs) ≡ elim (cond b (some c) (sectionAmong (dispatch t) cs a)) [ none ↦ true | some c ↦ attached (dispatch t) m c ]
+        by true e h ih = ap (λ (x : Bool). keepsGroup t m (asStream c) || x) (none-further c e cs (p .0)) ∙ or-false (keepsGroup t m (asStream c)) ∙ attach-same m c
         by false e (inl q) ih = absurd (differ (sym q ∙ e))
         by false e (inr k) ih = ih k
 
@@ -170,13 +170,13 @@ module _ (t : Table) where
   unfolding kept
   kept-same m e a i = by (stays e a) refl
     where
-      by : (b : Bool) → stays e a ≡ b → cond (b || any (λ (c : stream.AttributeSection). sameSpace (c .space) (a .space) && keepsSection t m c) (sectionsOf e)) (attributeBodies a) [] ≡ keptBodies (dispatch t) m (record { attribute = a; section = cond b none (sectionAmong (dispatch t) (attributeSections (dispatch t) e) a) })
+      by : (b : Bool) → stays e a ≡ b → cond (b || any (λ (c : stream.AttributeGroup). sameSpace (c .space) (a .space) && keepsGroup t m c) (groupsOf e)) (attributeBodies a) [] ≡ keptBodies (dispatch t) m (record { attribute = a; section = cond b none (sectionAmong (dispatch t) (attributeSections (dispatch t) e) a) })
       by true q = refl
       by false q =
           let others = keep (λ (x : Attribute). not (stays e x)) (e .attributes) in
           let here : In a others = in-kept (λ (x : Attribute). not (stays e x)) a (e .attributes) i (ap not q) in
           ap (λ (x : Bool). cond x (attributeBodies a) [])
-          (ap (any (λ (c : stream.AttributeSection). sameSpace (c .space) (a .space) && keepsSection t m c)) (sections-same e) ∙ found m a (attributeSections (dispatch t) e) (apart-formed others [] tt) (formed-holds a others [] here))
+          (ap (any (λ (c : stream.AttributeGroup). sameSpace (c .space) (a .space) && keepsGroup t m c)) (sections-same e) ∙ found m a (attributeSections (dispatch t) e) (apart-formed others [] tt) (formed-holds a others [] here))
 
   starts-same : (m : ℕ) (e : Element) → map holds (startBodies t m e) ≡ startPieces (dispatch t) m e (tagAttributes (dispatch t) e)
   unfolding startBodies keep gather

@@ -9,11 +9,11 @@ use native.Mathlib.Omega.{arith}
 use Rattle.laws.specs.Gather.{gather, total}
 use Rattle.model.specs.Theory.{Action, Attach, Unwrap, Validate, Rule, holds, Theory, taken}
 use Rattle.model.specs.Sections.{Tags, Content, empty, ownText, ownElement, slot}
-use Rattle.model.specs.Model.{Marked, WholeUnit, startPieces, startOf, endOf, filling, unitOf, Strand, at, along, enter, attributesOf, assign, OneKeeps}
+use Rattle.model.specs.Model.{Marked, WholeUnit, startPieces, startOf, endOf, filling, unitOf, Strand, assignedAt, along, enter, attributesOf, assign, OneKeeps}
 use Rattle.model.proofs.Lists.{All, all-append, all-weaken, OneAt, one-none, one-weaken, one-gather}
 use Rattle.model.proofs.Events.{atEvent, bracket-inside}
 use Rattle.model.proofs.Divide.{Divided, divided-up}
-use Rattle.model.proofs.Slots.{keeps, none-keeps, slotFilling, filling-within, kept-filling, text-behind, own-here, own-behind, slot-here, slot-behind, one-of}
+use Rattle.model.proofs.Slots.{keeps, none-keeps, slotFilled, filling-within, kept-filling, text-behind, own-here, own-behind, slot-here, slot-behind, one-of}
 use Rattle.model.proofs.Keys.{eventOf}
 use Rattle.model.proofs.Shown.{Shown, Other, ForTarget, Nothing, Elsewhere, shown-by-strand, attributes-keyed, Made, made-target, made, along-made}
 
@@ -37,15 +37,15 @@ module _ (Θ : Theory) where
     other-attributes e ss n = attributes-keyed Θ (λ l. ¬ (u .key ≡ l)) e (λ cs j p. n (ap eventOf p)) ss
 
     -- The strands of a slot's section.
-    slot-carried : (e : Tags Θ) (inner : Content Θ) → Divided Θ (Θ .keep (e .start)) (suc (e .startAt)) (e .endAt) inner → ¬ (eventOf (u .key) ≡ e .startAt) → (s : Strand (Θ .Body)) → s .target ≡ some u → (j : ℕ) (qs : List Rule) → OneKeeps qs
-        → ((k : ℕ) → e .startAt ≤ k → k ≤ e .endAt → atEvent k (u .pieces) ≡ atEvent k (gather (λ q. slotFilling Θ e inner (q .action) (q .next)) qs))
+    slot-carried : (e : Tags Θ) (inner : Content Θ) → Divided Θ (Θ .keptOf (e .start)) (suc (e .startAt)) (e .endAt) inner → ¬ (eventOf (u .key) ≡ e .startAt) → (s : Strand (Θ .Body)) → s .target ≡ some u → (j : ℕ) (qs : List Rule) → OneKeeps qs
+        → ((k : ℕ) → e .startAt ≤ k → k ≤ e .endAt → atEvent k (u .pieces) ≡ atEvent k (gather (λ q. slotFilled Θ e inner (q .action) (q .next)) qs))
         → OneAt NotFor (Holder inner (suc (e .startAt)) (e .endAt)) (Nothing u (e .startAt) (suc (e .endAt))) (along Θ e inner s j qs)
     unfolding gather total
     slot-carried e inner d n s t j [] one h = λ k a b. h k a (omega arith)
     slot-carried e inner d n s t j (q ∷ qs) one h = go (q .action) one h (slot-carried e inner d n s t (suc j) qs)
       where
         others : List (Marked (Θ .Body))
-        others = gather (λ p. slotFilling Θ e inner (p .action) (p .next)) qs
+        others = gather (λ p. slotFilled Θ e inner (p .action) (p .next)) qs
 
         Has : List (Marked (Θ .Body)) → Type 0
         Has xs = (k : ℕ) → e .startAt ≤ k → k ≤ e .endAt → atEvent k (u .pieces) ≡ atEvent k xs
@@ -63,7 +63,7 @@ module _ (Θ : Theory) where
         Rest : Type 0
         Rest = OneAt NotFor (Holder inner (suc (e .startAt)) (e .endAt)) (Nothing u (e .startAt) (suc (e .endAt))) (along Θ e inner s (suc j) qs)
 
-        go : (a : Action) → keeps a + total (λ p. keeps (p .action)) qs ≤ 1 → Has (slotFilling Θ e inner a (q .next) ++ others) → (OneKeeps qs → Has others → Rest)
+        go : (a : Action) → keeps a + total (λ p. keeps (p .action)) qs ≤ 1 → Has (slotFilled Θ e inner a (q .next) ++ others) → (OneKeeps qs → Has others → Rest)
             → (NotFor (made Θ e inner s j a q) × Rest) ⊎ (Holder inner (suc (e .startAt)) (e .endAt) (made Θ e inner s j a q) × All NotFor (along Θ e inner s (suc j) qs))
         go Validate one h ih = inl (new j q Validate refl, ih (omega arith) h)
         go Unwrap one h ih =
@@ -76,10 +76,10 @@ module _ (Θ : Theory) where
               record {
                 target = t;
                 own = true;
-                has = λ k a b. alone (slotFilling Θ e inner Attach (q .next)) v h k (omega arith) (omega arith)
+                has = λ k a b. alone (slotFilled Θ e inner Attach (q .next)) v h k (omega arith) (omega arith)
                     ∙ ap (atEvent k) (append-assoc (startOf Θ e (q .next)) f (endOf Θ e))
-                    ∙ bracket-inside true (e .startAt) (e .endAt) (startPieces Θ (q .next) (e .start) (e .attributes)) f (holds (Θ .endBody (Θ .keep (e .start)) (e .end)) ∷ [])
-                    (divided-up Θ inner (Θ .keep (e .start)) (suc (e .startAt)) (e .endAt) d) (filling-within Θ inner (Θ .keep (e .start)) (suc (e .startAt)) (e .endAt) d true (q .next)) k a b;
+                    ∙ bracket-inside true (e .startAt) (e .endAt) (startPieces Θ (q .next) (e .start) (e .attributes)) f (holds (Θ .endBody (Θ .keptOf (e .start)) (e .end)) ∷ [])
+                    (divided-up Θ inner (Θ .keptOf (e .start)) (suc (e .startAt)) (e .endAt) d) (filling-within Θ inner (Θ .keptOf (e .start)) (suc (e .startAt)) (e .endAt) d true (q .next)) k a b;
               },
               validated (suc j) qs v,
             )
@@ -88,7 +88,7 @@ module _ (Θ : Theory) where
       enter-carried : (e : Tags Θ) (inner rest : Content Θ) (κ : Θ .Kept) (i n : ℕ) → Divided Θ κ i n (slot e inner rest) → Elsewhere u i n → (ss : List (Strand (Θ .Body))) → Carried (slot e inner rest) i n ss
           → OneAt NotFor (Holder inner (suc (e .startAt)) (e .endAt)) (Nothing u (e .startAt) (suc (e .endAt))) (enter Θ e inner ss)
       enter-carried e inner rest κ i n d away ss o =
-          let l = divided-up Θ inner (Θ .keep (e .start)) (suc (e .startAt)) (e .endAt) (d .2) in
+          let l = divided-up Θ inner (Θ .keptOf (e .start)) (suc (e .startAt)) (e .endAt) (d .2) in
           let up = divided-up Θ rest κ (suc (e .endAt)) n (d .3) in
           let apart : ¬ (eventOf (u .key) ≡ e .startAt) = away (e .startAt) (omega (arith, d .0)) (omega (arith, l, up)) in
           one-gather NotFor (Holder (slot e inner rest) i n) (Nothing u i n) NotFor (Holder inner (suc (e .startAt)) (e .endAt)) (Nothing u (e .startAt) (suc (e .endAt))) (λ s. along Θ e inner s 0 (taken Θ (s .mode) (e .start)))
@@ -98,7 +98,7 @@ module _ (Θ : Theory) where
           (λ z k a b. z k (omega (arith, d .0)) (omega (arith, up))) ss o
 
       -- An event of the content at which the unit does not open.
-      held-at : (c : Content Θ) (i n j m k : ℕ) (us : List (WholeUnit (Θ .Body))) (ss : List (Strand (Θ .Body))) → OneAt NotFor (Holder c i n) (Nothing u j m) ss → j ≤ k → k < m → All (Other u) us → Shown u (at k us ss)
+      held-at : (c : Content Θ) (i n j m k : ℕ) (us : List (WholeUnit (Θ .Body))) (ss : List (Strand (Θ .Body))) → OneAt NotFor (Holder c i n) (Nothing u j m) ss → j ≤ k → k < m → All (Other u) us → Shown u (assignedAt k us ss)
       held-at c i n j m k us ss o a b h = shown-by-strand u k us ss h (one-weaken NotFor (Holder c i n) (λ s. s .target ≡ some u) (Nothing u j m) (atEvent k (u .pieces) ≡ []) (λ s x. x .target) (λ z. z k a b) ss o)
 
       pub carried-shown : (c : Content Θ) (κ : Θ .Kept) (i n : ℕ) → Divided Θ κ i n c → Elsewhere u i n → (ss : List (Strand (Θ .Body))) → Carried c i n ss → All (Shown u) (assign Θ c ss)
@@ -112,19 +112,19 @@ module _ (Θ : Theory) where
                 (λ z x a b. z x (omega (arith, d .0)) b) ss o),
           )
       carried-shown (ownElement e inner rest) κ i n d away ss o =
-          let l = divided-up Θ inner (Θ .keep (e .start)) (suc (e .startAt)) (e .endAt) (d .2) in
+          let l = divided-up Θ inner (Θ .keptOf (e .start)) (suc (e .startAt)) (e .endAt) (d .2) in
           let up = divided-up Θ rest κ (suc (e .endAt)) n (d .3) in
           let c : Content Θ = ownElement e inner rest in (
             held-at c i n i n (e .startAt) (attributesOf Θ e ss) ss o (omega (arith, d .0)) (omega (arith, l, up)) (other-attributes e ss (away (e .startAt) (omega (arith, d .0)) (omega (arith, l, up)))),
-            all-append (Shown u) (assign Θ inner ss) (at (e .endAt) [] ss ∷ assign Θ rest ss)
-                (carried-shown inner (Θ .keep (e .start)) (suc (e .startAt)) (e .endAt) (d .2) (λ x a b. away x (omega (arith, d .0)) (omega (arith, up))) ss
+            all-append (Shown u) (assign Θ inner ss) (assignedAt (e .endAt) [] ss ∷ assign Θ rest ss)
+                (carried-shown inner (Θ .keptOf (e .start)) (suc (e .startAt)) (e .endAt) (d .2) (λ x a b. away x (omega (arith, d .0)) (omega (arith, up))) ss
                 (one-weaken NotFor (Holder c i n) (Holder inner (suc (e .startAt)) (e .endAt)) (Nothing u i n) (Nothing u (suc (e .startAt)) (e .endAt))
                 (λ s h. record {
                   target = h .target;
                   own = h .own;
                   has = λ x a b. h .has x (omega (arith, d .0)) (omega (arith, up)) ∙ own-here Θ e inner rest κ i n (h .own) (s .mode) d x (omega arith)
-                      ∙ bracket-inside (h .own) (e .startAt) (e .endAt) (startPieces Θ (s .mode) (e .start) (e .attributes)) (filling Θ inner (h .own) (s .mode)) (holds (Θ .endBody (Θ .keep (e .start)) (e .end)) ∷ []) l
-                      (filling-within Θ inner (Θ .keep (e .start)) (suc (e .startAt)) (e .endAt) (d .2) (h .own) (s .mode)) x a b;
+                      ∙ bracket-inside (h .own) (e .startAt) (e .endAt) (startPieces Θ (s .mode) (e .start) (e .attributes)) (filling Θ inner (h .own) (s .mode)) (holds (Θ .endBody (Θ .keptOf (e .start)) (e .end)) ∷ []) l
+                      (filling-within Θ inner (Θ .keptOf (e .start)) (suc (e .startAt)) (e .endAt) (d .2) (h .own) (s .mode)) x a b;
                 })
                 (λ z x a b. z x (omega (arith, d .0)) (omega (arith, up))) ss o)) (
                   held-at c i n i n (e .endAt) [] ss o (omega (arith, d .0, l)) (omega (arith, up)) tt,
@@ -135,13 +135,13 @@ module _ (Θ : Theory) where
                 ),
           )
       carried-shown (slot e inner rest) κ i n d away ss o =
-          let l = divided-up Θ inner (Θ .keep (e .start)) (suc (e .startAt)) (e .endAt) (d .2) in
+          let l = divided-up Θ inner (Θ .keptOf (e .start)) (suc (e .startAt)) (e .endAt) (d .2) in
           let up = divided-up Θ rest κ (suc (e .endAt)) n (d .3) in
           let new : List (Strand (Θ .Body)) = enter Θ e inner ss in
           let p : OneAt NotFor (Holder inner (suc (e .startAt)) (e .endAt)) (Nothing u (e .startAt) (suc (e .endAt))) new = enter-carried e inner rest κ i n d away ss o in (
             held-at inner (suc (e .startAt)) (e .endAt) (e .startAt) (suc (e .endAt)) (e .startAt) (attributesOf Θ e new) new p (omega arith) (omega (arith, l)) (other-attributes e new (away (e .startAt) (omega (arith, d .0)) (omega (arith, l, up)))),
-            all-append (Shown u) (assign Θ inner new) (at (e .endAt) [] new ∷ assign Θ rest ss)
-                (carried-shown inner (Θ .keep (e .start)) (suc (e .startAt)) (e .endAt) (d .2) (λ x a b. away x (omega (arith, d .0)) (omega (arith, up))) new
+            all-append (Shown u) (assign Θ inner new) (assignedAt (e .endAt) [] new ∷ assign Θ rest ss)
+                (carried-shown inner (Θ .keptOf (e .start)) (suc (e .startAt)) (e .endAt) (d .2) (λ x a b. away x (omega (arith, d .0)) (omega (arith, up))) new
                 (one-weaken NotFor (Holder inner (suc (e .startAt)) (e .endAt)) (Holder inner (suc (e .startAt)) (e .endAt)) (Nothing u (e .startAt) (suc (e .endAt))) (Nothing u (suc (e .startAt)) (e .endAt)) (λ s h. h) (λ z x a b. z x (omega arith) (omega arith)) new p)) (
                   held-at inner (suc (e .startAt)) (e .endAt) (e .startAt) (suc (e .endAt)) (e .endAt) [] new p (omega (arith, l)) (omega arith) tt,
                   carried-shown rest κ (suc (e .endAt)) n (d .3) (λ x a b. away x (omega (arith, d .0, l)) b) ss

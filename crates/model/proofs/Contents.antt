@@ -11,10 +11,10 @@ use Rattle.laws.specs.Lists.{tabulate}
 use Rattle.laws.specs.Gather.{gather}
 use Rattle.laws.proofs.Members.{all-by}
 use Rattle.model.specs.Theory.{Record, Theory}
-use Rattle.model.specs.Tree.{Tree, events}
+use Rattle.model.specs.Tree.{Tree, treeEvents}
 use Rattle.model.specs.Sections.{size}
-use Rattle.model.specs.Model.{Key, Marked, WholeUnit, Assigned, ofEvent, recordsAt, opened, numberIn, assigned, cells}
-use Rattle.model.specs.Units.{ofUnit, piecesAt, OpensOnce, UnitOf, numberOf}
+use Rattle.model.specs.Model.{Key, Marked, WholeUnit, Assigned, ofEvent, recordsAt, unitsOpened, numberIn, assigned, cells}
+use Rattle.model.specs.Units.{ofUnit, piecesAt, OpensOnce, UnitOf, unitNumber}
 use Rattle.model.proofs.Lists.{In, gather-same-on, gather-map, All, all-append, all-gather, Distinct, map-same-on, consecutive-tabulate}
 use Rattle.model.proofs.Events.{atEvent}
 use Rattle.model.proofs.Order.{event-by-event}
@@ -57,11 +57,11 @@ module _ (Θ : Theory) where
       ∙ unit-in-turn t u w
 
   -- The records of its number are those of its key.
-  pub unit-numbered : (t : Tree Θ) (u : WholeUnit (Θ .Body)) → Whole Θ t u → (ps : List (Record (Θ .Body) Key)) → ofUnit (eqb (numberOf Θ t u)) (map (renamed (numberIn (opened (gather (λ x. x) (cells Θ t))))) ps) ≡ ofKey (u .key) ps
+  pub unit-numbered : (t : Tree Θ) (u : WholeUnit (Θ .Body)) → Whole Θ t u → (ps : List (Record (Θ .Body) Key)) → ofUnit (eqb (unitNumber Θ t u)) (map (renamed (numberIn (unitsOpened (gather (λ x. x) (cells Θ t))))) ps) ≡ ofKey (u .key) ps
   unit-numbered t u w = numbered (cells Θ t) (u .key) (subst OpensOnce (sym (unit-keyed t u w)) (w .spans .opensOnce))
 
   -- Event by event.
-  pub unit-cells : (t : Tree Θ) (u : WholeUnit (Θ .Body)) → Whole Θ t u → map (ofKey (u .key)) (cells Θ t) ≡ tabulate (piecesAt u) 0 (length (events Θ t))
+  pub unit-cells : (t : Tree Θ) (u : WholeUnit (Θ .Body)) → Whole Θ t u → map (ofKey (u .key)) (cells Θ t) ≡ tabulate (piecesAt u) 0 (length (treeEvents Θ t))
   unfolding cells
   unit-cells t u w =
       let xs : List (Assigned (Θ .Body)) = assigned Θ t in
@@ -71,7 +71,7 @@ module _ (Θ : Theory) where
       ∙ ap (tabulate (piecesAt u) 0) (sym (length-map xs recordsAt) ∙ cells-length Θ t)
 
   -- No key is opened twice.
-  pub opens-distinct : (t : Tree Θ) → ((u : WholeUnit (Θ .Body)) → UnitOf Θ t u → Whole Θ t u) → Distinct (opened (gather (λ x. x) (cells Θ t)))
+  pub opens-distinct : (t : Tree Θ) → ((u : WholeUnit (Θ .Body)) → UnitOf Θ t u → Whole Θ t u) → Distinct (unitsOpened (gather (λ x. x) (cells Θ t)))
   unfolding cells
   opens-distinct t whole =
       let rs : List (Record (Θ .Body) Key) = gather (λ x. x) (cells Θ t) in

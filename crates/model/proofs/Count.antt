@@ -9,12 +9,12 @@ use lib.ListN.{length, length-append, length-map}
 use Rattle.laws.specs.Gather.{gather, total}
 use Rattle.laws.proofs.Gather.{total-append}
 use Rattle.model.specs.Theory.{AttributeUnit, Piece, opens, holds, Record, Theory}
-use Rattle.model.specs.Tree.{Event, start, text, end}
-use Rattle.model.specs.Stream.{Level, State, Entry, enter, unitsOf, entered, newUnits, startRecords, textRecords, endRecords, written, after, Strand, receiver, give, attributesFrom, opening, closing}
+use Rattle.model.specs.Tree.{TreeEvent, start, text, end}
+use Rattle.model.specs.Stream.{Level, State, Entry, entriesAt, unitsOf, entered, newUnits, startRecords, textRecords, endRecords, written, after, HeldStrand, receiver, give, attributesFrom, opening, closing}
 use Rattle.model.proofs.Steps.{units-after}
 
 -- n records, if the strand delivers.
-abbrev pub delivered : {U : Type 0} → Strand U → ℕ → ℕ
+abbrev pub delivered : {U : Type 0} → HeldStrand U → ℕ → ℕ
 delivered s n = elim (receiver (s .action) (s .target)) [ none ↦ 0 | some u ↦ n ]
 
 -- An attribute unit: open, what stands in it, close.
@@ -23,9 +23,9 @@ attributeCount a = 2 + length (a .held)
 
 module _ (Θ : Theory) where
   -- The records of an event: of each strand's attribute units; per strand an open if new, the start and its attributes; a text; an end, and a close if the unit opened here.
-  abbrev pub countOf : State Θ → Event Θ → ℕ
+  abbrev pub countOf : State Θ → TreeEvent Θ → ℕ
   countOf z (start σ) =
-      total (λ e. total attributeCount (Θ .attributeUnits (e .strand .mode) σ)) (enter Θ (z .levels) σ)
+      total (λ e. total attributeCount (Θ .attributeUnits (e .strand .mode) σ)) (entriesAt Θ (z .levels) σ)
       + total (λ e. delivered (e .strand) (cond (e .strand .here) 1 0 + length (Θ .startBodies (e .strand .mode) σ))) (entered Θ z σ)
   countOf z (text τ) = elim (z .levels) [ [] ↦ 0 | _∷_ l ls ↦ total (λ s. delivered s 1) (l .strands) ]
   countOf z (end ε) = elim (z .levels) [ [] ↦ 0 | _∷_ l ls ↦ total (λ s. delivered s (cond (s .here) 2 1)) (l .strands) ]
@@ -58,10 +58,10 @@ module _ {B U : Type 0} where
 
 module _ (Θ : Theory) where
   -- How many records an event writes.
-  pub count-of-records : (z : State Θ) (e : Event Θ) → countOf Θ z e ≡ length (written Θ z e)
+  pub count-of-records : (z : State Θ) (e : TreeEvent Θ) → countOf Θ z e ≡ length (written Θ z e)
   unfolding written
   count-of-records z (start σ) =
-      let es = enter Θ (z .levels) σ in
+      let es = entriesAt Θ (z .levels) σ in
       let attributes : length (attributesFrom (λ n. n) (z .units) (unitsOf Θ σ es)) ≡ total (λ e. total attributeCount (Θ .attributeUnits (e .strand .mode) σ)) es =
       length-attributes (λ n. n) (z .units) (unitsOf Θ σ es) ∙ total-gathered attributeCount (λ (e : Entry). Θ .attributeUnits (e .strand .mode) σ) es in
       let starts = length-gathered (startRecords Θ σ) (λ e. delivered (e .strand) (cond (e .strand .here) 1 0 + length (Θ .startBodies (e .strand .mode) σ)))
@@ -90,7 +90,7 @@ module _ (Θ : Theory) where
 
   -- The units after a start: those before, each strand's attribute units, the strands' new units.
   pub units-counted : (z : State Θ) (σ : Θ .StartInfo)
-      → (after Θ z (start σ)) .units ≡ z .units + total (λ e. length (Θ .attributeUnits (e .strand .mode) σ)) (enter Θ (z .levels) σ) + total (λ e. cond (e .strand .here) 1 0) (enter Θ (z .levels) σ)
+      → (after Θ z (start σ)) .units ≡ z .units + total (λ e. length (Θ .attributeUnits (e .strand .mode) σ)) (entriesAt Θ (z .levels) σ) + total (λ e. cond (e .strand .here) 1 0) (entriesAt Θ (z .levels) σ)
   units-counted z σ =
       units-after Θ z σ
-      ∙ ap (λ n. z .units + n + newUnits (enter Θ (z .levels) σ)) (length-gathered (λ (e : Entry). Θ .attributeUnits (e .strand .mode) σ) (λ e. length (Θ .attributeUnits (e .strand .mode) σ)) (λ e. refl) (enter Θ (z .levels) σ))
+      ∙ ap (λ n. z .units + n + newUnits (entriesAt Θ (z .levels) σ)) (length-gathered (λ (e : Entry). Θ .attributeUnits (e .strand .mode) σ) (λ e. length (Θ .attributeUnits (e .strand .mode) σ)) (λ e. refl) (entriesAt Θ (z .levels) σ))

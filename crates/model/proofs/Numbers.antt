@@ -10,7 +10,7 @@ use borrow.Author.Tests.{eq-eqb, ne-eqb}
 use Rattle.laws.specs.Lists.{tabulate}
 use Rattle.laws.specs.Gather.{gather}
 use Rattle.model.specs.Theory.{Piece, opens, holds, Record}
-use Rattle.model.specs.Model.{Key, sameKey, opened, numberIn, list}
+use Rattle.model.specs.Model.{Key, sameKey, unitsOpened, numberIn, list}
 use Rattle.model.specs.Units.{OpensOnce, ofUnit}
 use Rattle.model.proofs.Lists.{map-gather, gather-map, Distinct}
 use Rattle.model.proofs.Simulation.{Counts, renamed, openedBy}
@@ -35,19 +35,19 @@ counted ν u [] c = refl
 counted ν u (k ∷ ks) c = rw (c .0, counted ν (suc u) ks (c .1))
 
 module _ {B : Type 0} where
-  number-in : (k : Key) (ps : List (Record B Key)) → OpensOnce (ofKey k ps) → numberIn (opened ps) k < length (opened ps)
+  number-in : (k : Key) (ps : List (Record B Key)) → OpensOnce (ofKey k ps) → numberIn (unitsOpened ps) k < length (unitsOpened ps)
   unfolding gather
   number-in k [] s = absurd s
   number-in k (p ∷ ps) s = go (p .unit) (p .piece) (sameKey k (p .unit)) refl s (number-in k ps)
     where
-      behind : (l : Key) → (OpensOnce (ofKey k ps) → numberIn (opened ps) k < length (opened ps)) → OpensOnce (ofKey k ps) → cond (sameKey l k) 0 (suc (numberIn (opened ps) k)) < suc (length (opened ps))
+      behind : (l : Key) → (OpensOnce (ofKey k ps) → numberIn (unitsOpened ps) k < length (unitsOpened ps)) → OpensOnce (ofKey k ps) → cond (sameKey l k) 0 (suc (numberIn (unitsOpened ps) k)) < suc (length (unitsOpened ps))
       behind l ih s = at (sameKey l k)
         where
-          at : (b : Bool) → cond b 0 (suc (numberIn (opened ps) k)) < suc (length (opened ps))
+          at : (b : Bool) → cond b 0 (suc (numberIn (unitsOpened ps) k)) < suc (length (unitsOpened ps))
           at true = omega arith
           at false = omega (arith, ih s)
 
-      go : (l : Key) (c : Piece B) (b : Bool) → sameKey k l ≡ b → OpensOnce (cond b (c ∷ []) [] ++ ofKey k ps) → (OpensOnce (ofKey k ps) → numberIn (opened ps) k < length (opened ps)) → numberIn (openedBy l c ++ opened ps) k < length (openedBy l c ++ opened ps)
+      go : (l : Key) (c : Piece B) (b : Bool) → sameKey k l ≡ b → OpensOnce (cond b (c ∷ []) [] ++ ofKey k ps) → (OpensOnce (ofKey k ps) → numberIn (unitsOpened ps) k < length (unitsOpened ps)) → numberIn (openedBy l c ++ unitsOpened ps) k < length (openedBy l c ++ unitsOpened ps)
       go l (opens x) true e s ih = rw (← (same-key-eq k l e), same-key-refl k) (omega arith)
       go l (holds x) true e s ih = absurd s
       go l (opens x) false e s ih = behind l ih s
@@ -62,29 +62,29 @@ module _ {B : Type 0} where
       go true e = eq-eqb (ν k) (ν (p .unit)) (ap ν (same-key-eq k (p .unit) e)) ∙ sym e
       go false e = ne-eqb (ν k) (ν (p .unit)) (λ x. true≢false (sym (same-key-refl k) ∙ ap (λ l. sameKey k l) (h (p .unit) x) ∙ e)) ∙ sym e
 
-  pub joined-list : (rs : List (List (Record B Key))) → gather (λ x. x) (list rs) ≡ map (renamed (numberIn (opened (gather (λ x. x) rs)))) (gather (λ x. x) rs)
+  pub joined-list : (rs : List (List (Record B Key))) → gather (λ x. x) (list rs) ≡ map (renamed (numberIn (unitsOpened (gather (λ x. x) rs)))) (gather (λ x. x) rs)
   joined-list rs =
-      let ν : Key → ℕ = numberIn (opened (gather (λ x. x) rs)) in
+      let ν : Key → ℕ = numberIn (unitsOpened (gather (λ x. x) rs)) in
       gather-map (λ x. x) (map (renamed ν)) rs ∙ sym (map-gather (renamed ν) (λ x. x) rs)
 
   -- The records with a unit's number are those with its key.
-  pub numbered : (rs : List (List (Record B Key))) (k : Key) → OpensOnce (ofKey k (gather (λ x. x) rs)) → (ps : List (Record B Key)) → ofUnit (eqb (numberIn (opened (gather (λ x. x) rs)) k)) (map (renamed (numberIn (opened (gather (λ x. x) rs)))) ps) ≡ ofKey k ps
+  pub numbered : (rs : List (List (Record B Key))) (k : Key) → OpensOnce (ofKey k (gather (λ x. x) rs)) → (ps : List (Record B Key)) → ofUnit (eqb (numberIn (unitsOpened (gather (λ x. x) rs)) k)) (map (renamed (numberIn (unitsOpened (gather (λ x. x) rs)))) ps) ≡ ofKey k ps
   numbered rs k b =
       let all : List (Record B Key) = gather (λ x. x) rs in
-      of-number (numberIn (opened all)) k (λ l x. number-own (opened all) k l (number-in k all b) x)
+      of-number (numberIn (unitsOpened all)) k (λ l x. number-own (unitsOpened all) k l (number-in k all b) x)
 
   -- The opens of a list in which no unit opens twice bear 0, 1, 2, ..
-  opened-renamed : (ν : Key → ℕ) (ps : List (Record B Key)) → opened (map (renamed ν) ps) ≡ map ν (opened ps)
+  opened-renamed : (ν : Key → ℕ) (ps : List (Record B Key)) → unitsOpened (map (renamed ν) ps) ≡ map ν (unitsOpened ps)
   unfolding gather
   opened-renamed ν [] = refl
   opened-renamed ν (p ∷ ps) = go (p .unit) (p .piece) (opened-renamed ν ps)
     where
-      go : (k : Key) (c : Piece B) → opened (map (renamed ν) ps) ≡ map ν (opened ps) → elim c [ opens b ↦ ν k ∷ [] | holds b ↦ [] ] ++ opened (map (renamed ν) ps) ≡ map ν (openedBy k c ++ opened ps)
+      go : (k : Key) (c : Piece B) → unitsOpened (map (renamed ν) ps) ≡ map ν (unitsOpened ps) → elim c [ opens b ↦ ν k ∷ [] | holds b ↦ [] ] ++ unitsOpened (map (renamed ν) ps) ≡ map ν (openedBy k c ++ unitsOpened ps)
       go k (opens b) e = ap (λ ns. ν k ∷ ns) e
       go k (holds b) e = e
 
-  pub opens-counted : (rs : List (List (Record B Key))) → Distinct (opened (gather (λ x. x) rs)) → opened (gather (λ x. x) (list rs)) ≡ tabulate (λ n. n) 0 (length (opened (gather (λ x. x) (list rs))))
+  pub opens-counted : (rs : List (List (Record B Key))) → Distinct (unitsOpened (gather (λ x. x) rs)) → unitsOpened (gather (λ x. x) (list rs)) ≡ tabulate (λ n. n) 0 (length (unitsOpened (gather (λ x. x) (list rs))))
   opens-counted rs d =
-      let ks : List Key = opened (gather (λ x. x) rs) in
-      let e : opened (gather (λ x. x) (list rs)) ≡ map (numberIn ks) ks = ap opened (joined-list rs) ∙ opened-renamed (numberIn ks) (gather (λ x. x) rs) in
+      let ks : List Key = unitsOpened (gather (λ x. x) rs) in
+      let e : unitsOpened (gather (λ x. x) (list rs)) ≡ map (numberIn ks) ks = ap unitsOpened (joined-list rs) ∙ opened-renamed (numberIn ks) (gather (λ x. x) rs) in
       e ∙ counted (numberIn ks) 0 ks (counts-places ks d) ∙ ap (tabulate (λ n. n) 0) (sym (ap length e ∙ length-map ks (numberIn ks)))

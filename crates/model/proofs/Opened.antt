@@ -11,9 +11,9 @@ use lib.ListN.{length, take, length-append}
 use Rattle.laws.specs.Gather.{gather, total}
 use Rattle.laws.proofs.Gather.{gather-append}
 use Rattle.model.specs.Theory.{Action, Attach, Unwrap, Validate, Rule, AttributeUnit, opens, holds, Record, Theory, taken}
-use Rattle.model.specs.Tree.{Event, start, text, end, stillOpen, completed, treeOf}
-use Rattle.model.specs.Stream.{Level, State, Entry, allot, newUnits, takeRules, enter, unitsOf, entered, startRecords, textRecords, endRecords, written, after, fresh, reached, streamFrom, streamOf, Strand, beforeRoot, stay, byRule, receiver, give, attributesFrom, opening, closing}
-use Rattle.model.specs.Model.{opened, modelOf, OneKeeps}
+use Rattle.model.specs.Tree.{TreeEvent, start, text, end, stillOpen, completed, treeOf}
+use Rattle.model.specs.Stream.{Level, State, Entry, allot, newUnits, takeRules, entriesAt, unitsOf, entered, startRecords, textRecords, endRecords, written, after, fresh, reached, streamFrom, streamOf, HeldStrand, heldBeforeRoot, stay, byRule, receiver, give, attributesFrom, opening, closing}
+use Rattle.model.specs.Model.{unitsOpened, modelOf, OneKeeps}
 use Rattle.model.proofs.Lists.{gather-nothing, gather-gather, All, all-append}
 use Rattle.model.proofs.Cut.{IsPrefix, addedEnds, completed-prefix}
 use Rattle.model.proofs.Filling.{Agree}
@@ -22,12 +22,12 @@ use Rattle.model.proofs.Theorems.{stream-within}
 module _ {B U : Type 0} where
   -- How many units records open.
   abbrev opensIn : List (Record B U) → ℕ
-  opensIn rs = length (opened rs)
+  opensIn rs = length (unitsOpened rs)
 
   opens-append : (xs ys : List (Record B U)) → opensIn (xs ++ ys) ≡ opensIn xs + opensIn ys
-  opens-append xs ys = ap length (gather-append (λ (p : Record B U). elim (p .piece) [ opens b ↦ p .unit ∷ [] | holds b ↦ [] ]) xs ys) ∙ length-append (opened xs) (opened ys)
+  opens-append xs ys = ap length (gather-append (λ (p : Record B U). elim (p .piece) [ opens b ↦ p .unit ∷ [] | holds b ↦ [] ]) xs ys) ∙ length-append (unitsOpened xs) (unitsOpened ys)
 
-  opens-held : (t : Option U) (bs : List B) → opened (give t (map holds bs)) ≡ []
+  opens-held : (t : Option U) (bs : List B) → unitsOpened (give t (map holds bs)) ≡ []
   unfolding gather
   opens-held none bs = refl
   opens-held (some u) [] = refl
@@ -58,17 +58,17 @@ module _ (Θ : Theory) where
       one Unwrap = tt
       one Validate = refl
 
-  take-opens : (σ : Θ .StartInfo) (ss : List (Strand ℕ)) → All Opens (takeRules Θ σ ss)
+  take-opens : (σ : Θ .StartInfo) (ss : List (HeldStrand ℕ)) → All Opens (takeRules Θ σ ss)
   unfolding gather
   take-opens σ [] = tt
   take-opens σ (s ∷ ss) = all-append Opens (map (λ q. record { strand = byRule (q .action) (q .next) none (s .target); schema = q .schema }) (taken Θ (s .mode) σ)) (takeRules Θ σ ss) (rule-opens (s .target) (taken Θ (s .mode) σ)) (take-opens σ ss)
 
-  stay-opens : (ss : List (Strand ℕ)) → All Opens (map (λ s. record { strand = stay s; schema = 0 }) ss)
+  stay-opens : (ss : List (HeldStrand ℕ)) → All Opens (map (λ s. record { strand = stay s; schema = 0 }) ss)
   stay-opens [] = tt
   stay-opens (s ∷ ss) = (tt, stay-opens ss)
 
-  enter-opens : (ls : List (Level Θ)) (σ : Θ .StartInfo) → All Opens (enter Θ ls σ)
-  enter-opens [] σ = take-opens σ (beforeRoot ∷ [])
+  enter-opens : (ls : List (Level Θ)) (σ : Θ .StartInfo) → All Opens (entriesAt Θ ls σ)
+  enter-opens [] σ = take-opens σ (heldBeforeRoot ∷ [])
   enter-opens (l ∷ ls) σ = go (Θ .sameSection (l .at) σ)
     where
       go : (b : Bool) → All Opens (cond b (map (λ s. record { strand = stay s; schema = 0 }) (l .strands)) (takeRules Θ σ (l .strands)))
@@ -91,24 +91,24 @@ module _ (Θ : Theory) where
           ∙ omega (arith, ap length (opens-held (some u) (Θ .startBodies m σ)), ih (suc u)))
 
   -- Texts and ends open none.
-  text-opens : (τ : Θ .TextInfo) (ss : List (Strand ℕ)) → opened (gather (textRecords Θ τ) ss) ≡ []
+  text-opens : (τ : Θ .TextInfo) (ss : List (HeldStrand ℕ)) → unitsOpened (gather (textRecords Θ τ) ss) ≡ []
   text-opens τ ss =
       gather-gather (λ (p : Record (Θ .Body) ℕ). elim (p .piece) [ opens b ↦ p .unit ∷ [] | holds b ↦ [] ]) (textRecords Θ τ) ss
-      ∙ gather-nothing (λ s. opened (textRecords Θ τ s)) (λ s. opens-held (receiver (s .action) (s .target)) (Θ .textBody τ ∷ [])) ss
+      ∙ gather-nothing (λ s. unitsOpened (textRecords Θ τ s)) (λ s. opens-held (receiver (s .action) (s .target)) (Θ .textBody τ ∷ [])) ss
 
-  end-opens : (κ : Θ .Kept) (ε : Θ .EndInfo) (ss : List (Strand ℕ)) → opened (gather (endRecords Θ κ ε) ss) ≡ []
+  end-opens : (κ : Θ .Kept) (ε : Θ .EndInfo) (ss : List (HeldStrand ℕ)) → unitsOpened (gather (endRecords Θ κ ε) ss) ≡ []
   end-opens κ ε ss =
       gather-gather (λ (p : Record (Θ .Body) ℕ). elim (p .piece) [ opens b ↦ p .unit ∷ [] | holds b ↦ [] ]) (endRecords Θ κ ε) ss
-      ∙ gather-nothing (λ s. opened (endRecords Θ κ ε s)) (λ s. go (receiver (s .action) (s .target)) (s .here)) ss
+      ∙ gather-nothing (λ s. unitsOpened (endRecords Θ κ ε s)) (λ s. go (receiver (s .action) (s .target)) (s .here)) ss
     where
-      go : (t : Option ℕ) (b : Bool) → opened (give t (holds (Θ .endBody κ ε) ∷ closing Θ b)) ≡ []
+      go : (t : Option ℕ) (b : Bool) → unitsOpened (give t (holds (Θ .endBody κ ε) ∷ closing Θ b)) ≡ []
       go t true = opens-held t (Θ .endBody κ ε ∷ Θ .closeBody ∷ [])
       go t false = opens-held t (Θ .endBody κ ε ∷ [])
 
-  units-written : (z : State Θ) (e : Event Θ) → (after Θ z e) .units ≡ z .units + opensIn (written Θ z e)
+  units-written : (z : State Θ) (e : TreeEvent Θ) → (after Θ z e) .units ≡ z .units + opensIn (written Θ z e)
   unfolding after written gather
   units-written z (start σ) =
-      let es = enter Θ (z .levels) σ in
+      let es = entriesAt Θ (z .levels) σ in
       omega (
         arith,
         opens-append (attributesFrom (λ n. n) (z .units) (unitsOf Θ σ es)) (gather (startRecords Θ σ) (entered Θ z σ)),
@@ -126,19 +126,19 @@ module _ (Θ : Theory) where
       go [] = omega arith
       go (l ∷ ls) = omega (arith, ap length (end-opens (l .at) ε (l .strands)))
 
-  units-from : (es : List (Event Θ)) (z : State Θ) → (foldl (after Θ) z es) .units ≡ z .units + opensIn (gather (λ x. x) (streamFrom Θ z es))
+  units-from : (es : List (TreeEvent Θ)) (z : State Θ) → (foldl (after Θ) z es) .units ≡ z .units + opensIn (gather (λ x. x) (streamFrom Θ z es))
   unfolding streamFrom gather
   units-from [] z = omega arith
   units-from (e ∷ es) z = omega (arith, units-from es (after Θ z e), units-written z e, opens-append (written Θ z e) (gather (λ x. x) (streamFrom Θ (after Θ z e) es)))
 
-  pub reached-units : (es : List (Event Θ)) → (reached Θ es) .units ≡ length (opened (gather (λ x. x) (streamOf Θ es)))
+  pub reached-units : (es : List (TreeEvent Θ)) → (reached Θ es) .units ≡ length (unitsOpened (gather (λ x. x) (streamOf Θ es)))
   unfolding streamOf
   reached-units es = omega (arith, units-from es (fresh Θ))
 
   module _ (one : (m : ℕ) (σ : Θ .StartInfo) → OneKeeps (Θ .rulesFor m σ)) (agree : Agree Θ) where
-    pub model-units : (es fs : List (Event Θ)) → IsPrefix Θ (es ++ fs) → length (opened (gather (λ x. x) (take (length es) (modelOf Θ (treeOf Θ (completed Θ (es ++ fs))))))) ≡ (reached Θ es) .units
+    pub model-units : (es fs : List (TreeEvent Θ)) → IsPrefix Θ (es ++ fs) → length (unitsOpened (gather (λ x. x) (take (length es) (modelOf Θ (treeOf Θ (completed Θ (es ++ fs))))))) ≡ (reached Θ es) .units
     model-units es fs p =
-        let ends : List (Event Θ) = addedEnds Θ (stillOpen Θ [] (es ++ fs)) in
+        let ends : List (TreeEvent Θ) = addedEnds Θ (stillOpen Θ [] (es ++ fs)) in
         let all : completed Θ (es ++ fs) ≡ es ++ (fs ++ ends) = append-assoc es fs ends in
         let q : IsPrefix Θ (es ++ (fs ++ ends)) = rw all at (completed-prefix Θ (es ++ fs) p .0) in
-        rw all (ap (λ l. length (opened (gather (λ x. x) l))) (sym (stream-within Θ one agree es (fs ++ ends) q)) ∙ sym (reached-units es))
+        rw all (ap (λ l. length (unitsOpened (gather (λ x. x) l))) (sym (stream-within Θ one agree es (fs ++ ends) q)) ∙ sym (reached-units es))

@@ -6,12 +6,12 @@ use Prim.Native.Nat.{ℕ}
 use Rattle.laws.specs.Gather.{gather}
 use Rattle.model.specs.Theory.{Action, Attach, Unwrap, Validate, Rule, Piece, opens, holds, Record, Theory, taken}
 use Rattle.model.specs.Sections.{Tags, Content, empty, ownText, ownElement, slot}
-use Rattle.model.specs.Model.{Key, sameKey, Marked, marked, keptBodies, startOf, textOf, endOf, filling, unitOf, opened}
+use Rattle.model.specs.Model.{Key, sameKey, Marked, marked, keptBodies, startOf, textOf, endOf, filling, unitOf, unitsOpened}
 use Rattle.model.specs.Units.{IsHeld, OpensOnce}
 use Rattle.model.proofs.Lists.{All, all-append, all-weaken, all-gather, all-map, every, Distinct}
 use Rattle.model.proofs.Simulation.{openedBy}
 use Rattle.model.proofs.Keys.{same-key-refl}
-use Rattle.model.proofs.Slots.{slotFilling}
+use Rattle.model.proofs.Slots.{slotFilled}
 use Rattle.model.proofs.Shown.{ofKey}
 
 module _ {B : Type 0} where
@@ -49,11 +49,11 @@ module _ (Θ : Theory) where
       (all-append HeldAt (starts ++ filling Θ inner own m) ends (all-append HeldAt starts (filling Θ inner own m) (held-cond own (startOf Θ e m) (held-start e m)) (filling-held inner own m)) (held-cond own (endOf Θ e) (tt, tt)))
       (filling-held rest own m)
   filling-held (slot e inner rest) own m =
-      all-append HeldAt (gather (λ q. slotFilling Θ e inner (q .action) (q .next)) (taken Θ m (e .start))) (filling Θ rest own m)
-      (all-gather HeldAt (λ q. slotFilling Θ e inner (q .action) (q .next)) (taken Θ m (e .start)) (every (λ q. go (q .next) (filling-held inner true (q .next)) (filling-held inner false (q .next)) (q .action)) (taken Θ m (e .start))))
+      all-append HeldAt (gather (λ q. slotFilled Θ e inner (q .action) (q .next)) (taken Θ m (e .start))) (filling Θ rest own m)
+      (all-gather HeldAt (λ q. slotFilled Θ e inner (q .action) (q .next)) (taken Θ m (e .start)) (every (λ q. go (q .next) (filling-held inner true (q .next)) (filling-held inner false (q .next)) (q .action)) (taken Θ m (e .start))))
       (filling-held rest own m)
     where
-      go : (next : ℕ) → All HeldAt (filling Θ inner true next) → All HeldAt (filling Θ inner false next) → (a : Action) → All HeldAt (slotFilling Θ e inner a next)
+      go : (next : ℕ) → All HeldAt (filling Θ inner true next) → All HeldAt (filling Θ inner false next) → (a : Action) → All HeldAt (slotFilled Θ e inner a next)
       go next h g Attach = all-append HeldAt (startOf Θ e next ++ filling Θ inner true next) (endOf Θ e) (all-append HeldAt (startOf Θ e next) (filling Θ inner true next) (held-start e next) h) (tt, tt)
       go next h g Unwrap = g
       go next h g Validate = tt
@@ -88,28 +88,28 @@ module _ {B : Type 0} where
   at-most-rest true (opens b) ps h = none-at-most ps h
   at-most-rest true (holds b) ps h = h
 
-  never-opened : (k : Key) (rs : List (Record B Key)) → All IsHeld (ofKey k rs) → All (λ l. ¬ (k ≡ l)) (opened rs)
+  never-opened : (k : Key) (rs : List (Record B Key)) → All IsHeld (ofKey k rs) → All (λ l. ¬ (k ≡ l)) (unitsOpened rs)
   unfolding gather
   never-opened k [] h = tt
   never-opened k (r ∷ rs) h = go (r .unit) (r .piece) (sameKey k (r .unit)) refl h (never-opened k rs)
     where
-      go : (l : Key) (p : Piece B) (b : Bool) → sameKey k l ≡ b → All IsHeld (cond b (p ∷ []) [] ++ ofKey k rs) → (All IsHeld (ofKey k rs) → All (λ l. ¬ (k ≡ l)) (opened rs)) → All (λ l. ¬ (k ≡ l)) (openedBy l p ++ opened rs)
+      go : (l : Key) (p : Piece B) (b : Bool) → sameKey k l ≡ b → All IsHeld (cond b (p ∷ []) [] ++ ofKey k rs) → (All IsHeld (ofKey k rs) → All (λ l. ¬ (k ≡ l)) (unitsOpened rs)) → All (λ l. ¬ (k ≡ l)) (openedBy l p ++ unitsOpened rs)
       go l (opens x) true e h ih = absurd (h .0)
       go l (opens x) false e h ih = (λ q. true≢false (sym (same-key-refl k) ∙ ap (sameKey k) q ∙ e), ih h)
       go l (holds x) true e h ih = ih (h .1)
       go l (holds x) false e h ih = ih h
 
-  opened-distinct : (rs : List (Record B Key)) → All (λ r. AtMostOnce (ofKey (r .unit) rs)) rs → Distinct (opened rs)
+  opened-distinct : (rs : List (Record B Key)) → All (λ r. AtMostOnce (ofKey (r .unit) rs)) rs → Distinct (unitsOpened rs)
   unfolding gather
   opened-distinct [] h = tt
   opened-distinct (r ∷ rs) h = go (r .unit) (r .piece) (h .0) (opened-distinct rs (all-weaken (λ q. AtMostOnce (ofKey (q .unit) (r ∷ rs))) (λ q. AtMostOnce (ofKey (q .unit) rs)) (λ q. at-most-rest (sameKey (q .unit) (r .unit)) (r .piece) (ofKey (q .unit) rs)) rs (h .1)))
     where
-      go : (l : Key) (p : Piece B) → AtMostOnce (cond (sameKey l l) (p ∷ []) [] ++ ofKey l rs) → Distinct (opened rs) → Distinct (openedBy l p ++ opened rs)
+      go : (l : Key) (p : Piece B) → AtMostOnce (cond (sameKey l l) (p ∷ []) [] ++ ofKey l rs) → Distinct (unitsOpened rs) → Distinct (openedBy l p ++ unitsOpened rs)
       go l (opens x) o d =
           let held : All IsHeld (ofKey l rs) = rw (same-key-refl l) at o in
           (never-opened l rs held, d)
       go l (holds x) o d = d
 
   -- Where the records of each one's key open once, no key is opened twice.
-  pub opened-once : (rs : List (Record B Key)) → All (λ r. OpensOnce (ofKey (r .unit) rs)) rs → Distinct (opened rs)
+  pub opened-once : (rs : List (Record B Key)) → All (λ r. OpensOnce (ofKey (r .unit) rs)) rs → Distinct (unitsOpened rs)
   opened-once rs h = opened-distinct rs (all-weaken (λ r. OpensOnce (ofKey (r .unit) rs)) (λ r. AtMostOnce (ofKey (r .unit) rs)) (λ r. once-at-most (ofKey (r .unit) rs)) rs h)

@@ -10,7 +10,7 @@ use Rattle.laws.proofs.Gather.{gather-append}
 use Rattle.model.specs.Theory.{Action, Attach, Unwrap, Validate, Rule, Piece, Record, Theory, taken}
 use Rattle.model.specs.Stream.{give}
 use Rattle.model.specs.Sections.{Tags, Content}
-use Rattle.model.specs.Model.{Key, attributeUnit, sameKey, WholeUnit, attributeUnitsFrom, attributePieces, unitOf, Strand, Assigned, at, along, enter, attributesOf, ofEvent, recordsAt}
+use Rattle.model.specs.Model.{Key, attributeUnit, sameKey, WholeUnit, attributeUnitsFrom, attributePieces, unitOf, Strand, Assigned, assignedAt, along, enter, attributesOf, ofEvent, recordsAt}
 use Rattle.model.specs.Units.{ofUnit}
 use Rattle.model.proofs.Lists.{gather-nothing-on, gather-gather, All, all-weaken, all-gather, every, OneAt, one-none, one-gathers}
 use Rattle.model.proofs.Events.{atEvent, of-event}
@@ -68,7 +68,7 @@ module _ {B : Type 0} where
     other-target none h = refl
     other-target (some v) h = other-event v (h v refl)
 
-    shared : (us : List (WholeUnit B)) (ss : List (Strand B)) → ofKey (u .key) (recordsAt (at k us ss)) ≡ gather (λ v. ofKey (u .key) (ofEvent k v)) us ++ gather (λ s. targets (s .target)) ss
+    shared : (us : List (WholeUnit B)) (ss : List (Strand B)) → ofKey (u .key) (recordsAt (assignedAt k us ss)) ≡ gather (λ v. ofKey (u .key) (ofEvent k v)) us ++ gather (λ s. targets (s .target)) ss
     shared us ss =
         gather-append (λ (p : Record B Key). cond (sameKey (u .key) (p .unit)) (p .piece ∷ []) []) (gather (ofEvent k) us) (gather (λ s. elim (s .target) [ none ↦ [] | some v ↦ ofEvent k v ]) ss)
         ∙ ap₂ (λ a b. a ++ b) (of-gather (u .key) (ofEvent k) us) (of-gather (u .key) (λ (s : Strand B). elim (s .target) [ none ↦ [] | some v ↦ ofEvent k v ]) ss)
@@ -79,17 +79,17 @@ module _ {B : Type 0} where
     no-strand : (ss : List (Strand B)) → All (ForTarget (Other u)) ss → gather (λ s. targets (s .target)) ss ≡ []
     no-strand ss h = gather-nothing-on (λ s. targets (s .target)) ss (all-weaken (ForTarget (Other u)) (λ s. targets (s .target) ≡ []) (λ s. other-target (s .target)) ss h)
 
-    pub shown-by-strand : (us : List (WholeUnit B)) (ss : List (Strand B)) → All (Other u) us → OneAt (ForTarget (Other u)) (λ s. s .target ≡ some u) (atEvent k (u .pieces) ≡ []) ss → Shown u (at k us ss)
+    pub shown-by-strand : (us : List (WholeUnit B)) (ss : List (Strand B)) → All (Other u) us → OneAt (ForTarget (Other u)) (λ s. s .target ≡ some u) (atEvent k (u .pieces) ≡ []) ss → Shown u (assignedAt k us ss)
     shown-by-strand us ss h o = shared us ss ∙ ap₂ (λ a b. a ++ b) (no-attribute us h)
         (one-gathers (ForTarget (Other u)) (λ s. s .target ≡ some u) (atEvent k (u .pieces) ≡ []) (λ s. targets (s .target)) (atEvent k (u .pieces)) (λ s. other-target (s .target)) (λ s p. ap targets p ∙ own-event) (λ z. z) ss o)
 
-    pub shown-by-attribute : (us : List (WholeUnit B)) (ss : List (Strand B)) → OneAt (Other u) (λ v. u ≡ v) (atEvent k (u .pieces) ≡ []) us → All (ForTarget (Other u)) ss → Shown u (at k us ss)
+    pub shown-by-attribute : (us : List (WholeUnit B)) (ss : List (Strand B)) → OneAt (Other u) (λ v. u ≡ v) (atEvent k (u .pieces) ≡ []) us → All (ForTarget (Other u)) ss → Shown u (assignedAt k us ss)
     shown-by-attribute us ss o h = shared us ss ∙ ap₂ (λ a b. a ++ b)
         (one-gathers (Other u) (λ v. u ≡ v) (atEvent k (u .pieces) ≡ []) (λ v. ofKey (u .key) (ofEvent k v)) (atEvent k (u .pieces)) other-event (λ v p. ap (λ w. ofKey (u .key) (ofEvent k w)) (sym p) ∙ own-event) (λ z. z) us o)
         (no-strand ss h)
         ∙ append-nil (atEvent k (u .pieces))
 
-    pub shown-nowhere : (us : List (WholeUnit B)) (ss : List (Strand B)) → All (Other u) us → All (ForTarget (Other u)) ss → atEvent k (u .pieces) ≡ [] → Shown u (at k us ss)
+    pub shown-nowhere : (us : List (WholeUnit B)) (ss : List (Strand B)) → All (Other u) us → All (ForTarget (Other u)) ss → atEvent k (u .pieces) ≡ [] → Shown u (assignedAt k us ss)
     shown-nowhere us ss h g z = shown-by-strand us ss h (one-none (ForTarget (Other u)) (λ s. s .target ≡ some u) (atEvent k (u .pieces) ≡ []) ss g z)
 
   attributes-at : (P : Key → Type 0) (i : ℕ) (cs : List ℕ) → ((j : ℕ) → P (attributeUnit i cs j)) → (j : ℕ) (xs : List (List (Piece B))) → All (λ v. P (v .key)) (attributeUnitsFrom i cs j xs)

@@ -11,27 +11,27 @@ use Rattle.laws.specs.Gather.{gather, total}
 use Rattle.laws.proofs.Gather.{total-append}
 use Rattle.table.specs.Table.{orElse}
 use Rattle.model.specs.Theory.{Action, Attach, Unwrap, Validate, Rule, Theory, taken}
-use Rattle.model.specs.Tree.{Event, start, text, end, stillOpen}
-use Rattle.model.specs.Stream.{Level, State, Entry, allot, newUnits, takeRules, enter, unitsOf, textRecords, endRecords, written, after, fresh, reached, streamFrom, streamOf, Strand, beforeRoot, stay, byRule}
+use Rattle.model.specs.Tree.{TreeEvent, start, text, end, stillOpen}
+use Rattle.model.specs.Stream.{Level, State, Entry, allot, newUnits, takeRules, entriesAt, unitsOf, textRecords, endRecords, written, after, fresh, reached, streamFrom, streamOf, HeldStrand, heldBeforeRoot, stay, byRule}
 use Rattle.model.proofs.Lists.{All, all-append, all-weaken}
 use Rattle.model.proofs.Cut.{Follows, IsPrefix}
 
 module _ (Θ : Theory) where
   -- One event more.
-  pub reached-step : (es : List (Event Θ)) (e : Event Θ) → reached Θ (es ++ (e ∷ [])) ≡ after Θ (reached Θ es) e
+  pub reached-step : (es : List (TreeEvent Θ)) (e : TreeEvent Θ) → reached Θ (es ++ (e ∷ [])) ≡ after Θ (reached Θ es) e
   reached-step es e = foldl-append (after Θ) (fresh Θ) es (e ∷ [])
 
-  stream-next : (z : State Θ) (es : List (Event Θ)) (e : Event Θ) → streamFrom Θ z (es ++ (e ∷ [])) ≡ streamFrom Θ z es ++ (written Θ (foldl (after Θ) z es) e ∷ [])
+  stream-next : (z : State Θ) (es : List (TreeEvent Θ)) (e : TreeEvent Θ) → streamFrom Θ z (es ++ (e ∷ [])) ≡ streamFrom Θ z es ++ (written Θ (foldl (after Θ) z es) e ∷ [])
   unfolding streamFrom
   stream-next z [] e = refl
   stream-next z (x ∷ es) e = rw (stream-next (after Θ z x) es e)
 
-  pub stream-step : (es : List (Event Θ)) (e : Event Θ) → streamOf Θ (es ++ (e ∷ [])) ≡ streamOf Θ es ++ (written Θ (reached Θ es) e ∷ [])
+  pub stream-step : (es : List (TreeEvent Θ)) (e : TreeEvent Θ) → streamOf Θ (es ++ (e ∷ [])) ≡ streamOf Θ es ++ (written Θ (reached Θ es) e ∷ [])
   unfolding streamOf streamFrom
   stream-step es e = stream-next (fresh Θ) es e
 
   -- The levels are the elements still open.
-  levels-from : (z : State Θ) (es : List (Event Θ)) → map (λ l. l .at) ((foldl (after Θ) z es) .levels) ≡ stillOpen Θ (map (λ l. l .at) (z .levels)) es
+  levels-from : (z : State Θ) (es : List (TreeEvent Θ)) → map (λ l. l .at) ((foldl (after Θ) z es) .levels) ≡ stillOpen Θ (map (λ l. l .at) (z .levels)) es
   unfolding after
   levels-from z [] = refl
   levels-from z (start σ ∷ es) = levels-from (after Θ z (start σ)) es
@@ -42,11 +42,11 @@ module _ (Θ : Theory) where
       popped [] = refl
       popped (l ∷ ls) = refl
 
-  pub levels-open : (es : List (Event Θ)) → map (λ l. l .at) ((reached Θ es) .levels) ≡ stillOpen Θ [] es
+  pub levels-open : (es : List (TreeEvent Θ)) → map (λ l. l .at) ((reached Θ es) .levels) ≡ stillOpen Θ [] es
   levels-open es = levels-from (fresh Θ) es
 
   -- The units: those opened before, a start's attribute units, its new units.
-  pub units-after : (z : State Θ) (σ : Θ .StartInfo) → (after Θ z (start σ)) .units ≡ z .units + length (unitsOf Θ σ (enter Θ (z .levels) σ)) + newUnits (enter Θ (z .levels) σ)
+  pub units-after : (z : State Θ) (σ : Θ .StartInfo) → (after Θ z (start σ)) .units ≡ z .units + length (unitsOf Θ σ (entriesAt Θ (z .levels) σ)) + newUnits (entriesAt Θ (z .levels) σ)
   unfolding after
   units-after z σ = refl
 
@@ -64,32 +64,32 @@ module _ (Θ : Theory) where
   after-end z l ls ε e = rw e
 
   -- What may come next: the root's start first, and then anything while an element is open.
-  abbrev pub MayFollow : List (Event Θ) → List (Θ .Kept) → Event Θ → Type 0
+  abbrev pub MayFollow : List (TreeEvent Θ) → List (Θ .Kept) → TreeEvent Θ → Type 0
   MayFollow [] around (start σ) = Unit {0}
   MayFollow [] around (text τ) = ⊥
   MayFollow [] around (end ε) = ⊥
   MayFollow (x ∷ es) [] e = ⊥
   MayFollow (x ∷ es) (κ ∷ around) e = Unit {0}
 
-  follows-next : (around : List (Θ .Kept)) (es : List (Event Θ)) (e : Event Θ) (κ : Θ .Kept) (open′ : List (Θ .Kept)) → Follows Θ around es → stillOpen Θ around es ≡ κ ∷ open′ → Follows Θ around (es ++ (e ∷ []))
+  follows-next : (around : List (Θ .Kept)) (es : List (TreeEvent Θ)) (e : TreeEvent Θ) (κ : Θ .Kept) (open′ : List (Θ .Kept)) → Follows Θ around es → stillOpen Θ around es ≡ κ ∷ open′ → Follows Θ around (es ++ (e ∷ []))
   follows-next [] [] e κ open′ f p = let z : _≡_ {A = ℕ} 0 1 = cc in absurd (omega arith)
   follows-next (α ∷ around) [] (start σ) κ open′ f p = tt
   follows-next (α ∷ around) [] (text τ) κ open′ f p = tt
   follows-next (α ∷ around) [] (end ε) κ open′ f p = tt
   follows-next [] (x ∷ es) e κ open′ f p = absurd f
-  follows-next (α ∷ around) (start σ ∷ es) e κ open′ f p = follows-next (Θ .keep σ ∷ α ∷ around) es e κ open′ f p
+  follows-next (α ∷ around) (start σ ∷ es) e κ open′ f p = follows-next (Θ .keptOf σ ∷ α ∷ around) es e κ open′ f p
   follows-next (α ∷ around) (text τ ∷ es) e κ open′ f p = follows-next (α ∷ around) es e κ open′ f p
   follows-next (α ∷ around) (end ε ∷ es) e κ open′ f p = follows-next around es e κ open′ f p
 
-  pub prefix-step : (es : List (Event Θ)) (e : Event Θ) → IsPrefix Θ es → MayFollow es (stillOpen Θ [] es) e → IsPrefix Θ (es ++ (e ∷ []))
+  pub prefix-step : (es : List (TreeEvent Θ)) (e : TreeEvent Θ) → IsPrefix Θ es → MayFollow es (stillOpen Θ [] es) e → IsPrefix Θ (es ++ (e ∷ []))
   prefix-step [] (start σ) p m = tt
   prefix-step [] (text τ) p m = absurd m
   prefix-step [] (end ε) p m = absurd m
-  prefix-step (start σ ∷ es) e p m = go (stillOpen Θ (Θ .keep σ ∷ []) es) refl m
+  prefix-step (start σ ∷ es) e p m = go (stillOpen Θ (Θ .keptOf σ ∷ []) es) refl m
     where
-      go : (around : List (Θ .Kept)) → stillOpen Θ (Θ .keep σ ∷ []) es ≡ around → MayFollow (start σ ∷ es) around e → Follows Θ (Θ .keep σ ∷ []) (es ++ (e ∷ []))
+      go : (around : List (Θ .Kept)) → stillOpen Θ (Θ .keptOf σ ∷ []) es ≡ around → MayFollow (start σ ∷ es) around e → Follows Θ (Θ .keptOf σ ∷ []) (es ++ (e ∷ []))
       go [] q m = absurd m
-      go (α ∷ around) q m = follows-next (Θ .keep σ ∷ []) es e α around p q
+      go (α ∷ around) q m = follows-next (Θ .keptOf σ ∷ []) es e α around p q
   prefix-step (text τ ∷ es) e p m = absurd p
   prefix-step (end ε ∷ es) e p m = absurd p
 
@@ -104,7 +104,7 @@ HasTarget Unwrap t = Unit {0}
 HasTarget Validate none = ⊥
 HasTarget Validate (some u) = Unit {0}
 
-abbrev pub StrandOk : ℕ → Strand ℕ → Type 0
+abbrev pub StrandOk : ℕ → HeldStrand ℕ → Type 0
 StrandOk u s = Below u (s .target) × HasTarget (s .action) (s .target)
 
 abbrev pub NonEmpty : {A : Type 0} → List A → Type 0
@@ -115,7 +115,7 @@ below-more : (u v : ℕ) (t : Option ℕ) → u ≤ v → Below u t → Below v 
 below-more u v none h b = tt
 below-more u v (some t) h b = omega arith
 
-strands-more : (u v : ℕ) (ss : List (Strand ℕ)) → u ≤ v → All (StrandOk u) ss → All (StrandOk v) ss
+strands-more : (u v : ℕ) (ss : List (HeldStrand ℕ)) → u ≤ v → All (StrandOk u) ss → All (StrandOk v) ss
 strands-more u v ss h a = all-weaken (StrandOk u) (StrandOk v) (λ s b. (below-more u v (s .target) h (b .0), b .1)) ss a
 
 -- An entry before it is allotted a unit.
@@ -176,17 +176,17 @@ module _ (Θ : Theory) where
   rules-ok u t [] b = tt
   rules-ok u t (q ∷ qs) b = (rule-ok u t (q .action) (q .schema) (q .next) b, rules-ok u t qs b)
 
-  take-ok : (u : ℕ) (σ : Θ .StartInfo) (ss : List (Strand ℕ)) → All (StrandOk u) ss → All (Ok u) (takeRules Θ σ ss)
+  take-ok : (u : ℕ) (σ : Θ .StartInfo) (ss : List (HeldStrand ℕ)) → All (StrandOk u) ss → All (Ok u) (takeRules Θ σ ss)
   unfolding gather
   take-ok u σ [] a = tt
   take-ok u σ (s ∷ ss) a = all-append (Ok u) (map (made (s .target)) (taken Θ (s .mode) σ)) (takeRules Θ σ ss) (rules-ok u (s .target) (taken Θ (s .mode) σ) (a .0 .0)) (take-ok u σ ss (a .1))
 
-  stay-ok : (u : ℕ) (ss : List (Strand ℕ)) → All (StrandOk u) ss → All (Ok u) (map (λ s. record { strand = stay s; schema = 0 }) ss)
+  stay-ok : (u : ℕ) (ss : List (HeldStrand ℕ)) → All (StrandOk u) ss → All (Ok u) (map (λ s. record { strand = stay s; schema = 0 }) ss)
   stay-ok u [] a = tt
   stay-ok u (s ∷ ss) a = (a .0, stay-ok u ss (a .1))
 
-  enter-ok : (u : ℕ) (ls : List (Level Θ)) (σ : Θ .StartInfo) → All (LevelOk u) ls → All (Ok u) (enter Θ ls σ)
-  enter-ok u [] σ a = take-ok u σ (beforeRoot ∷ []) ((tt, tt), tt)
+  enter-ok : (u : ℕ) (ls : List (Level Θ)) (σ : Θ .StartInfo) → All (LevelOk u) ls → All (Ok u) (entriesAt Θ ls σ)
+  enter-ok u [] σ a = take-ok u σ (heldBeforeRoot ∷ []) ((tt, tt), tt)
   enter-ok u (l ∷ ls) σ a = go (Θ .sameSection (l .at) σ)
     where
       go : (b : Bool) → All (Ok u) (cond b (map (λ s. record { strand = stay s; schema = 0 }) (l .strands)) (takeRules Θ σ (l .strands)))
@@ -198,7 +198,7 @@ module _ (Θ : Theory) where
   some-rule q [] t es = tt
   some-rule q (p ∷ ps) t es = tt
 
-  take-some : (σ : Θ .StartInfo) (ss : List (Strand ℕ)) → NonEmpty ss → NonEmpty (takeRules Θ σ ss)
+  take-some : (σ : Θ .StartInfo) (ss : List (HeldStrand ℕ)) → NonEmpty ss → NonEmpty (takeRules Θ σ ss)
   unfolding gather
   take-some σ [] n = absurd n
   take-some σ (s ∷ ss) n = some-rule (Θ .fallback (s .mode)) (Θ .rulesFor (s .mode) σ) (s .target) (takeRules Θ σ ss)
@@ -207,8 +207,8 @@ module _ (Θ : Theory) where
   map-some f [] n = absurd n
   map-some f (x ∷ xs) n = tt
 
-  enter-some : (u : ℕ) (ls : List (Level Θ)) (σ : Θ .StartInfo) → All (LevelOk u) ls → NonEmpty (enter Θ ls σ)
-  enter-some u [] σ a = take-some σ (beforeRoot ∷ []) tt
+  enter-some : (u : ℕ) (ls : List (Level Θ)) (σ : Θ .StartInfo) → All (LevelOk u) ls → NonEmpty (entriesAt Θ ls σ)
+  enter-some u [] σ a = take-some σ (heldBeforeRoot ∷ []) tt
   enter-some u (l ∷ ls) σ a = go (Θ .sameSection (l .at) σ)
     where
       go : (b : Bool) → NonEmpty (cond b (map (λ s. record { strand = stay s; schema = 0 }) (l .strands)) (takeRules Θ σ (l .strands)))
@@ -226,10 +226,10 @@ module _ (Θ : Theory) where
   levels-more : (u v : ℕ) (ls : List (Level Θ)) → u ≤ v → All (LevelOk u) ls → All (LevelOk v) ls
   levels-more u v ls h a = all-weaken (LevelOk u) (LevelOk v) (λ l b. (strands-more u v (l .strands) h (b .0), b .1)) ls a
 
-  pub after-coherent : (z : State Θ) (e : Event Θ) → Coherent z → Coherent (after Θ z e)
+  pub after-coherent : (z : State Θ) (e : TreeEvent Θ) → Coherent z → Coherent (after Θ z e)
   unfolding after
   after-coherent z (start σ) c =
-      let es = enter Θ (z .levels) σ in
+      let es = entriesAt Θ (z .levels) σ in
       let u : ℕ = z .units + length (unitsOf Θ σ es) in (
         (
           allot-ok (z .units) u (u + newUnits es) es (omega arith) (omega arith) (enter-ok (z .units) (z .levels) σ c),
@@ -244,9 +244,9 @@ module _ (Θ : Theory) where
       go [] c = tt
       go (l ∷ ls) c = c .1
 
-  pub reached-coherent : (es : List (Event Θ)) → Coherent (reached Θ es)
+  pub reached-coherent : (es : List (TreeEvent Θ)) → Coherent (reached Θ es)
   reached-coherent es = from (fresh Θ) es tt
     where
-      from : (z : State Θ) (es : List (Event Θ)) → Coherent z → Coherent (foldl (after Θ) z es)
+      from : (z : State Θ) (es : List (TreeEvent Θ)) → Coherent z → Coherent (foldl (after Θ) z es)
       from z [] c = c
       from z (e ∷ es) c = from (after Θ z e) es (after-coherent z e c)

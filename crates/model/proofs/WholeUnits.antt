@@ -10,7 +10,7 @@ use Rattle.laws.proofs.Members.{all-at, all-by}
 use Rattle.model.specs.Theory.{Rule, Piece, opens, holds, Theory}
 use Rattle.model.specs.Tree.{Tree}
 use Rattle.model.specs.Sections.{Tags, Content, empty, ownText, ownElement, slot, tagsOf, size, divide}
-use Rattle.model.specs.Model.{Marked, WholeUnit, startPieces, filling, unitOf, Strand, Assigned, at, beforeRoot, enter, attributesOf, assign, assigned, OneKeeps}
+use Rattle.model.specs.Model.{Marked, WholeUnit, startPieces, filling, unitOf, Strand, Assigned, assignedAt, beforeRoot, enter, attributesOf, assign, assigned, OneKeeps}
 use Rattle.model.specs.Units.{UnitOf}
 use Rattle.model.proofs.Lists.{In, All, Distinct, all-append, all-weaken, OneAt, one-tagged, Consecutive, consecutive-append}
 use Rattle.model.proofs.Events.{atEvent, Within, at-before, at-behind, bracket-within, bracket-inside}
@@ -30,22 +30,22 @@ module _ (Θ : Theory) where
   in-turn (ownText k τ rest) κ i n d ss = (sym (d .0), subst (λ j. Consecutive (λ x. x .event) (suc j) n (assign Θ rest ss)) (sym (d .0)) (in-turn rest κ (suc k) n (d .1) ss))
   in-turn (ownElement e inner rest) κ i n d ss = (
     sym (d .0),
-    subst (λ j. Consecutive (λ x. x .event) (suc j) n (assign Θ inner ss ++ (at (e .endAt) [] ss ∷ assign Θ rest ss))) (sym (d .0))
-        (consecutive-append (λ x. x .event) (suc (e .startAt)) (e .endAt) n (assign Θ inner ss) (at (e .endAt) [] ss ∷ assign Θ rest ss) (in-turn inner (Θ .keep (e .start)) (suc (e .startAt)) (e .endAt) (d .2) ss) (refl, in-turn rest κ (suc (e .endAt)) n (d .3) ss)),
+    subst (λ j. Consecutive (λ x. x .event) (suc j) n (assign Θ inner ss ++ (assignedAt (e .endAt) [] ss ∷ assign Θ rest ss))) (sym (d .0))
+        (consecutive-append (λ x. x .event) (suc (e .startAt)) (e .endAt) n (assign Θ inner ss) (assignedAt (e .endAt) [] ss ∷ assign Θ rest ss) (in-turn inner (Θ .keptOf (e .start)) (suc (e .startAt)) (e .endAt) (d .2) ss) (refl, in-turn rest κ (suc (e .endAt)) n (d .3) ss)),
   )
   in-turn (slot e inner rest) κ i n d ss =
       let new : List (Strand (Θ .Body)) = enter Θ e inner ss in (
         sym (d .0),
-        subst (λ j. Consecutive (λ x. x .event) (suc j) n (assign Θ inner new ++ (at (e .endAt) [] new ∷ assign Θ rest ss))) (sym (d .0))
-            (consecutive-append (λ x. x .event) (suc (e .startAt)) (e .endAt) n (assign Θ inner new) (at (e .endAt) [] new ∷ assign Θ rest ss) (in-turn inner (Θ .keep (e .start)) (suc (e .startAt)) (e .endAt) (d .2) new) (refl, in-turn rest κ (suc (e .endAt)) n (d .3) ss)),
+        subst (λ j. Consecutive (λ x. x .event) (suc j) n (assign Θ inner new ++ (assignedAt (e .endAt) [] new ∷ assign Θ rest ss))) (sym (d .0))
+            (consecutive-append (λ x. x .event) (suc (e .startAt)) (e .endAt) n (assign Θ inner new) (assignedAt (e .endAt) [] new ∷ assign Θ rest ss) (in-turn inner (Θ .keptOf (e .start)) (suc (e .startAt)) (e .endAt) (d .2) new) (refl, in-turn rest κ (suc (e .endAt)) n (d .3) ss)),
       )
 
   pub document-in-turn : (t : Tree Θ) → Consecutive (λ x. x .event) 0 (suc (suc (size Θ (t .inside)))) (assigned Θ t)
   document-in-turn t =
-      let inner : Content Θ = divide Θ (Θ .keep (t .rootStart)) 1 (t .inside) in
+      let inner : Content Θ = divide Θ (Θ .keptOf (t .rootStart)) 1 (t .inside) in
       let last : ℕ = suc (size Θ (t .inside)) in
       let new : List (Strand (Θ .Body)) = enter Θ (tagsOf Θ 0 (t .rootStart) last (t .rootEnd)) inner (beforeRoot Θ ∷ []) in
-      (refl, consecutive-append (λ x. x .event) 1 last (suc last) (assign Θ inner new) (at last [] new ∷ []) (in-turn inner (Θ .keep (t .rootStart)) 1 last (divided Θ (Θ .keep (t .rootStart)) 1 last (t .inside) (omega arith)) new) (refl, refl))
+      (refl, consecutive-append (λ x. x .event) 1 last (suc last) (assign Θ inner new) (assignedAt last [] new ∷ []) (in-turn inner (Θ .keptOf (t .rootStart)) 1 last (divided Θ (Θ .keptOf (t .rootStart)) 1 last (t .inside) (omega arith)) new) (refl, refl))
 
   -- A unit that opens in a content, and what the list has of it there.
   record Local (c : Content Θ) (i n : ℕ) (ss : List (Strand (Θ .Body))) (u : WholeUnit (Θ .Body)) : Type 0 where
@@ -59,10 +59,10 @@ module _ (Θ : Theory) where
 
   module _ (one : (m : ℕ) (σ : Θ .StartInfo) → OneKeeps (Θ .rulesFor m σ)) where
     -- An element with the strands es, and what stands behind it with the strands ss.
-    module _ (e : Tags Θ) (inner rest : Content Θ) (κ : Θ .Kept) (n : ℕ) (di : Divided Θ (Θ .keep (e .start)) (suc (e .startAt)) (e .endAt) inner) (dr : Divided Θ κ (suc (e .endAt)) n rest)
+    module _ (e : Tags Θ) (inner rest : Content Θ) (κ : Θ .Kept) (n : ℕ) (di : Divided Θ (Θ .keptOf (e .start)) (suc (e .startAt)) (e .endAt) inner) (dr : Divided Θ κ (suc (e .endAt)) n rest)
         (es ss : List (Strand (Θ .Body))) (oe : All (ForTarget (Old (suc (e .startAt)))) es) (os : All (ForTarget (Old (e .startAt))) ss) where
       abbrev element : List (Assigned (Θ .Body))
-      element = at (e .startAt) (attributesOf Θ e es) es ∷ assign Θ inner es ++ (at (e .endAt) [] es ∷ assign Θ rest ss)
+      element = assignedAt (e .startAt) (attributesOf Θ e es) es ∷ assign Θ inner es ++ (assignedAt (e .endAt) [] es ∷ assign Θ rest ss)
 
       -- A unit that opens in it or behind it.
       record InElement (u : WholeUnit (Θ .Body)) : Type 0 where
@@ -70,13 +70,13 @@ module _ (Θ : Theory) where
         shown : All (Shown u) element
 
       l : e .startAt < e .endAt
-      l = divided-up Θ inner (Θ .keep (e .start)) (suc (e .startAt)) (e .endAt) di
+      l = divided-up Θ inner (Θ .keptOf (e .start)) (suc (e .startAt)) (e .endAt) di
 
       up : e .endAt < n
       up = divided-up Θ rest κ (suc (e .endAt)) n dr
 
-      joined : (u : WholeUnit (Θ .Body)) → Shown u (at (e .startAt) (attributesOf Θ e es) es) → All (Shown u) (assign Θ inner es) → Shown u (at (e .endAt) [] es) → All (Shown u) (assign Θ rest ss) → All (Shown u) element
-      joined u a b c d = (a, all-append (Shown u) (assign Θ inner es) (at (e .endAt) [] es ∷ assign Θ rest ss) b (c, d))
+      joined : (u : WholeUnit (Θ .Body)) → Shown u (assignedAt (e .startAt) (attributesOf Θ e es) es) → All (Shown u) (assign Θ inner es) → Shown u (assignedAt (e .endAt) [] es) → All (Shown u) (assign Θ rest ss) → All (Shown u) element
+      joined u a b c d = (a, all-append (Shown u) (assign Θ inner es) (assignedAt (e .endAt) [] es ∷ assign Θ rest ss) b (c, d))
 
       not-behind : (lo hi : ℕ) (u : WholeUnit (Θ .Body)) → Spans lo hi u → e .startAt ≤ lo → hi ≤ suc (e .endAt) → All (Shown u) (assign Θ rest ss)
       not-behind lo hi u s a b =
@@ -105,7 +105,7 @@ module _ (Θ : Theory) where
             spans = spans-widen (suc (e .endAt)) n (e .startAt) n (omega (arith, l)) (omega arith) u s;
             shown = joined u
                 (shown-nowhere u (e .startAt) (attributesOf Θ e es) es (other-attributes Θ u e es (λ p. omega (arith, p, l, s .from))) others (at-before (e .startAt) (suc (e .endAt)) n (u .pieces) (omega (arith, l)) (s .within)))
-                (not-shown Θ u one inner (Θ .keep (e .start)) (suc (e .startAt)) (e .endAt) di (none .0) (none .1) es others)
+                (not-shown Θ u one inner (Θ .keptOf (e .start)) (suc (e .startAt)) (e .endAt) di (none .0) (none .1) es others)
                 (shown-nowhere u (e .endAt) [] es tt others (at-before (e .endAt) (suc (e .endAt)) n (u .pieces) (omega arith) (s .within)))
                 (x .shown);
           }
@@ -121,7 +121,7 @@ module _ (Θ : Theory) where
             spans = spans-widen (e .startAt) (suc (e .startAt)) (e .startAt) n (omega arith) (omega (arith, l, up)) u s;
             shown = joined u
                 (shown-by-attribute u (e .startAt) us es (one-tagged (λ (v : WholeUnit (Θ .Body)). v .key) (Other u) (λ v. u ≡ v) (atEvent (e .startAt) (u .pieces) ≡ []) u us (attributes-distinct Θ e es d) m (λ v p x. x) (λ v p. p)) others)
-                (not-shown Θ u one inner (Θ .keep (e .start)) (suc (e .startAt)) (e .endAt) di (none .0) (none .1) es others)
+                (not-shown Θ u one inner (Θ .keptOf (e .start)) (suc (e .startAt)) (e .endAt) di (none .0) (none .1) es others)
                 (shown-nowhere u (e .endAt) [] es tt others (at-behind (e .endAt) (e .startAt) (suc (e .startAt)) (u .pieces) l (s .within)))
                 (not-behind (e .startAt) (suc (e .startAt)) u s (omega arith) (omega (arith, l)));
           }
@@ -131,18 +131,18 @@ module _ (Θ : Theory) where
           → All (Each P) element
       element-units d P lift h inside behind = (
         (all-by P (attributesOf Θ e es) (λ u m. lift u (attribute-unit d u m)), h),
-        all-append (Each P) (assign Θ inner es) (at (e .endAt) [] es ∷ assign Θ rest ss) (inside (λ u x. lift u (inner-unit u x))) ((tt, h), behind (λ u x. lift u (later-unit u x))),
+        all-append (Each P) (assign Θ inner es) (assignedAt (e .endAt) [] es ∷ assign Θ rest ss) (inside (λ u x. lift u (inner-unit u x))) ((tt, h), behind (λ u x. lift u (later-unit u x))),
       )
 
     -- The unit that a validate rule opens.
-    new-spans : (e : Tags Θ) (inner : Content Θ) → Divided Θ (Θ .keep (e .start)) (suc (e .startAt)) (e .endAt) inner → (cs : List ℕ) (q : Rule) → Spans (e .startAt) (suc (e .endAt)) (unitOf Θ e inner cs q)
+    new-spans : (e : Tags Θ) (inner : Content Θ) → Divided Θ (Θ .keptOf (e .start)) (suc (e .startAt)) (e .endAt) inner → (cs : List ℕ) (q : Rule) → Spans (e .startAt) (suc (e .endAt)) (unitOf Θ e inner cs q)
     new-spans e inner d cs q =
-        let l = divided-up Θ inner (Θ .keep (e .start)) (suc (e .startAt)) (e .endAt) d in
+        let l = divided-up Θ inner (Θ .keptOf (e .start)) (suc (e .startAt)) (e .endAt) d in
         let starts : List (Piece (Θ .Body)) = opens (Θ .openBody (q .schema) (e .start)) ∷ startPieces Θ (q .next) (e .start) (e .attributes) in
-        let ends : List (Piece (Θ .Body)) = holds (Θ .endBody (Θ .keep (e .start)) (e .end)) ∷ holds (Θ .closeBody) ∷ [] in
+        let ends : List (Piece (Θ .Body)) = holds (Θ .endBody (Θ .keptOf (e .start)) (e .end)) ∷ holds (Θ .closeBody) ∷ [] in
         let f : List (Marked (Θ .Body)) = filling Θ inner true (q .next) in
-        let w : Within (suc (e .startAt)) (e .endAt) f = filling-within Θ inner (Θ .keep (e .start)) (suc (e .startAt)) (e .endAt) d true (q .next) in
-        let r : Rising (suc (e .startAt)) f = filling-rising Θ one inner (Θ .keep (e .start)) (suc (e .startAt)) (e .endAt) d true (q .next) in
+        let w : Within (suc (e .startAt)) (e .endAt) f = filling-within Θ inner (Θ .keptOf (e .start)) (suc (e .startAt)) (e .endAt) d true (q .next) in
+        let r : Rising (suc (e .startAt)) f = filling-rising Θ one inner (Θ .keptOf (e .start)) (suc (e .startAt)) (e .endAt) d true (q .next) in
         record {
           from = omega arith;
           before = omega (arith, l);
@@ -151,13 +151,13 @@ module _ (Θ : Theory) where
           rising = subst (Rising (e .startAt)) (sym (new-pieces Θ e inner cs q)) (bracket-rising true (e .startAt) (e .endAt) starts f ends l w r);
         }
 
-    new-has : (e : Tags Θ) (inner : Content Θ) → Divided Θ (Θ .keep (e .start)) (suc (e .startAt)) (e .endAt) inner → (cs : List ℕ) (q : Rule) (k : ℕ) → suc (e .startAt) ≤ k → k < e .endAt → atEvent k ((unitOf Θ e inner cs q) .pieces) ≡ atEvent k (filling Θ inner true (q .next))
+    new-has : (e : Tags Θ) (inner : Content Θ) → Divided Θ (Θ .keptOf (e .start)) (suc (e .startAt)) (e .endAt) inner → (cs : List ℕ) (q : Rule) (k : ℕ) → suc (e .startAt) ≤ k → k < e .endAt → atEvent k ((unitOf Θ e inner cs q) .pieces) ≡ atEvent k (filling Θ inner true (q .next))
     new-has e inner d cs q k a b = ap (atEvent k) (new-pieces Θ e inner cs q)
-        ∙ bracket-inside true (e .startAt) (e .endAt) (opens (Θ .openBody (q .schema) (e .start)) ∷ startPieces Θ (q .next) (e .start) (e .attributes)) (filling Θ inner true (q .next)) (holds (Θ .endBody (Θ .keep (e .start)) (e .end)) ∷ holds (Θ .closeBody) ∷ [])
-        (divided-up Θ inner (Θ .keep (e .start)) (suc (e .startAt)) (e .endAt) d) (filling-within Θ inner (Θ .keep (e .start)) (suc (e .startAt)) (e .endAt) d true (q .next)) k a b
+        ∙ bracket-inside true (e .startAt) (e .endAt) (opens (Θ .openBody (q .schema) (e .start)) ∷ startPieces Θ (q .next) (e .start) (e .attributes)) (filling Θ inner true (q .next)) (holds (Θ .endBody (Θ .keptOf (e .start)) (e .end)) ∷ holds (Θ .closeBody) ∷ [])
+        (divided-up Θ inner (Θ .keptOf (e .start)) (suc (e .startAt)) (e .endAt) d) (filling-within Θ inner (Θ .keptOf (e .start)) (suc (e .startAt)) (e .endAt) d true (q .next)) k a b
 
     -- A slot along the strands ss, and what stands behind it.
-    module _ (e : Tags Θ) (inner rest : Content Θ) (κ : Θ .Kept) (n : ℕ) (di : Divided Θ (Θ .keep (e .start)) (suc (e .startAt)) (e .endAt) inner) (dr : Divided Θ κ (suc (e .endAt)) n rest)
+    module _ (e : Tags Θ) (inner rest : Content Θ) (κ : Θ .Kept) (n : ℕ) (di : Divided Θ (Θ .keptOf (e .start)) (suc (e .startAt)) (e .endAt) inner) (dr : Divided Θ κ (suc (e .endAt)) n rest)
         (ss : List (Strand (Θ .Body))) (d : Distinct (map choicesOn ss)) (os : All (ForTarget (Old (e .startAt))) ss) where
       abbrev new : List (Strand (Θ .Body))
       new = enter Θ e inner ss
@@ -185,7 +185,7 @@ module _ (Θ : Theory) where
             spans = spans-widen (e .startAt) (suc (e .endAt)) (e .startAt) n (omega arith) after u sp;
             shown = joined e inner rest κ n di dr new ss on os u
                 (shown-by-strand u (e .startAt) (attributesOf Θ e new) new (attributes-keyed Θ (λ k. ¬ (u .key ≡ k)) e (λ cs j x. false≢true (ap ofAttributes x)) new) (only (λ y. y .target ≡ some u) (atEvent (e .startAt) (u .pieces) ≡ []) t))
-                (carried-shown Θ u one inner (Θ .keep (e .start)) (suc (e .startAt)) (e .endAt) di (λ k a b x. omega arith) new (only (Holder Θ u inner (suc (e .startAt)) (e .endAt)) (Nothing u (suc (e .startAt)) (e .endAt)) holder))
+                (carried-shown Θ u one inner (Θ .keptOf (e .start)) (suc (e .startAt)) (e .endAt) di (λ k a b x. omega arith) new (only (Holder Θ u inner (suc (e .startAt)) (e .endAt)) (Nothing u (suc (e .startAt)) (e .endAt)) holder))
                 (shown-by-strand u (e .endAt) [] new tt (only (λ y. y .target ≡ some u) (atEvent (e .endAt) (u .pieces) ≡ []) t))
                 (not-behind e inner rest κ n di dr new ss on os (e .startAt) (suc (e .endAt)) u sp (omega arith) (omega arith));
           }
@@ -215,34 +215,34 @@ module _ (Θ : Theory) where
         )
     units (ownElement e inner rest) κ i n d ss dist os P h lift =
         let l : i ≤ e .startAt = omega (arith, d .0) in
-        let up = divided-up Θ inner (Θ .keep (e .start)) (suc (e .startAt)) (e .endAt) (d .2) in
+        let up = divided-up Θ inner (Θ .keptOf (e .start)) (suc (e .startAt)) (e .endAt) (d .2) in
         let here : All (ForTarget (Old (e .startAt))) ss = old-later i (e .startAt) l ss os in
         let inside : All (ForTarget (Old (suc (e .startAt)))) ss = old-later i (suc (e .startAt)) (omega arith) ss os in
         element-units e inner rest κ n (d .2) (d .3) ss ss inside here dist P
         (λ u x. lift u (record { spans = spans-widen (e .startAt) n i n l (omega arith) u (x .spans); shown = x .shown })) h
-        (units inner (Θ .keep (e .start)) (suc (e .startAt)) (e .endAt) (d .2) ss dist inside P h)
+        (units inner (Θ .keptOf (e .start)) (suc (e .startAt)) (e .endAt) (d .2) ss dist inside P h)
         (units rest κ (suc (e .endAt)) n (d .3) ss dist (old-later i (suc (e .endAt)) (omega (arith, up)) ss os) P h)
     units (slot e inner rest) κ i n d ss dist os P h lift =
         let l : i ≤ e .startAt = omega (arith, d .0) in
-        let up = divided-up Θ inner (Θ .keep (e .start)) (suc (e .startAt)) (e .endAt) (d .2) in
+        let up = divided-up Θ inner (Θ .keptOf (e .start)) (suc (e .startAt)) (e .endAt) (d .2) in
         let here : All (ForTarget (Old (e .startAt))) ss = old-later i (e .startAt) l ss os in
         slot-units e inner rest κ n (d .2) (d .3) ss dist here P h
         (λ u x. lift u (record { spans = spans-widen (e .startAt) n i n l (omega arith) u (x .spans); shown = x .shown }))
-        (units inner (Θ .keep (e .start)) (suc (e .startAt)) (e .endAt) (d .2) (enter Θ e inner ss) (enter-differs Θ e inner ss dist) (on e inner rest κ n (d .2) (d .3) ss dist here) P)
+        (units inner (Θ .keptOf (e .start)) (suc (e .startAt)) (e .endAt) (d .2) (enter Θ e inner ss) (enter-differs Θ e inner ss dist) (on e inner rest κ n (d .2) (d .3) ss dist here) P)
         (units rest κ (suc (e .endAt)) n (d .3) ss dist (old-later i (suc (e .endAt)) (omega (arith, up)) ss os) P h)
 
     document-units : (t : Tree Θ) → All (Each (Whole t)) (assigned Θ t)
     document-units t =
         let σ : Θ .StartInfo = t .rootStart in
-        let inner : Content Θ = divide Θ (Θ .keep σ) 1 (t .inside) in
+        let inner : Content Θ = divide Θ (Θ .keptOf σ) 1 (t .inside) in
         let e : Tags Θ = tagsOf Θ 0 σ (suc (size Θ (t .inside))) (t .rootEnd) in
         let n : ℕ = suc (e .endAt) in
-        let di : Divided Θ (Θ .keep σ) 1 (e .endAt) inner = divided Θ (Θ .keep σ) 1 (e .endAt) (t .inside) (omega arith) in
+        let di : Divided Θ (Θ .keptOf σ) 1 (e .endAt) inner = divided Θ (Θ .keptOf σ) 1 (e .endAt) (t .inside) (omega arith) in
         let ss : List (Strand (Θ .Body)) = beforeRoot Θ ∷ [] in
         let os : All (ForTarget (Old 0)) ss = (λ v p. absurd (Option·none-ne-some v p), tt) in
-        slot-units e inner empty (Θ .keep σ) n di refl ss (tt, tt) os (Whole t) (λ v p. absurd (Option·none-ne-some v p), tt)
+        slot-units e inner empty (Θ .keptOf σ) n di refl ss (tt, tt) os (Whole t) (λ v p. absurd (Option·none-ne-some v p), tt)
         (λ u x. record { spans = x .spans; shown = x .shown })
-        (units inner (Θ .keep σ) 1 (e .endAt) di (enter Θ e inner ss) (enter-differs Θ e inner ss (tt, tt)) (on e inner empty (Θ .keep σ) n di refl ss (tt, tt) os) (Whole t))
+        (units inner (Θ .keptOf σ) 1 (e .endAt) di (enter Θ e inner ss) (enter-differs Θ e inner ss (tt, tt)) (on e inner empty (Θ .keptOf σ) n di refl ss (tt, tt) os) (Whole t))
         (λ f. tt)
 
     pub unit-whole : (t : Tree Θ) (u : WholeUnit (Θ .Body)) → UnitOf Θ t u → Whole t u

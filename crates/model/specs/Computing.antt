@@ -6,10 +6,10 @@ use Rattle.reader.specs.Computing as reader
 use Rattle.model.specs.Model.{model, cells}
 use Rattle.model.specs.Stream.{written, after, streamFrom, streamOf}
 use Rattle.model.specs.Elements.{spaceOf, attributeOf, elementOf}
-use Rattle.model.specs.Groups.{placed, sectionsFrom, sectionsOf, attributeUnits, kept, startBodies}
+use Rattle.model.specs.Groups.{grouped, groupsFrom, groupsOf, attributeUnits, kept, startBodies}
 use Rattle.model.specs.Records.{recordBytes}
-use Rattle.model.specs.Dispatch.{joined, expected}
+use Rattle.model.specs.Dispatch.{joinedBytes, expected}
 
 unfoldable pub computing : Bool
-unfolding table.computing reader.computing expected joined model cells streamOf streamFrom written after recordBytes attributeUnits startBodies kept placed sectionsFrom sectionsOf spaceOf attributeOf elementOf total
+unfolding table.computing reader.computing expected joinedBytes model cells streamOf streamFrom written after recordBytes attributeUnits startBodies kept grouped groupsFrom groupsOf spaceOf attributeOf elementOf total
 computing = true

@@ -8,7 +8,7 @@ use Rattle.table.specs.Table.{Table, orElse, rulesOf, fallback}
 use Rattle.reader.specs.declared.Span.{Span}
 use Rattle.reader.specs.Events as scene
 use Rattle.model.specs.Theory.{Piece, opens, holds, Record, Theory}
-use Rattle.model.specs.Tree.{Event, start, text, end}
+use Rattle.model.specs.Tree.{TreeEvent, start, text, end}
 use Rattle.model.specs.Model.{cutModel}
 use Rattle.model.specs.Elements.{Attribute, Element, elementOf, sameSpace, stays}
 use Rattle.model.specs.Records.{Body, OpenElement, keptOf, recordBytes, openBody, openAttributes, startBody, attributeBodies, virtualStart, virtualEnd, textBody, endBody, closeBody}
@@ -25,7 +25,7 @@ dispatch t =
       EndInfo = Span;
       Body = Body;
       Kept = OpenElement;
-      keep = keptOf;
+      keptOf = keptOf;
       sameSection = λ (k : OpenElement) (e : Element). sameSpace (k .space) (e .space);
       attributes = λ (e : Element). e .attributes;
       stays = stays;
@@ -48,7 +48,7 @@ dispatch t =
     }
 
 -- an event of a scene as the dispatcher takes it
-abbrev pub told : (t : Table) → List ℕ → scene.Event → Event (dispatch t)
+abbrev pub told : (t : Table) → List ℕ → scene.Event → TreeEvent (dispatch t)
 told t s (scene.start e) = start (elementOf t s e)
 told t s (scene.text w) = text w
 told t s (scene.end part at) = end part
@@ -58,14 +58,14 @@ abbrev pub pieceBody : Piece Body → Body
 pieceBody (opens b) = b
 pieceBody (holds b) = b
 
-abbrev pub bytesOf : Record Body ℕ → List ℕ
-bytesOf r = recordBytes (r .unit) (pieceBody (r .piece))
+abbrev pub recordBytesOf : Record Body ℕ → List ℕ
+recordBytesOf r = recordBytes (r .unit) (pieceBody (r .piece))
 
 -- the records of each event, joined
-unfoldable pub joined : List (List (Record Body ℕ)) → List ℕ
-joined cells = gather (gather bytesOf) cells
+unfoldable pub joinedBytes : List (List (Record Body ℕ)) → List ℕ
+joinedBytes cells = gather (gather recordBytesOf) cells
 
 -- the bytes of the model's records of the first k events of a scene: of the tree of these events, closed by an end for each element still open,
 -- the added ends struck
 unfoldable pub expected : Table → List ℕ → ℕ → List ℕ
-expected t s k = joined (cutModel (dispatch t) (map (told t s) (take k (scene.events s))))
+expected t s k = joinedBytes (cutModel (dispatch t) (map (told t s) (take k (scene.events s))))

@@ -48,7 +48,7 @@ pub record Element : Type 0 where
   pub space : Space
   pub attributes : List Attribute
 
-unfoldable pub attributeOf : Table → List ℕ → scene.Attribute → Attribute
+unfoldable pub attributeOf : Table → List ℕ → scene.ReadAttribute → Attribute
 attributeOf t s a =
     record { prefixed = isPrefixed (a .namespace); part = a .part; value = a .value; space = spaceOf t s (a .namespace) }
 

@@ -5,14 +5,14 @@ use mathlib.Core.Path.{_≡_, refl}
 use mathlib.Core.List.{List, [], _∷_, _++_, map}
 use Rattle.laws.specs.Text.{bytes}
 use Rattle.table.specs.Table.{decode}
-use Rattle.table.specs.Examples.{T, T2, packed, listed}
+use Rattle.table.specs.Examples.{T, T2, ruleBytes, listed}
 use Rattle.reader.specs.Events.{events}
 use Rattle.model.specs.Theory.{Record, holds}
 use Rattle.model.specs.Tree.{completed, treeOf}
 use Rattle.model.specs.Model.{cutModel, modelOf}
 use Rattle.model.specs.Stream.{streamOf}
 use Rattle.model.specs.Records.{Body}
-use Rattle.model.specs.Dispatch.{dispatch, told, pieceBody, bytesOf}
+use Rattle.model.specs.Dispatch.{dispatch, told, pieceBody, recordBytesOf}
 use Rattle.model.specs.Computing.{computing}
 
 -- A record's seven fields
@@ -44,10 +44,10 @@ completedRows t s =
 abbrev figureTable : List ℕ
 figureTable =
     (3 ∷ 3 ∷ 2 ∷ 4 ∷ [])
-    ++ packed 0 0 1 2 0 1
-    ++ packed 1 1 3 2 1 1
-    ++ packed 1 0 2 1 0 2
-    ++ packed 2 0 1 0 0 2
+    ++ ruleBytes 0 0 1 2 0 1
+    ++ ruleBytes 1 1 3 2 1 1
+    ++ ruleBytes 1 0 2 1 0 2
+    ++ ruleBytes 2 0 1 0 0 2
     ++ listed (bytes "ns")
     ++ listed (bytes "ns1")
     ++ listed (bytes "ns2")
@@ -56,13 +56,13 @@ figureTable =
 abbrev mixedTable : List ℕ
 mixedTable =
     (2 ∷ 3 ∷ 4 ∷ 7 ∷ [])
-    ++ packed 0 0 1 2 0 1
-    ++ packed 0 0 1 2 1 2
-    ++ packed 0 0 1 0 0 1
-    ++ packed 1 1 2 2 2 0
-    ++ packed 1 1 2 0 0 0
-    ++ packed 1 1 255 2 3 0
-    ++ packed 2 1 255 0 0 0
+    ++ ruleBytes 0 0 1 2 0 1
+    ++ ruleBytes 0 0 1 2 1 2
+    ++ ruleBytes 0 0 1 0 0 1
+    ++ ruleBytes 1 1 2 2 2 0
+    ++ ruleBytes 1 1 2 0 0 0
+    ++ ruleBytes 1 1 255 2 3 0
+    ++ ruleBytes 2 1 255 0 0 0
     ++ listed (bytes "u")
     ++ listed (bytes "v")
 
@@ -70,25 +70,25 @@ mixedTable =
 abbrev modesTable : List ℕ
 modesTable =
     (1 ∷ 2 ∷ 3 ∷ 3 ∷ [])
-    ++ packed 0 0 1 2 0 1
-    ++ packed 0 1 255 2 1 0
-    ++ packed 1 1 255 2 2 0
+    ++ ruleBytes 0 0 1 2 0 1
+    ++ ruleBytes 0 1 255 2 1 0
+    ++ ruleBytes 1 1 255 2 2 0
     ++ listed (bytes "u")
 
 -- every section validated
 abbrev anyTable : List ℕ
 anyTable =
     (1 ∷ 1 ∷ 1 ∷ 1 ∷ [])
-    ++ packed 0 0 255 2 0 0
+    ++ ruleBytes 0 0 255 2 0 0
     ++ listed (bytes "u")
 
 -- below a u root: v attached, any other validated
 abbrev namingTable : List ℕ
 namingTable =
     (2 ∷ 2 ∷ 2 ∷ 3 ∷ [])
-    ++ packed 0 0 1 2 0 1
-    ++ packed 1 0 2 0 0 1
-    ++ packed 1 0 255 2 1 1
+    ++ ruleBytes 0 0 1 2 0 1
+    ++ ruleBytes 1 0 2 0 0 1
+    ++ ruleBytes 1 0 255 2 1 1
     ++ listed (bytes "u")
     ++ listed (bytes "v")
 
@@ -96,9 +96,9 @@ namingTable =
 abbrev xmlTable : List ℕ
 xmlTable =
     (1 ∷ 1 ∷ 2 ∷ 3 ∷ [])
-    ++ packed 0 0 254 2 0 0
-    ++ packed 0 0 255 1 0 0
-    ++ packed 0 1 254 2 1 0
+    ++ ruleBytes 0 0 254 2 0 0
+    ++ ruleBytes 0 0 255 1 0 0
+    ++ ruleBytes 0 1 254 2 1 0
     ++ listed (bytes "u")
 
 -- every element section validated by schema 0, every attribute section by schema 1
@@ -109,9 +109,9 @@ validatingTable = 0x01 ∷ 0x01 ∷ 0x02 ∷ 0x02 ∷ 0x03 ∷ 0xFE ∷ 0x00 ∷
 abbrev attachingTable : List ℕ
 attachingTable =
     (1 ∷ 3 ∷ 1 ∷ 3 ∷ [])
-    ++ packed 0 0 1 2 0 1
-    ++ packed 1 0 255 0 0 2
-    ++ packed 2 1 255 0 0 0
+    ++ ruleBytes 0 0 1 2 0 1
+    ++ ruleBytes 1 0 255 0 0 2
+    ++ ruleBytes 2 1 255 0 0 0
     ++ listed (bytes "u")
 
 -- Sample A
@@ -393,6 +393,6 @@ unfolding computing
 added-ends = refl
 
 -- A record's bytes: unit 16, kind 8, class 8, offset 24, length 24, URI offset 24, URI length 24, each with its highest byte first
-fields : bytesOf (record { unit = 0x0102; piece = holds (record { kind = 0x03; class = 0x04; at = 0x050607; len = 0x08090A; uriAt = 0x0B0C0D; uriLen = 0x0E0F10 }) }) ≡ 0x01 ∷ 0x02 ∷ 0x03 ∷ 0x04 ∷ 0x05 ∷ 0x06 ∷ 0x07 ∷ 0x08 ∷ 0x09 ∷ 0x0A ∷ 0x0B ∷ 0x0C ∷ 0x0D ∷ 0x0E ∷ 0x0F ∷ 0x10 ∷ []
+fields : recordBytesOf (record { unit = 0x0102; piece = holds (record { kind = 0x03; class = 0x04; at = 0x050607; len = 0x08090A; uriAt = 0x0B0C0D; uriLen = 0x0E0F10 }) }) ≡ 0x01 ∷ 0x02 ∷ 0x03 ∷ 0x04 ∷ 0x05 ∷ 0x06 ∷ 0x07 ∷ 0x08 ∷ 0x09 ∷ 0x0A ∷ 0x0B ∷ 0x0C ∷ 0x0D ∷ 0x0E ∷ 0x0F ∷ 0x10 ∷ []
 unfolding computing
 fields = refl

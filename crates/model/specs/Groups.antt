@@ -13,30 +13,30 @@ use Rattle.model.specs.Elements.{Space, Attribute, Element, sameSpace, s
 use Rattle.model.specs.Records.{Body, openAttributes, startBody, attributeBodies, virtualStart, virtualEnd, closeBody}
 
 -- An attribute section: its namespace and its attributes, in tag order
-pub record AttributeSection : Type 0 where
+pub record AttributeGroup : Type 0 where
   pub space : Space
   pub members : List Attribute
 
 -- an attribute put to the section of its namespace, or behind the last as a section of its own
-unfoldable pub placed : List AttributeSection → Attribute → List AttributeSection
-placed [] a = record { space = a .space; members = a ∷ [] } ∷ []
-placed (c ∷ cs) a =
-    cond (sameSpace (c .space) (a .space)) (record { space = c .space; members = c .members ++ (a ∷ []) } ∷ cs) (c ∷ placed cs a)
+unfoldable pub grouped : List AttributeGroup → Attribute → List AttributeGroup
+grouped [] a = record { space = a .space; members = a ∷ [] } ∷ []
+grouped (c ∷ cs) a =
+    cond (sameSpace (c .space) (a .space)) (record { space = c .space; members = c .members ++ (a ∷ []) } ∷ cs) (c ∷ grouped cs a)
 
-unfoldable pub sectionsFrom : List AttributeSection → List Attribute → List AttributeSection
-sectionsFrom cs [] = cs
-sectionsFrom cs (a ∷ as′) = sectionsFrom (placed cs a) as′
+unfoldable pub groupsFrom : List AttributeGroup → List Attribute → List AttributeGroup
+groupsFrom cs [] = cs
+groupsFrom cs (a ∷ as′) = groupsFrom (grouped cs a) as′
 
 -- "The others form one section per namespace, ordered by first attribute"
-unfoldable pub sectionsOf : Element → List AttributeSection
-sectionsOf e = sectionsFrom [] (keep (λ (a : Attribute). not (stays e a)) (e .attributes))
+unfoldable pub groupsOf : Element → List AttributeGroup
+groupsOf e = groupsFrom [] (keep (λ (a : Attribute). not (stays e a)) (e .attributes))
 
 -- "with that strand's mode and kind 1, naming rules before any": the rules that a strand in a mode takes at an attribute section
-abbrev pub attributeRules : Table → ℕ → AttributeSection → List Rule
-attributeRules t mode c = orElse (rulesOf t mode 1 (c .space .class)) (fallback 1 mode ∷ [])
+abbrev pub groupRules : Table → ℕ → AttributeGroup → List Rule
+groupRules t mode c = orElse (rulesOf t mode 1 (c .space .class)) (fallback 1 mode ∷ [])
 
 -- "each validate rule opens a unit holding a virtual element with these attributes"
-abbrev pub unitBy : Element → AttributeSection → Action → ℕ → List (AttributeUnit Body)
+abbrev pub unitBy : Element → AttributeGroup → Action → ℕ → List (AttributeUnit Body)
 unitBy e c Attach schema = []
 unitBy e c Unwrap schema = []
 unitBy e c Validate schema =
@@ -50,7 +50,7 @@ unitBy e c Validate schema =
 -- the attribute units of an element along a strand of this mode, "by section, rule"
 unfoldable pub attributeUnits : Table → ℕ → Element → List (AttributeUnit Body)
 attributeUnits t mode e =
-    gather (λ (c : AttributeSection). gather (λ (r : Rule). unitBy e c (r .action) (r .schema)) (attributeRules t mode c)) (sectionsOf e)
+    gather (λ (c : AttributeGroup). gather (λ (r : Rule). unitBy e c (r .action) (r .schema)) (groupRules t mode c)) (groupsOf e)
 
 -- "attach keeps them with the element; otherwise they are not kept"
 abbrev pub isAttach : Action → Bool
@@ -58,12 +58,12 @@ isAttach Attach = true
 isAttach Unwrap = false
 isAttach Validate = false
 
-abbrev pub keepsSection : Table → ℕ → AttributeSection → Bool
-keepsSection t mode c = any (λ (r : Rule). isAttach (r .action)) (attributeRules t mode c)
+abbrev pub keepsGroup : Table → ℕ → AttributeGroup → Bool
+keepsGroup t mode c = any (λ (r : Rule). isAttach (r .action)) (groupRules t mode c)
 
 -- an attribute is kept along a strand of this mode: it stays with the element, or its section is attached
 unfoldable pub kept : Table → ℕ → Element → Attribute → Bool
-kept t mode e a = stays e a || any (λ (c : AttributeSection). sameSpace (c .space) (a .space) && keepsSection t mode c) (sectionsOf e)
+kept t mode e a = stays e a || any (λ (c : AttributeGroup). sameSpace (c .space) (a .space) && keepsGroup t mode c) (groupsOf e)
 
 -- "start, then 2 and 3 per kept attribute in tag order"
 unfoldable pub startBodies : Table → ℕ → Element → List Body

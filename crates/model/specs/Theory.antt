@@ -22,7 +22,7 @@ pub record Theory : Type 1 where
   pub EndInfo : Type 0
   pub Body : Type 0
   pub Kept : Type 0
-  pub keep : StartInfo → Kept
+  pub keptOf : StartInfo → Kept
   -- "An element whose namespace equals its parent's": the parent, the element
   pub sameSection : Kept → StartInfo → Bool
   -- a start's attributes "in tag order"; whether one "stay[s] with" the element; whether two are of one namespace

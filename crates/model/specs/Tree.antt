@@ -4,10 +4,10 @@ use mathlib.Core.Option.{Option, none, some}
 use Rattle.model.specs.Theory.{Theory}
 
 -- "Events: start, text, end".
-pub data Event (Θ : Theory) : Type 0 where
-  start : Θ .StartInfo → Event Θ
-  text : Θ .TextInfo → Event Θ
-  end : Θ .EndInfo → Event Θ
+pub data TreeEvent (Θ : Theory) : Type 0 where
+  start : Θ .StartInfo → TreeEvent Θ
+  text : Θ .TextInfo → TreeEvent Θ
+  end : Θ .EndInfo → TreeEvent Θ
 
 -- What stands in an element: texts and elements, each with what stands behind it.
 pub data Items (Θ : Theory) : Type 0 where
@@ -23,24 +23,24 @@ pub record Tree (Θ : Theory) : Type 0 where
 
 module _ (Θ : Theory) where
   -- The events of items, and then those given.
-  abbrev pub eventsThen : Items Θ → List (Event Θ) → List (Event Θ)
+  abbrev pub eventsThen : Items Θ → List (TreeEvent Θ) → List (TreeEvent Θ)
   eventsThen nothing es = es
   eventsThen (textThen τ rest) es = text τ ∷ eventsThen rest es
   eventsThen (elementThen σ inner ε rest) es = start σ ∷ eventsThen inner (end ε ∷ eventsThen rest es)
 
   -- The events of a document, in document order.
-  abbrev pub events : Tree Θ → List (Event Θ)
-  events t = start (t .rootStart) ∷ eventsThen (t .inside) (end (t .rootEnd) ∷ [])
+  abbrev pub treeEvents : Tree Θ → List (TreeEvent Θ)
+  treeEvents t = start (t .rootStart) ∷ eventsThen (t .inside) (end (t .rootEnd) ∷ [])
 
   -- The elements open after some events, the innermost first.
-  abbrev pub stillOpen : List (Θ .Kept) → List (Event Θ) → List (Θ .Kept)
+  abbrev pub stillOpen : List (Θ .Kept) → List (TreeEvent Θ) → List (Θ .Kept)
   stillOpen around [] = around
-  stillOpen around (start σ ∷ es) = stillOpen (Θ .keep σ ∷ around) es
+  stillOpen around (start σ ∷ es) = stillOpen (Θ .keptOf σ ∷ around) es
   stillOpen around (text τ ∷ es) = stillOpen around es
   stillOpen around (end ε ∷ es) = stillOpen (tail around) es
 
   -- The tree closed at a cut, as events: an end is added for each element still open.
-  abbrev pub completed : List (Event Θ) → List (Event Θ)
+  abbrev pub completed : List (TreeEvent Θ) → List (TreeEvent Θ)
   completed es = es ++ map (λ κ. end (Θ .added κ)) (stillOpen [] es)
 
   -- What stands behind the items of an open element: its end, and the items after it. (Without an end it gets that which would be added.)
@@ -49,12 +49,12 @@ module _ (Θ : Theory) where
   endFor κ (x ∷ outer) = x
 
   -- Events as items up to the first end without a start; then each such end, and the items after it.
-  abbrev pub itemsOf : List (Event Θ) → Items Θ × List (Θ .EndInfo × Items Θ)
+  abbrev pub itemsOf : List (TreeEvent Θ) → Items Θ × List (Θ .EndInfo × Items Θ)
   itemsOf [] = (nothing, [])
-  itemsOf (start σ ∷ es) = let r = itemsOf es in let e = endFor (Θ .keep σ) (r .1) in (elementThen σ (r .0) (e .0) (e .1), tail (r .1))
+  itemsOf (start σ ∷ es) = let r = itemsOf es in let e = endFor (Θ .keptOf σ) (r .1) in (elementThen σ (r .0) (e .0) (e .1), tail (r .1))
   itemsOf (text τ ∷ es) = let r = itemsOf es in (textThen τ (r .0), r .1)
   itemsOf (end ε ∷ es) = let r = itemsOf es in (nothing, (ε, r .0) ∷ r .1)
 
   -- The tree of events: their first item, if that is an element.
-  abbrev pub treeOf : List (Event Θ) → Option (Tree Θ)
+  abbrev pub treeOf : List (TreeEvent Θ) → Option (Tree Θ)
   treeOf es = elim ((itemsOf es) .0) [ nothing ↦ none | textThen τ rest ↦ none | elementThen σ inner ε rest ↦ some (record { rootStart = σ; inside = inner; rootEnd = ε }) ]

@@ -10,7 +10,7 @@ use Rattle.laws.specs.Gather.{gather}
 use Rattle.laws.specs.Members.{In, All}
 use Rattle.model.specs.Theory.{Piece, opens, holds, Record, Theory}
 use Rattle.model.specs.Tree.{Tree}
-use Rattle.model.specs.Model.{WholeUnit, Strand, Assigned, opened, numberIn, assigned, cells}
+use Rattle.model.specs.Model.{WholeUnit, Strand, Assigned, unitsOpened, numberIn, assigned, cells}
 
 -- The pieces of those records, in their order, whose unit passes a test.
 abbrev pub ofUnit : {B U : Type 0} → (U → Bool) → List (Record B U) → List (Piece B)
@@ -37,9 +37,9 @@ module _ (Θ : Theory) where
   UnitOf t u = (x : Assigned (Θ .Body)) × In x (assigned Θ t) × (In u (x .attributes) ⊎ ((s : Strand (Θ .Body)) × In s (x .strands) × (s .target ≡ some u)))
 
   -- "a unit's number is how many opens come before its own".
-  abbrev pub numberOf : Tree Θ → WholeUnit (Θ .Body) → ℕ
-  numberOf t u = numberIn (opened (gather (λ x. x) (cells Θ t))) (u .key)
+  abbrev pub unitNumber : Tree Θ → WholeUnit (Θ .Body) → ℕ
+  unitNumber t u = numberIn (unitsOpened (gather (λ x. x) (cells Θ t))) (u .key)
 
   -- A record of the list: a piece of a unit, under its number.
   abbrev pub Owned : Tree Θ → Record (Θ .Body) ℕ → Type 0
-  Owned t r = (u : WholeUnit (Θ .Body)) × UnitOf t u × (r .unit ≡ numberOf t u) × In (r .piece) (map (λ p. p .piece) (u .pieces))
+  Owned t r = (u : WholeUnit (Θ .Body)) × UnitOf t u × (r .unit ≡ unitNumber t u) × In (r .piece) (map (λ p. p .piece) (u .pieces))

@@ -13,8 +13,8 @@ use lib.ListN.{length, drop, length-take, length-drop}
 use Rattle.laws.specs.Lists.{sameList, tabulate}
 use Rattle.lexer.specs.declared.Name.{Name}
 use Rattle.reader.specs.Spans.{bytesOf, wholeSpan, prefixSpan, hasPrefix, xmlPrefix, xmlnsPrefix, kindOf}
-use Rattle.reader.specs.Namespaces.{orElse, lookUp, Namespace, nothing, xml, ofBinding, ofPrefix, ofElement}
-use Rattle.reader.specs.Stored.{bindingIn, bindingsIn, lookFrom, foundOpen, foundOf, foundElement, foundBy, foundAttribute, spaceOf, isUnbound}
+use Rattle.reader.specs.Namespaces.{orOuter, lookUp, Namespace, nothing, xml, ofBinding, ofPrefix, ofElement}
+use Rattle.reader.specs.Stored.{bindingIn, bindingsIn, lookFrom, foundOpen, foundOf, foundElement, foundBy, foundAttribute, storedSpace, isUnbound}
 use Rattle.reader.specs.declared.Binding.{Binding}
 use Rattle.reader.specs.declared.Kind.{Kind}
 use Rattle.reader.specs.declared.Kind.the-variants.{Plain, Prefixed, Default, Declares}
@@ -23,19 +23,19 @@ use Rattle.reader.specs.declared.Found.the-variants as found
 use Rattle.reader.proofs.Indexed.{tab-last}
 
 -- ---- the last binding with a prefix
-else-assoc : (a b c : Option Binding) → orElse (orElse a b) c ≡ orElse a (orElse b c)
+else-assoc : (a b c : Option Binding) → orOuter (orOuter a b) c ≡ orOuter a (orOuter b c)
 else-assoc none b c = refl
 else-assoc (some x) b c = refl
 
-look-append : (s : List ℕ) (xs ys : List Binding) (p : List ℕ) → lookUp s (xs ++ ys) p ≡ orElse (lookUp s ys p) (lookUp s xs p)
+look-append : (s : List ℕ) (xs ys : List Binding) (p : List ℕ) → lookUp s (xs ++ ys) p ≡ orOuter (lookUp s ys p) (lookUp s xs p)
 unfolding lookUp
 look-append s [] ys p = cases (lookUp s ys p)
   where
-    cases : (o : Option Binding) → o ≡ orElse o none
+    cases : (o : Option Binding) → o ≡ orOuter o none
     cases none = refl
     cases (some b) = refl
 look-append s (x ∷ xs) ys p =
-    ap (λ (o : Option Binding). orElse o (cond (sameList (bytesOf s (x .prefix)) p) (some x) none)) (look-append s xs ys p)
+    ap (λ (o : Option Binding). orOuter o (cond (sameList (bytesOf s (x .prefix)) p) (some x) none)) (look-append s xs ys p)
     ∙ else-assoc (lookUp s ys p) (lookUp s xs p) (cond (sameList (bytesOf s (x .prefix)) p) (some x) none)
 
 -- a binding by its number, counted from 1
@@ -52,14 +52,14 @@ look-agrees s l (suc n) p =
     ∙ cases (sameList (bytesOf s (bindingIn l n .prefix)) p) (look-agrees s l n p)
   where
     cases : (t : Bool) → lookUp s (bindingsIn l n) p ≡ boundAt l (lookFrom s l n p)
-        → orElse (cond t (some (bindingIn l n)) none) (lookUp s (bindingsIn l n) p) ≡ boundAt l (cond t (suc n) (lookFrom s l n p))
+        → orOuter (cond t (some (bindingIn l n)) none) (lookUp s (bindingsIn l n) p) ≡ boundAt l (cond t (suc n) (lookFrom s l n p))
     cases true h = refl
     cases false h = h
 
 -- ---- the namespace of a name
 -- the namespace that was found; none where a prefix is unbound
 abbrev pub namespaceIn : List ℕ → List ℕ → Found → Option Namespace
-namespaceIn own open′ f = cond (isUnbound f) none (some (spaceOf own open′ f))
+namespaceIn own open′ f = cond (isUnbound f) none (some (storedSpace own open′ f))
 
 -- the namespace of an attribute; a declaration's does not count
 abbrev pub ofKind : List ℕ → List Binding → Kind → Name → Option Namespace
@@ -93,16 +93,16 @@ module _ (s own open′ : List ℕ) (ds : List Binding) (bound : ℕ) (read : bi
   all-of = bindingsIn open′ bound ++ ds
 
   -- the tag's own first, then those that are open
-  look-both : (p : List ℕ) → lookUp s all-of p ≡ orElse (boundAt own (lookFrom s own (length ds) p)) (boundAt open′ (lookFrom s open′ bound p))
+  look-both : (p : List ℕ) → lookUp s all-of p ≡ orOuter (boundAt own (lookFrom s own (length ds) p)) (boundAt open′ (lookFrom s open′ bound p))
   look-both p =
       look-append s (bindingsIn open′ bound) ds p
-      ∙ ap (λ (o : Option Binding). orElse (lookUp s ds p) o) (look-agrees s open′ bound p)
-      ∙ ap (λ (o : Option Binding). orElse o (boundAt open′ (lookFrom s open′ bound p)))
+      ∙ ap (λ (o : Option Binding). orOuter (lookUp s ds p) o) (look-agrees s open′ bound p)
+      ∙ ap (λ (o : Option Binding). orOuter o (boundAt open′ (lookFrom s open′ bound p)))
       (ap (λ (bs : List Binding). lookUp s bs p) (sym read) ∙ look-agrees s own (length ds) p)
 
   -- o: where nothing is found
   as-found : (o : Option Namespace) (p : List ℕ) → o ≡ cond (eqb (length p) 0) (some nothing) none → (a b : ℕ)
-      → ofBinding o (orElse (boundAt own a) (boundAt open′ b)) ≡ namespaceIn own open′ (cond (eqb a 0) (foundOpen p b) (found.Own (a - 1)))
+      → ofBinding o (orOuter (boundAt own a) (boundAt open′ b)) ≡ namespaceIn own open′ (cond (eqb a 0) (foundOpen p b) (found.Own (a - 1)))
   as-found o p e zero zero = e ∙ cases (eqb (length p) 0)
     where
       cases : (t : Bool) → cond t (some nothing) none ≡ namespaceIn own open′ (cond t found.Nothing found.Unbound)

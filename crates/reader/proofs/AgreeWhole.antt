@@ -19,8 +19,8 @@ use Rattle.lexer.specs.declared.Name.{Name}
 use Rattle.lexer.specs.declared.Attr.{Attr}
 use Rattle.lexer.specs.Attrs.{attrIn, attrsIn}
 use Rattle.reader.specs.Spans.{kindOf}
-use Rattle.reader.specs.Namespaces.{declaredBy, declarationsOf, refusedBinding, ofElement, Attribute, attribute, before, resolvedBy, resolved, sameName, sameExpanded, Meaning, refused, meant, meantBy, meaningOf}
-use Rattle.reader.specs.Stored.{atMost, bindingsIn, laidBindings, fitting, foundElement, foundBy, foundAttribute, codeOf, foundIn, spaceOf, codeThen, codesOf, isDeclaration, Coded, coded, clashes, twiceIn, isUnbound, meantOf, codesAfter}
+use Rattle.reader.specs.Namespaces.{declaredBy, declarationsOf, refusedBinding, ofElement, ReadAttribute, attribute, before, resolvedBy, resolved, sameName, sameExpanded, Meaning, refused, meant, meantBy, meaningOf}
+use Rattle.reader.specs.Stored.{atMost, bindingsIn, laidBindings, fitting, foundElement, foundBy, foundAttribute, codeOf, foundIn, storedSpace, codeThen, codesOf, isDeclaration, Coded, coded, clashes, twiceIn, isUnbound, meantOf, codesAfter}
 use Rattle.reader.specs.declared.Binding.{Binding}
 use Rattle.reader.specs.declared.Kind.{Kind}
 use Rattle.reader.specs.declared.Kind.the-variants.{Plain, Prefixed, Default, Declares}
@@ -38,9 +38,9 @@ use Rattle.reader.proofs.Pairs.{keptOf, pair-or, pair-kept}
 use Rattle.reader.proofs.Agree.{Named, namespaceIn, ofKind, element-agrees, attribute-agrees}
 
 -- the attributes of a tag that are no declarations, each with the namespace that its number stands for
-abbrev pub attributesIn : List ℕ → List ℕ → List ℕ → List Coded → List Attribute
+abbrev pub attributesIn : List ℕ → List ℕ → List ℕ → List Coded → List ReadAttribute
 attributesIn s own open′ l =
-    gather (keptOf (λ (c : Coded). isDeclaration (kindOf s (c .attr .name))) (λ (c : Coded). attribute (c .attr) (spaceOf own open′ (foundIn (c .code))))) l
+    gather (keptOf (λ (c : Coded). isDeclaration (kindOf s (c .attr .name))) (λ (c : Coded). attribute (c .attr) (storedSpace own open′ (foundIn (c .code))))) l
 
 -- ---- number 6
 any-coded : (q : Attr → Bool) (l : List Attr) (cs : List ℕ) → any (λ (c : Coded). q (c .attr)) (coded l cs) ≡ any q l
@@ -70,8 +70,8 @@ twice-agrees s own open′ l cs =
     declares : Coded → Bool
     declares c = isDeclaration (kindOf s (c .attr .name))
 
-    made : Coded → Attribute
-    made c = attribute (c .attr) (spaceOf own open′ (foundIn (c .code)))
+    made : Coded → ReadAttribute
+    made c = attribute (c .attr) (storedSpace own open′ (foundIn (c .code)))
 
     expanded : Coded → Coded → Bool
     expanded c d = not (declares c) && (not (declares d) && sameExpanded s (made c) (made d))
@@ -95,7 +95,7 @@ declares-nothing s own owned open′ bound n = cases (kindOf s n)
     cases Default e = refl
     cases Declares e = refl
 
-by-kind : (s : List ℕ) (bs : List Binding) (k : Kind) (a : Attr) (rest : Option (List Attribute))
+by-kind : (s : List ℕ) (bs : List Binding) (k : Kind) (a : Attr) (rest : Option (List ReadAttribute))
     → resolvedBy s bs k a rest ≡ cond (isDeclaration k) rest (before a (ofKind s bs k (a .name)) rest)
 by-kind s bs Plain a rest = refl
 by-kind s bs Prefixed a rest = refl
@@ -109,13 +109,13 @@ module _ (s own open′ : List ℕ) (ds : List Binding) (bound : ℕ) (read : bi
   abbrev codes : List Attr → List ℕ
   codes l = codesOf s own (length ds) open′ bound l
 
-  abbrev seen : List Attr → Option (List Attribute)
+  abbrev seen : List Attr → Option (List ReadAttribute)
   seen l = cond (ltb (length (codes l)) (length l)) none (some (attributesIn s own open′ (coded l (codes l))))
 
   -- an attribute's turn: d, whether it is a declaration; t, whether one behind it is unbound
-  turn : (a : Attr) (f : Found) (d t : Bool) (as′ : List Attribute) → isUnbound f ≡ false → foundIn (codeOf f) ≡ f
+  turn : (a : Attr) (f : Found) (d t : Bool) (as′ : List ReadAttribute) → isUnbound f ≡ false → foundIn (codeOf f) ≡ f
       → cond d (cond t none (some as′)) (before a (namespaceIn own open′ f) (cond t none (some as′)))
-      ≡ cond t none (some (cond d [] (attribute a (spaceOf own open′ (foundIn (codeOf f))) ∷ []) ++ as′))
+      ≡ cond t none (some (cond d [] (attribute a (storedSpace own open′ (foundIn (codeOf f))) ∷ []) ++ as′))
   turn a f true true as′ b e = refl
   turn a f true false as′ b e = refl
   turn a f false true as′ b e = rw b
@@ -147,14 +147,14 @@ module _ (s own open′ : List ℕ) (ds : List Binding) (bound : ℕ) (read : bi
   resolved-agrees [] h = refl
   resolved-agrees (a ∷ l) h =
       by-kind s all-of (kindOf s (a .name)) a (resolved s all-of l)
-      ∙ ap (λ (o : Option (List Attribute)). cond (isDeclaration (kindOf s (a .name))) o (before a (ofKind s all-of (kindOf s (a .name)) (a .name)) o)) (resolved-agrees l (h .1))
+      ∙ ap (λ (o : Option (List ReadAttribute)). cond (isDeclaration (kindOf s (a .name))) o (before a (ofKind s all-of (kindOf s (a .name)) (a .name)) o)) (resolved-agrees l (h .1))
       ∙ ap (λ (o : Option _). cond (isDeclaration (kindOf s (a .name))) (seen l) (before a o (seen l))) (attribute-agrees s own open′ ds bound read few room (a .name) (h .0))
       ∙ turn-of a l (foundAttribute s own (length ds) open′ bound (a .name)) (attribute-in-range s own (length ds) open′ bound (a .name)) (declares-nothing s own (length ds) open′ bound (a .name))
 
 -- ---- the tag
 -- what the code's answer says, with the arrays that it leaves
-abbrev pub asMeaning : List ℕ → List ℕ → List Attribute → List Binding → Meant → Meaning
-asMeaning own open′ as′ ds (told.Element f owned) = meant (spaceOf own open′ f) as′ ds
+abbrev pub asMeaning : List ℕ → List ℕ → List ReadAttribute → List Binding → Meant → Meaning
+asMeaning own open′ as′ ds (told.Element f owned) = meant (storedSpace own open′ f) as′ ds
 asMeaning own open′ as′ ds told.Undeclared = refused 5
 asMeaning own open′ as′ ds told.Twice = refused 6
 
@@ -169,14 +169,14 @@ unfolding attrsIn
 attrs-few array count = omega (arith, tab-long (attrIn array) 0 (atMost 16 count), at-most-le 16 count (atMost 16 count) refl)
 
 -- by the code's three tests: u, the element's prefix is unbound; t, an attribute's is; w, two attributes clash
-by-tests : (s : List ℕ) (attrs : List Attr) (own open′ : List ℕ) (ds : List Binding) (owned : ℕ) (f : Found) (seen as′ : List Attribute) (u t w : Bool)
+by-tests : (s : List ℕ) (attrs : List Attr) (own open′ : List ℕ) (ds : List Binding) (owned : ℕ) (f : Found) (seen as′ : List ReadAttribute) (u t w : Bool)
     → w ≡ (anyPair (sameName s) attrs || anyPair (sameExpanded s) seen) → (u ≡ false → t ≡ false → seen ≡ as′)
-    → meantBy s attrs ds (cond u none (some (spaceOf own open′ f))) (cond t none (some seen))
+    → meantBy s attrs ds (cond u none (some (storedSpace own open′ f))) (cond t none (some seen))
     ≡ asMeaning own open′ as′ ds (cond u told.Undeclared (cond t told.Undeclared (cond w told.Twice (told.Element f owned))))
 by-tests s attrs own open′ ds owned f seen as′ true t w e h = refl
 by-tests s attrs own open′ ds owned f seen as′ false true w e h = refl
 by-tests s attrs own open′ ds owned f seen as′ false false true e h = rw (← e)
-by-tests s attrs own open′ ds owned f seen as′ false false false e h = rw (← e) (ap (λ (l : List Attribute). meant (spaceOf own open′ f) l ds) (h refl refl))
+by-tests s attrs own open′ ds owned f seen as′ false false false e h = rw (← e) (ap (λ (l : List ReadAttribute). meant (storedSpace own open′ f) l ds) (h refl refl))
 
 module _ (s own open′ spaces : List ℕ) (bound : ℕ) (n : Name) (attrs : List Attr)
     (few : length attrs ≤ 16) (room : bound ≤ 64) (small : All Small (declarationsOf s attrs)) (name : Named s n) (names : All (λ (a : Attr). Named s (a .name)) attrs) where

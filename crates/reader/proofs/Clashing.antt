@@ -14,7 +14,7 @@ use Rattle.lexer.specs.Attrs.{attrIn, attrsIn}
 use Rattle.lexer.specs.declared.Attr.{Attr}
 use Rattle.reader.specs.Spans.{bytesOf, wholeSpan, partSpan, kindOf}
 use Rattle.reader.specs.Namespaces.{sameNamespace}
-use Rattle.reader.specs.Stored.{atMost, foundIn, spaceOf, isDeclaration, Coded, coded, clashes}
+use Rattle.reader.specs.Stored.{atMost, foundIn, storedSpace, isDeclaration, Coded, coded, clashes}
 use Rattle.reader.specs.declared.Found.{Found}
 use Rattle.reader.proofs.Any.{any-out, any-here, pair-out, pair-here}
 use Rattle.reader.proofs.Indexed.{tab-long, tab-at}
@@ -29,7 +29,7 @@ module _ (s own open′ : List ℕ) (a : Attr) (x : ℕ) (b : Attr) (y : ℕ) (t
       (ew : w ≡ sameList (bytesOf s (partSpan (a .name))) (bytesOf s (partSpan (b .name)))) where
     pub clash-apart : (u || v || not w) ≡ true → false ≡ clashes s own open′ (record { attr = a; code = x }) (record { attr = b; code = y })
     unfolding clashes
-    clash-apart q = rw (← et, h, ← eu, ← ev, ← ew) (cases u v w (sameNamespace s (spaceOf own open′ (foundIn x)) (spaceOf own open′ (foundIn y))) q)
+    clash-apart q = rw (← et, h, ← eu, ← ev, ← ew) (cases u v w (sameNamespace s (storedSpace own open′ (foundIn x)) (storedSpace own open′ (foundIn y))) q)
       where
         cases : (u v w z : Bool) → (u || v || not w) ≡ true → false ≡ (not u && (not v && (z && w)))
         cases true v w z q = refl
@@ -38,7 +38,7 @@ module _ (s own open′ : List ℕ) (a : Attr) (x : ℕ) (b : Attr) (y : ℕ) (t
         cases false false true z q = absurd (let k : _≡_ {A = ℕ} 0 1 = cc in omega arith)
 
     pub clash-space : (u || v || not w) ≡ false → (f g : Found) → f ≡ foundIn x → g ≡ foundIn y → (r : Bool)
-        → r ≡ sameNamespace s (spaceOf own open′ f) (spaceOf own open′ g)
+        → r ≡ sameNamespace s (storedSpace own open′ f) (storedSpace own open′ g)
         → r ≡ clashes s own open′ (record { attr = a; code = x }) (record { attr = b; code = y })
     unfolding clashes
     clash-space q f g ef eg r e = rw (← et, h, ← eu, ← ev, ← ew, ← ef, ← eg, ← e) (cases u v w q)

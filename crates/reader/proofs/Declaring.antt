@@ -12,7 +12,7 @@ use Rattle.lexer.specs.declared.Attr.{Attr}
 use Rattle.lexer.specs.Attrs.{attrIn, attrsIn}
 use Rattle.reader.specs.Spans.{kindOf}
 use Rattle.reader.specs.Namespaces.{declaredBy, declarationsOf, refusedBinding}
-use Rattle.reader.specs.Stored.{atMost, numbersOf, laidBindings, fitting, declaredOf}
+use Rattle.reader.specs.Stored.{atMost, bindingNumbers, laidBindings, fitting, declaredOf}
 use Rattle.reader.specs.declared.Binding.{Binding}
 use Rattle.reader.specs.declared.Kind.{Kind}
 use Rattle.reader.specs.declared.Kind.the-variants.{Plain, Prefixed, Default, Declares}
@@ -76,10 +76,10 @@ module _ (s array : List ℕ) (most : ℕ) (attrs : List Attr) (own₀ : List �
         ∙ d .left
 
     -- the array with this attribute's behind what is held
-    laid-one : (l : List ℕ) → l ≡ overwrite own (4 * n) (gather numbersOf (fitting s one)) → l ≡ laidBindings (d .held ++ fitting s one) own₀
+    laid-one : (l : List ℕ) → l ≡ overwrite own (4 * n) (gather bindingNumbers (fitting s one)) → l ≡ laidBindings (d .held ++ fitting s one) own₀
     laid-one l e =
-        e ∙ ap (λ (r : List ℕ). overwrite r (4 * n) (gather numbersOf (fitting s one))) (d .laid)
-        ∙ ap (λ (k : ℕ). overwrite (laidBindings (d .held) own₀) (4 * k) (gather numbersOf (fitting s one))) (sym (d .counted))
+        e ∙ ap (λ (r : List ℕ). overwrite r (4 * n) (gather bindingNumbers (fitting s one))) (d .laid)
+        ∙ ap (λ (k : ℕ). overwrite (laidBindings (d .held) own₀) (4 * k) (gather bindingNumbers (fitting s one))) (sym (d .counted))
         ∙ laid-more own₀ (d .held) (fitting s one)
 
     module _ (h : i < most) (a : Attr) (ea : a ≡ attrIn array i) (r : Declared) (l : List ℕ) (kept : Kept s n own (declaredBy (kindOf s (a .name)) a) r l) where

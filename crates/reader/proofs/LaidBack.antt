@@ -13,7 +13,7 @@ use Rattle.laws.specs.Gather.{gather}
 use Rattle.lexer.specs.declared.Attr.{Attr}
 use Rattle.reader.specs.Spans.{span, partSpan, valueSpan, kindOf}
 use Rattle.reader.specs.Namespaces.{binding, declaredBy, declarationsOf}
-use Rattle.reader.specs.Stored.{bindingIn, bindingsIn, numbersOf, laidBindings}
+use Rattle.reader.specs.Stored.{bindingIn, bindingsIn, bindingNumbers, laidBindings}
 use Rattle.reader.specs.declared.Binding.{Binding}
 use Rattle.reader.specs.declared.Kind.{Kind}
 use Rattle.reader.specs.declared.Kind.the-variants.{Plain, Prefixed, Default, Declares}
@@ -47,7 +47,7 @@ small-declared s (a ∷ attrs) h = each-append Small (declaredBy (kindOf s (a .n
         (record { prefix-at = h .0 .part; prefix-len = omega (arith, h .0 .end); uri-at = h .0 .value; uri-len = omega (arith, h .0 .stop) }, tt)
 
 -- the i-th binding, behind i others
-read-one : (pre : List ℕ) (b : Binding) (post : List ℕ) (i : ℕ) → length pre ≡ 4 * i → Small b → bindingIn (pre ++ (numbersOf b ++ post)) i ≡ b
+read-one : (pre : List ℕ) (b : Binding) (post : List ℕ) (i : ℕ) → length pre ≡ 4 * i → Small b → bindingIn (pre ++ (bindingNumbers b ++ post)) i ≡ b
 unfolding bindingIn
 read-one pre b post i e p =
     rw (
@@ -61,19 +61,19 @@ read-one pre b post i e p =
       mod-eq-of-lt {n = b .uri .len} {m = 2 ^ 32} (p .uri-len),
     )
   where
-    at : (j k : ℕ) → k ≡ length pre + j → getD (pre ++ (numbersOf b ++ post)) k 0 ≡ getD (numbersOf b ++ post) j 0
-    at j k q = ap (λ (n : ℕ). getD (pre ++ (numbersOf b ++ post)) n 0) q ∙ getD-append-add pre (numbersOf b ++ post) j 0
+    at : (j k : ℕ) → k ≡ length pre + j → getD (pre ++ (bindingNumbers b ++ post)) k 0 ≡ getD (bindingNumbers b ++ post) j 0
+    at j k q = ap (λ (n : ℕ). getD (pre ++ (bindingNumbers b ++ post)) n 0) q ∙ getD-append-add pre (bindingNumbers b ++ post) j 0
 
 read-all : (bs : List Binding) (pre post : List ℕ) (i : ℕ) → length pre ≡ 4 * i → All Small bs
-    → tabulate (bindingIn (pre ++ (gather numbersOf bs ++ post))) i (length bs) ≡ bs
+    → tabulate (bindingIn (pre ++ (gather bindingNumbers bs ++ post))) i (length bs) ≡ bs
 unfolding tabulate gather
 read-all [] pre post i e h = refl
 read-all (b ∷ bs) pre post i e h =
-    let more : List ℕ = gather numbersOf bs ++ post in
-    let q : length (pre ++ numbersOf b) ≡ 4 * suc i = length-append pre (numbersOf b) ∙ omega arith in
-    ap (λ (x : Binding). x ∷ tabulate (bindingIn (pre ++ (numbersOf b ++ more))) (suc i) (length bs)) (read-one pre b more i e (h .0))
+    let more : List ℕ = gather bindingNumbers bs ++ post in
+    let q : length (pre ++ bindingNumbers b) ≡ 4 * suc i = length-append pre (bindingNumbers b) ∙ omega arith in
+    ap (λ (x : Binding). x ∷ tabulate (bindingIn (pre ++ (bindingNumbers b ++ more))) (suc i) (length bs)) (read-one pre b more i e (h .0))
     ∙ ap (λ (t : List Binding). b ∷ t)
-    (ap (λ (l : List ℕ). tabulate (bindingIn l) (suc i) (length bs)) (sym (append-assoc pre (numbersOf b) more)) ∙ read-all bs (pre ++ numbersOf b) post (suc i) q (h .1))
+    (ap (λ (l : List ℕ). tabulate (bindingIn l) (suc i) (length bs)) (sym (append-assoc pre (bindingNumbers b) more)) ∙ read-all bs (pre ++ bindingNumbers b) post (suc i) q (h .1))
 
 -- what was laid
 pub laid-back : (bs : List Binding) (l : List ℕ) → All Small bs → bindingsIn (laidBindings bs l) (length bs) ≡ bs

@@ -15,7 +15,7 @@ use Rattle.laws.proofs.Gather.{gather-none, gather-append}
 use Rattle.lexer.specs.declared.Attr.{Attr}
 use Rattle.reader.specs.Spans.{kindOf}
 use Rattle.reader.specs.Namespaces.{declaredBy, refusedBinding}
-use Rattle.reader.specs.Stored.{numbersOf, laidBindings, fitting}
+use Rattle.reader.specs.Stored.{bindingNumbers, laidBindings, fitting}
 use Rattle.reader.specs.declared.Binding.{Binding}
 use Rattle.reader.specs.declared.Kind.{Kind}
 use Rattle.reader.specs.declared.Declared.{Declared}
@@ -24,7 +24,7 @@ use Rattle.reader.specs.declared.Declared.the-variants as declares
 module _ (s : List ℕ) (n : ℕ) (own : List ℕ) where
   -- what declaring these behind n others gives, and the array then
   abbrev pub Kept : List Binding → Declared → List ℕ → Type 0
-  Kept ds r l = (r ≡ cond (any (refusedBinding s) ds) declares.Refused (declares.Own (n + length ds))) × (l ≡ overwrite own (4 * n) (gather numbersOf (fitting s ds)))
+  Kept ds r l = (r ≡ cond (any (refusedBinding s) ds) declares.Refused (declares.Own (n + length ds))) × (l ≡ overwrite own (4 * n) (gather bindingNumbers (fitting s ds)))
 
   pub keep-none : Kept [] (declares.Own n) own
   unfolding any gather fitting
@@ -32,13 +32,13 @@ module _ (s : List ℕ) (n : ℕ) (own : List ℕ) where
 
   pub keep-one : (b b′ : Binding) (r : Declared) (l : List ℕ) → b ≡ b′
       → r ≡ cond (refusedBinding s b) declares.Refused (declares.Own (n + 1))
-      → l ≡ cond (refusedBinding s b) own (overwrite own (4 * n) (numbersOf b))
+      → l ≡ cond (refusedBinding s b) own (overwrite own (4 * n) (bindingNumbers b))
       → Kept (b′ ∷ []) r l
   unfolding any gather fitting
   keep-one b b′ r l e p q = subst (λ (x : Binding). Kept (x ∷ []) r l) e (cases (refusedBinding s b) p q)
     where
-      cases : (t : Bool) → r ≡ cond t declares.Refused (declares.Own (n + 1)) → l ≡ cond t own (overwrite own (4 * n) (numbersOf b))
-          → (r ≡ cond (t || false) declares.Refused (declares.Own (n + 1))) × (l ≡ overwrite own (4 * n) (gather numbersOf (cond t [] (b ∷ []))))
+      cases : (t : Bool) → r ≡ cond t declares.Refused (declares.Own (n + 1)) → l ≡ cond t own (overwrite own (4 * n) (bindingNumbers b))
+          → (r ≡ cond (t || false) declares.Refused (declares.Own (n + 1))) × (l ≡ overwrite own (4 * n) (gather bindingNumbers (cond t [] (b ∷ []))))
       cases true p q = (p, q ∙ sym (over-none own (4 * n)))
       cases false p q = (p, q)
 
@@ -72,27 +72,27 @@ module _ (s : List ℕ) where
   unfolding fitting
   fitting-whole xs h = ap (fitting s) (sym (append-nil xs)) ∙ fitting-all xs [] h ∙ append-nil xs
 
-pub four-long : (bs : List Binding) → length (gather numbersOf bs) ≡ 4 * length bs
+pub four-long : (bs : List Binding) → length (gather bindingNumbers bs) ≡ 4 * length bs
 unfolding gather
 four-long [] = refl
 four-long (b ∷ bs) = omega (arith, four-long bs)
 
 -- an array with bindings in front is one that is overwritten there
 module _ (l : List ℕ) where
-  pub laid-over : (bs : List Binding) → laidBindings bs l ≡ overwrite l 0 (gather numbersOf bs)
+  pub laid-over : (bs : List Binding) → laidBindings bs l ≡ overwrite l 0 (gather bindingNumbers bs)
   unfolding laidBindings overwrite
   laid-over bs =
-      let e : 4 * length bs ≡ 0 + length (gather numbersOf bs) = omega (arith, four-long bs) in
-      ap (λ (k : ℕ). gather numbersOf bs ++ drop k l) e
+      let e : 4 * length bs ≡ 0 + length (gather bindingNumbers bs) = omega (arith, four-long bs) in
+      ap (λ (k : ℕ). gather bindingNumbers bs ++ drop k l) e
 
   pub laid-none : laidBindings [] l ≡ l
-  laid-none = laid-over [] ∙ ap (overwrite l 0) (gather-none numbersOf) ∙ over-none l 0
+  laid-none = laid-over [] ∙ ap (overwrite l 0) (gather-none bindingNumbers) ∙ over-none l 0
 
-  pub laid-more : (xs ys : List Binding) → overwrite (laidBindings xs l) (4 * length xs) (gather numbersOf ys) ≡ laidBindings (xs ++ ys) l
+  pub laid-more : (xs ys : List Binding) → overwrite (laidBindings xs l) (4 * length xs) (gather bindingNumbers ys) ≡ laidBindings (xs ++ ys) l
   laid-more xs ys =
-      let e : 4 * length xs ≡ 0 + length (gather numbersOf xs) = omega (arith, four-long xs) in
-      ap (λ (k : ℕ). overwrite (laidBindings xs l) k (gather numbersOf ys)) e
-      ∙ ap (λ (r : List ℕ). overwrite r (0 + length (gather numbersOf xs)) (gather numbersOf ys)) (laid-over xs)
-      ∙ over-over l 0 (gather numbersOf xs) (gather numbersOf ys) (omega arith)
-      ∙ ap (overwrite l 0) (sym (gather-append numbersOf xs ys))
+      let e : 4 * length xs ≡ 0 + length (gather bindingNumbers xs) = omega (arith, four-long xs) in
+      ap (λ (k : ℕ). overwrite (laidBindings xs l) k (gather bindingNumbers ys)) e
+      ∙ ap (λ (r : List ℕ). overwrite r (0 + length (gather bindingNumbers xs)) (gather bindingNumbers ys)) (laid-over xs)
+      ∙ over-over l 0 (gather bindingNumbers xs) (gather bindingNumbers ys) (omega arith)
+      ∙ ap (overwrite l 0) (sym (gather-append bindingNumbers xs ys))
       ∙ sym (laid-over (xs ++ ys))

@@ -14,7 +14,7 @@ use Rattle.lexer.specs.declared.Name.{Name}
 use Rattle.lexer.specs.declared.Attr.{Attr}
 use Rattle.lexer.proofs.Inside.{NameInside, AttrBehind}
 use Rattle.reader.specs.Spans.{bytesOf, wholeSpan, prefixSpan, kindOf}
-use Rattle.reader.specs.Namespaces.{declaredBy, declarationsOf, refusedBinding, lookUp, Namespace, nothing, xml, declared, uriOf, sameNamespace, ofPrefix, ofElement, Attribute, before, resolvedBy, resolved, sameName, sameExpanded, refused, meantBy, meaningOf}
+use Rattle.reader.specs.Namespaces.{declaredBy, declarationsOf, refusedBinding, lookUp, Namespace, nothing, xml, declared, uriOf, sameNamespace, ofPrefix, ofElement, ReadAttribute, before, resolvedBy, resolved, sameName, sameExpanded, refused, meantBy, meaningOf}
 use Rattle.reader.specs.Events.{Open, ReaderState, partOf}
 use Rattle.reader.specs.Held.{SpanHeld, BindingIn, BindingHeld, OpenHeld, Held}
 use Rattle.reader.specs.declared.Span.{Span}
@@ -60,7 +60,7 @@ module _ (s t : List ℕ) where
       let j = k .1 .name in
       ap₂ sameList (bytes-more (wholeSpan (a .name)) (omega arith)) (bytes-more (wholeSpan (b .name)) (omega arith))
 
-  pub sameExpanded-more : (a b : Attribute) → AttributeHeld s a → AttributeHeld s b → sameExpanded (s ++ t) a b ≡ sameExpanded s a b
+  pub sameExpanded-more : (a b : ReadAttribute) → AttributeHeld s a → AttributeHeld s b → sameExpanded (s ++ t) a b ≡ sameExpanded s a b
   sameExpanded-more a b h k =
       ap₂ _&&_ (sameNamespace-more (a .namespace) (b .namespace) (h .namespace) (k .namespace)) (ap₂ sameList (bytes-more (a .part) (h .part)) (bytes-more (b .part) (k .part)))
 
@@ -82,7 +82,7 @@ module _ (s t : List ℕ) where
     unfolding resolved
     resolved-more at [] h = refl
     resolved-more at (a ∷ as′) h =
-        ap₂ (λ (k : Kind) (r : Option (List Attribute)). resolvedBy (s ++ t) bs k a r) (kind-more (a .name .at) (a .name) (h .0 .1 .name)) (resolved-more at as′ (h .1))
+        ap₂ (λ (k : Kind) (r : Option (List ReadAttribute)). resolvedBy (s ++ t) bs k a r) (kind-more (a .name .at) (a .name) (h .0 .1 .name)) (resolved-more at as′ (h .1))
         ∙ by (kindOf s (a .name))
       where
         by : (k : Kind) → resolvedBy (s ++ t) bs k a (resolved s bs as′) ≡ resolvedBy s bs k a (resolved s bs as′)
@@ -105,7 +105,7 @@ module _ (s t : List ℕ) where
       all : All (BindingIn s) (bs ++ own)
       all = each-append (BindingIn s) bs own in-s (declarations-in s at attrs h)
 
-      same : (o : Option Namespace) (r : Option (List Attribute)) → OnSome (All (AttributeHeld s)) r → meantBy (s ++ t) attrs own o r ≡ meantBy s attrs own o r
+      same : (o : Option Namespace) (r : Option (List ReadAttribute)) → OnSome (All (AttributeHeld s)) r → meantBy (s ++ t) attrs own o r ≡ meantBy s attrs own o r
       same none r k = refl
       same (some m) none k = refl
       same (some m) (some as′) k =

@@ -20,7 +20,7 @@ use Rattle.lexer.specs.declared.Attr.{Attr}
 use Rattle.lexer.proofs.Inside.{AttrBehind}
 use Rattle.lexer.proofs.WholeNames.{whole-part}
 use Rattle.reader.specs.Spans.{bytesOf, prefixSpan, hasPrefix, xmlPrefix, xmlnsPrefix, kindOf}
-use Rattle.reader.specs.Namespaces.{declaredBy, declarationsOf, refusedBinding, orElse, lookUp, Namespace, nothing, xml, declared, ofBinding, ofPrefix, ofElement, Attribute, before, resolvedBy, resolved, sameName, sameExpanded, Meaning, refused, meant, meantBy, meaningOf}
+use Rattle.reader.specs.Namespaces.{declaredBy, declarationsOf, refusedBinding, orOuter, lookUp, Namespace, nothing, xml, declared, ofBinding, ofPrefix, ofElement, ReadAttribute, before, resolvedBy, resolved, sameName, sameExpanded, Meaning, refused, meant, meantBy, meaningOf}
 use Rattle.reader.specs.Held.{SpanHeld, BindingIn, BindingHeld}
 use Rattle.reader.specs.declared.Binding.{Binding}
 use Rattle.reader.specs.declared.Kind.{Kind}
@@ -35,7 +35,7 @@ NamespaceHeld s nothing = Unit
 NamespaceHeld s xml = Unit
 NamespaceHeld s (declared w) = SpanHeld s w
 
-pub record AttributeHeld (s : List ℕ) (a : Attribute) : Type 0 where
+pub record AttributeHeld (s : List ℕ) (a : ReadAttribute) : Type 0 where
   pub part : SpanHeld s (a .part)
   pub value : SpanHeld s (a .value)
   pub namespace : NamespaceHeld s (a .namespace)
@@ -65,7 +65,7 @@ module _ (s : List ℕ) where
   look-held P [] prefix h = tt
   look-held P (b ∷ bs) prefix h = either (lookUp s bs prefix) (look-held P bs prefix (h .1))
     where
-      either : (o : Option Binding) → OnSome P o → OnSome P (orElse o (cond (sameList (bytesOf s (b .prefix)) prefix) (some b) none))
+      either : (o : Option Binding) → OnSome P o → OnSome P (orOuter o (cond (sameList (bytesOf s (b .prefix)) prefix) (some b) none))
       either none k = holds-cond (OnSome P) (sameList (bytesOf s (b .prefix)) prefix) (λ e. h .0) (λ e. tt)
       either (some c) k = k
 
@@ -87,7 +87,7 @@ module _ (s : List ℕ) where
         (λ e. holds-cond (OnSome (NamespaceHeld s)) (sameList (bytesOf s (prefixSpan n)) xmlnsPrefix) (λ q. tt) (λ q. prefix-held (bytesOf s (prefixSpan n))))
         (λ e. bound-held (some nothing) tt (lookUp s bs []) (look-held (BindingIn s) bs [] in-s))
 
-    before-held : (at : ℕ) (a : Attr) → AttrBehind s at a → (n : Option Namespace) → OnSome (NamespaceHeld s) n → (rest : Option (List Attribute)) → OnSome (All (AttributeHeld s)) rest → OnSome (All (AttributeHeld s)) (before a n rest)
+    before-held : (at : ℕ) (a : Attr) → AttrBehind s at a → (n : Option Namespace) → OnSome (NamespaceHeld s) n → (rest : Option (List ReadAttribute)) → OnSome (All (AttributeHeld s)) rest → OnSome (All (AttributeHeld s)) (before a n rest)
     before-held at a h none k rest r = tt
     before-held at a h (some n) k none r = tt
     before-held at a h (some n) k (some as′) r =
@@ -118,7 +118,7 @@ module _ (s : List ℕ) where
       all : All (BindingIn s) (bs ++ own)
       all = each-append (BindingIn s) bs own in-s (declarations-in at attrs h)
 
-      meant-held : any (refusedBinding s) own ≡ false → (o : Option Namespace) → OnSome (NamespaceHeld s) o → (r : Option (List Attribute)) → OnSome (All (AttributeHeld s)) r → MeaningHeld s (meantBy s attrs own o r)
+      meant-held : any (refusedBinding s) own ≡ false → (o : Option Namespace) → OnSome (NamespaceHeld s) o → (r : Option (List ReadAttribute)) → OnSome (All (AttributeHeld s)) r → MeaningHeld s (meantBy s attrs own o r)
       meant-held e none k r j = inl refl
       meant-held e (some m) k none j = inl refl
       meant-held e (some m) k (some as′) j =

@@ -5,7 +5,7 @@ use mathlib.Core.Bool.{Bool, true, false, cond, not}
 use lib.ListN.{length}
 use lib.Dec.{eqb}
 use Rattle.laws.specs.Lists.{sameList}
-use Rattle.lexer.specs.Stops.{numberOf, placeOf}
+use Rattle.lexer.specs.Stops.{numberOf, stopPlace}
 use Rattle.lexer.specs.Values.{textEnd}
 use Rattle.lexer.specs.Tags.{TagRead, tagAt, endTagAt, beginAt}
 use Rattle.lexer.specs.declared.Stop.{Stop}
@@ -21,7 +21,7 @@ use Rattle.lexer.specs.declared.Ended.the-variants as ended
 use Rattle.lexer.specs.declared.Begin.{Begin}
 use Rattle.lexer.specs.declared.Begin.the-variants as begin
 use Rattle.reader.specs.Spans.{span, between, bytesOf, wholeSpan, partSpan}
-use Rattle.reader.specs.Namespaces.{Namespace, Attribute, Meaning, refused, meant, meaningOf}
+use Rattle.reader.specs.Namespaces.{Namespace, ReadAttribute, Meaning, refused, meant, meaningOf}
 use Rattle.reader.specs.declared.Span.{Span}
 use Rattle.reader.specs.declared.Binding.{Binding}
 
@@ -31,7 +31,7 @@ pub record Start : Type 0 where
   pub name : Span
   pub part : Span
   pub namespace : Namespace
-  pub attributes : List Attribute
+  pub attributes : List ReadAttribute
   pub empty : Bool
 
 -- "Events: start, text, end". An end has its name's part and the < of its tag (of the start's tag for />)
@@ -68,7 +68,7 @@ pub data Next : Type 0 where
   finished : ℕ → Next
 
 abbrev pub stopped : List ℕ → Stop → Next
-stopped s x = refusal (numberOf x) (placeOf s x)
+stopped s x = refusal (numberOf x) (stopPlace s x)
 
 -- how many bytes stand up to and with the first colon; 0 where there is none
 unfoldable pub colonEnd : ℕ → List ℕ → ℕ

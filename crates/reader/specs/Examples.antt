@@ -6,7 +6,7 @@ use mathlib.Core.Bool.{true, false}
 use lib.ListN.{replicate}
 use Rattle.laws.specs.Text.{bytes}
 use Rattle.reader.specs.Spans.{span}
-use Rattle.reader.specs.Namespaces.{Namespace, nothing, xml, declared, Attribute, sameNamespace, binding}
+use Rattle.reader.specs.Namespaces.{Namespace, nothing, xml, declared, ReadAttribute, sameNamespace, binding}
 use Rattle.reader.specs.Events.{Event, start, text, end, Next, event, refusal, finished, freshReader, next, events, lastOf}
 use Rattle.reader.specs.Computing.{computing}
 
@@ -253,7 +253,7 @@ xmlns-element = refl
 
 -- what a start tells of namespaces: the element's, and those of its attributes
 abbrev spacesOf : Event → List Namespace
-spacesOf (start e) = e .namespace ∷ map (λ (a : Attribute). a .namespace) (e .attributes)
+spacesOf (start e) = e .namespace ∷ map (λ (a : ReadAttribute). a .namespace) (e .attributes)
 spacesOf (text w) = []
 spacesOf (end w at) = []
 

@@ -39,15 +39,15 @@ refusedBinding s b =
     || (sameList uri xmlUri || sameList uri xmlnsUri || any (λ (b : ℕ). eqb b 0x26) uri)
 
 -- the first that is there
-abbrev pub orElse : Option Binding → Option Binding → Option Binding
-orElse none other = other
-orElse (some b) other = some b
+abbrev pub orOuter : Option Binding → Option Binding → Option Binding
+orOuter none other = other
+orOuter (some b) other = some b
 
 -- "A prefix is looked up in the innermost declaration first, then outward; a tag's own declarations count." The bindings stand outermost
 -- first, so the last that fits is taken; the default's prefix is empty
 unfoldable pub lookUp : List ℕ → List Binding → List ℕ → Option Binding
 lookUp s [] prefix = none
-lookUp s (b ∷ bs) prefix = orElse (lookUp s bs prefix) (cond (sameList (bytesOf s (b .prefix)) prefix) (some b) none)
+lookUp s (b ∷ bs) prefix = orOuter (lookUp s bs prefix) (cond (sameList (bytesOf s (b .prefix)) prefix) (some b) none)
 
 -- A namespace: none, that of prefix xml, or the value of the declaration in force
 pub data Namespace : Type 0 where
@@ -80,29 +80,29 @@ ofElement s bs n =
     (ofBinding (some nothing) (lookUp s bs []))
 
 -- An attribute that is no declaration
-pub record Attribute : Type 0 where
+pub record ReadAttribute : Type 0 where
   pub part : Span
   pub value : Span
   pub namespace : Namespace
 
-abbrev pub attribute : Attr → Namespace → Attribute
+abbrev pub attribute : Attr → Namespace → ReadAttribute
 attribute a n = record { part = partSpan (a .name); value = valueSpan a; namespace = n }
 
 -- an attribute before those that follow; none where a prefix is unbound
-abbrev pub before : Attr → Option Namespace → Option (List Attribute) → Option (List Attribute)
+abbrev pub before : Attr → Option Namespace → Option (List ReadAttribute) → Option (List ReadAttribute)
 before a none rest = none
 before a (some n) none = none
 before a (some n) (some as′) = some (attribute a n ∷ as′)
 
 -- "The default does not apply to attributes"
-abbrev pub resolvedBy : List ℕ → List Binding → Kind → Attr → Option (List Attribute) → Option (List Attribute)
+abbrev pub resolvedBy : List ℕ → List Binding → Kind → Attr → Option (List ReadAttribute) → Option (List ReadAttribute)
 resolvedBy s bs Plain a rest = before a (some nothing) rest
 resolvedBy s bs Prefixed a rest = before a (ofPrefix s bs (bytesOf s (prefixSpan (a .name)))) rest
 resolvedBy s bs Default a rest = rest
 resolvedBy s bs Declares a rest = rest
 
 -- the attributes in tag order, declarations left out; none where a prefix is unbound
-unfoldable pub resolved : List ℕ → List Binding → List Attr → Option (List Attribute)
+unfoldable pub resolved : List ℕ → List Binding → List Attr → Option (List ReadAttribute)
 resolved s bs [] = some []
 resolved s bs (a ∷ as′) = resolvedBy s bs (kindOf s (a .name)) a (resolved s bs as′)
 
@@ -111,18 +111,18 @@ abbrev pub sameName : List ℕ → Attr → Attr → Bool
 sameName s a b = sameList (bytesOf s (wholeSpan (a .name))) (bytesOf s (wholeSpan (b .name)))
 
 -- "or of one namespace and part"
-abbrev pub sameExpanded : List ℕ → Attribute → Attribute → Bool
+abbrev pub sameExpanded : List ℕ → ReadAttribute → ReadAttribute → Bool
 sameExpanded s a b = sameNamespace s (a .namespace) (b .namespace) && sameList (bytesOf s (a .part)) (bytesOf s (b .part))
 
 -- What a tag means: number 5 or 6, or the element's namespace, its attributes and its declarations
 pub data Meaning : Type 0 where
   refused : ℕ → Meaning
-  meant : Namespace → List Attribute → List Binding → Meaning
+  meant : Namespace → List ReadAttribute → List Binding → Meaning
 
-abbrev pub checkTwice : List ℕ → List Attr → Namespace → List Binding → List Attribute → Meaning
+abbrev pub checkTwice : List ℕ → List Attr → Namespace → List Binding → List ReadAttribute → Meaning
 checkTwice s attrs n own as′ = cond (anyPair (sameName s) attrs || anyPair (sameExpanded s) as′) (refused 6) (meant n as′ own)
 
-abbrev pub meantBy : List ℕ → List Attr → List Binding → Option Namespace → Option (List Attribute) → Meaning
+abbrev pub meantBy : List ℕ → List Attr → List Binding → Option Namespace → Option (List ReadAttribute) → Meaning
 meantBy s attrs own none rest = refused 5
 meantBy s attrs own (some n) none = refused 5
 meantBy s attrs own (some n) (some as′) = checkTwice s attrs n own as′

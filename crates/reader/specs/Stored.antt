@@ -37,12 +37,12 @@ bindingsIn l n = tabulate (bindingIn l) 0 n
 abbrev pub narrowed : ℕ → ℕ
 narrowed n = n % 2 ^ 32
 
-abbrev pub numbersOf : Binding → List ℕ
-numbersOf b = narrowed (b .prefix .at) ∷ narrowed (b .prefix .len) ∷ narrowed (b .uri .at) ∷ narrowed (b .uri .len) ∷ []
+abbrev pub bindingNumbers : Binding → List ℕ
+bindingNumbers b = narrowed (b .prefix .at) ∷ narrowed (b .prefix .len) ∷ narrowed (b .uri .at) ∷ narrowed (b .uri .len) ∷ []
 
 -- an array with these bindings from its first place on, and what it held behind them
 unfoldable pub laidBindings : List Binding → List ℕ → List ℕ
-laidBindings bs l = gather numbersOf bs ++ drop (4 * length bs) l
+laidBindings bs l = gather bindingNumbers bs ++ drop (4 * length bs) l
 
 -- the declarations before the first that 5 refuses
 unfoldable pub fitting : List ℕ → List Binding → List Binding
@@ -98,12 +98,12 @@ abbrev pub foundIn : ℕ → Found
 foundIn n = cond (eqb n 0) found.Nothing (cond (eqb n 1) found.Xml (cond (ltb n 18) (found.Own (n - 2)) (found.Open (n - 18))))
 
 -- the namespace that was found
-abbrev pub spaceOf : List ℕ → List ℕ → Found → Namespace
-spaceOf own open′ found.Nothing = nothing
-spaceOf own open′ found.Xml = xml
-spaceOf own open′ (found.Own k) = declared (bindingIn own k .uri)
-spaceOf own open′ (found.Open k) = declared (bindingIn open′ k .uri)
-spaceOf own open′ found.Unbound = nothing
+abbrev pub storedSpace : List ℕ → List ℕ → Found → Namespace
+storedSpace own open′ found.Nothing = nothing
+storedSpace own open′ found.Xml = xml
+storedSpace own open′ (found.Own k) = declared (bindingIn own k .uri)
+storedSpace own open′ (found.Open k) = declared (bindingIn open′ k .uri)
+storedSpace own open′ found.Unbound = nothing
 
 abbrev pub codeThen : Found → List ℕ → List ℕ
 codeThen found.Nothing l = 0 ∷ l
@@ -144,7 +144,7 @@ clashes s own open′ a b =
     sameName s (a .attr) (b .attr)
     || not (isDeclaration (kindOf s (a .attr .name)))
     && (not (isDeclaration (kindOf s (b .attr .name)))
-    && (sameNamespace s (spaceOf own open′ (foundIn (a .code))) (spaceOf own open′ (foundIn (b .code)))
+    && (sameNamespace s (storedSpace own open′ (foundIn (a .code))) (storedSpace own open′ (foundIn (b .code)))
     && sameList (bytesOf s (partSpan (a .attr .name))) (bytesOf s (partSpan (b .attr .name)))))
 
 unfoldable pub twiceIn : List ℕ → List ℕ → List ℕ → List Attr → List ℕ → Bool

@@ -19,11 +19,11 @@ ghost use Rattle.laws.specs.Lists.{sameList, any};
 ghost use Rattle.lexer.specs.Attrs.{attrIn, attrsIn};
 ghost use Rattle.reader.specs.Spans.{bytesOf, wholeSpan, partSpan, kindOf};
 ghost use Rattle.reader.specs.Namespaces.{uriOf, sameNamespace};
-ghost use Rattle.reader.specs.Stored.{spaceOf, isDeclaration, coded, clashes, twiceIn};
+ghost use Rattle.reader.specs.Stored.{storedSpace, isDeclaration, coded, clashes, twiceIn};
 
 // Is this the URI of what was found?
 pub fn has_uri(s: &[u8], own: &[u32; 64], outer: &[u32; 256], f: Found, uri: &[u8]) -> bool
-    ensures { λ r. ⌜ r ≡ sameList (uriOf (now (s .entry)) (spaceOf (now (own .entry)) (now (outer .entry)) f)) (now (uri .entry)) ⌝ }
+    ensures { λ r. ⌜ r ≡ sameList (uriOf (now (s .entry)) (storedSpace (now (own .entry)) (now (outer .entry)) f)) (now (uri .entry)) ⌝ }
 {
     match f {
         Found::Nothing => same(b"", uri),
@@ -42,7 +42,7 @@ pub fn has_uri(s: &[u8], own: &[u32; 64], outer: &[u32; 256], f: Found, uri: &[u
 
 // Are the namespaces of what was found equal?
 pub fn same_space(s: &[u8], own: &[u32; 64], outer: &[u32; 256], f: Found, g: Found) -> bool
-    ensures { λ r. ⌜ r ≡ sameNamespace (now (s .entry)) (spaceOf (now (own .entry)) (now (outer .entry)) f) (spaceOf (now (own .entry)) (now (outer .entry)) g) ⌝ }
+    ensures { λ r. ⌜ r ≡ sameNamespace (now (s .entry)) (storedSpace (now (own .entry)) (now (outer .entry)) f) (storedSpace (now (own .entry)) (now (outer .entry)) g) ⌝ }
 {
     match g {
         Found::Nothing => has_uri(s, own, outer, f, b""),

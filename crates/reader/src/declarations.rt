@@ -20,7 +20,7 @@ ghost use Rattle.lexer.specs.Attrs.{attrsIn};
 ghost use Rattle.reader.specs.declared.Declared.the-variants as declares;
 ghost use Rattle.reader.specs.Spans.{between, kindOf};
 ghost use Rattle.reader.specs.Namespaces.{declaredBy, declarationsOf, refusedBinding};
-ghost use Rattle.reader.specs.Stored.{numbersOf, laidBindings, fitting, declaredOf};
+ghost use Rattle.reader.specs.Stored.{bindingNumbers, laidBindings, fitting, declaredOf};
 
 // A number as 32 bits hold it.
 fn narrow(x: usize) -> u32
@@ -32,7 +32,7 @@ fn narrow(x: usize) -> u32
 // The n-th binding's four numbers.
 fn put_binding(own: &mut [u32], n: usize, b: Binding)
     requires { ⌜ 4 * n + 4 ≤ length (now own) ⌝ }
-    ensures { λ _. ⌜ now (own .exit) ≡ overwrite (now (own .entry)) (4 * n) (numbersOf b) ⌝ }
+    ensures { λ _. ⌜ now (own .exit) ≡ overwrite (now (own .entry)) (4 * n) (bindingNumbers b) ⌝ }
 {
     let at = 4 * n;
     own[at] = narrow(b.prefix.at);
@@ -47,7 +47,7 @@ fn keep_binding(s: &[u8], b: Binding, own: &mut [u32], n: usize) -> Declared
     ensures { λ r. ⌜ (
         let refused = refusedBinding (now (s .entry)) b in
         (r ≡ cond refused declares.Refused (declares.Own (n + 1)))
-        × (now (own .exit) ≡ cond refused (now (own .entry)) (overwrite (now (own .entry)) (4 * n) (numbersOf b)))
+        × (now (own .exit) ≡ cond refused (now (own .entry)) (overwrite (now (own .entry)) (4 * n) (bindingNumbers b)))
         ) ⌝ }
 {
     if refused_binding(s, b) {
@@ -74,7 +74,7 @@ fn declare_one(s: &[u8], a: Attr, own: &mut [u32], n: usize) -> Declared
         let t = now (s .entry) in
         let ds = declaredBy (kindOf t (a .name)) a in
         (r ≡ cond (any (refusedBinding t) ds) declares.Refused (declares.Own (n + length ds)))
-        × (now (own .exit) ≡ overwrite (now (own .entry)) (4 * n) (gather numbersOf (fitting t ds)))
+        × (now (own .exit) ≡ overwrite (now (own .entry)) (4 * n) (gather bindingNumbers (fitting t ds)))
         ) ⌝ }
 {
     let name = a.name;

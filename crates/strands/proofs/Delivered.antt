@@ -15,7 +15,7 @@ use Rattle.reader.specs.declared.Span.{Span}
 use Rattle.model.specs.Theory.{Record}
 use Rattle.model.specs.Stream.{textRecords, endRecords, give}
 use Rattle.model.specs.Records.{Body, OpenElement, textBody, endBody, closeBody}
-use Rattle.model.specs.Dispatch.{dispatch, bytesOf}
+use Rattle.model.specs.Dispatch.{dispatch, recordBytesOf}
 use Rattle.model.proofs.Lists.{gather-map}
 use Rattle.records.specs.Rows.{Laid, rowBytes, laidIf, laidRows}
 use Rattle.records.proofs.Laid.{rows-more}
@@ -83,7 +83,7 @@ module _ (t : Table) where
   ends-records κ ε ws = sym (gather-map (endRecords (dispatch t) κ ε) strandIn ws)
 
 -- ---- rows
-pub rows-bytes : (rs : List (Record Body ℕ)) → gather rowBytes (map rowOf rs) ≡ gather bytesOf rs
+pub rows-bytes : (rs : List (Record Body ℕ)) → gather rowBytes (map rowOf rs) ≡ gather recordBytesOf rs
 unfolding rowBytes
 rows-bytes rs = gather-map rowBytes rowOf rs
 

@@ -30,7 +30,7 @@ use Rattle.table.specs.declared.Header.{Header}
 use Rattle.table.specs.declared.Rule.{Rule}
 use Rattle.table.proofs.Indexed.{those, chosen-rules}
 use Rattle.model.specs.Theory.{taken}
-use Rattle.model.specs.Stream.{Entry, allot, newUnits, takeRules, Strand, beforeRoot, stay, byRule}
+use Rattle.model.specs.Stream.{Entry, allot, newUnits, takeRules, HeldStrand, heldBeforeRoot, stay, byRule}
 use Rattle.model.specs.Elements.{Element}
 use Rattle.model.specs.Dispatch.{dispatch}
 use Rattle.strands.specs.Packed.{strandIn, packed}
@@ -53,7 +53,7 @@ target-few w = by (eqb (w / 2 ^ 8 % 2) 1)
     by true = omega arith
     by false = tt
 
-pub root-back : strandIn 32 ≡ beforeRoot
+pub root-back : strandIn 32 ≡ heldBeforeRoot
 unfolding strandIn
 root-back = refl
 
@@ -61,7 +61,7 @@ root-back = refl
 module _ (table : List ℕ) (h : Header) (few : h .rules ≤ 128) where
   module _ (σ : Element) (c : σ .space .class < 256) where
     -- of a strand
-    pub entries-are : (r : Strand ℕ) → r .mode < 32 → entriesBy (indexOf table h) (σ .space .class) r ≡ map (madeBy r) (taken (dispatch (tableOf table h)) (r .mode) σ)
+    pub entries-are : (r : HeldStrand ℕ) → r .mode < 32 → entriesBy (indexOf table h) (σ .space .class) r ≡ map (madeBy r) (taken (dispatch (tableOf table h)) (r .mode) σ)
     unfolding entriesBy
     entries-are r m = ap (λ (rs : List Rule). map (madeBy r) (orElse rs (fallback 0 (r .mode) ∷ []))) (rules-in table h few (r .mode) 0 (σ .space .class) m (omega arith) c)
 
@@ -70,11 +70,11 @@ module _ (table : List ℕ) (h : Header) (few : h .rules ≤ 128) where
     take-rules-are [] = refl
     take-rules-are (w ∷ words) = ap₂ _++_ (entries-are (strandIn w) (mode-few w)) (take-rules-are words)
 
-    pub before-root : entriesBy (indexOf table h) (σ .space .class) (strandIn 32) ≡ takeRules (dispatch (tableOf table h)) σ (beforeRoot ∷ [])
+    pub before-root : entriesBy (indexOf table h) (σ .space .class) (strandIn 32) ≡ takeRules (dispatch (tableOf table h)) σ (heldBeforeRoot ∷ [])
     unfolding gather
-    before-root = ap (entriesBy (indexOf table h) (σ .space .class)) root-back ∙ entries-are beforeRoot (omega arith) ∙ sym (append-nil (map (madeBy beforeRoot) (taken (dispatch (tableOf table h)) 0 σ)))
+    before-root = ap (entriesBy (indexOf table h) (σ .space .class)) root-back ∙ entries-are heldBeforeRoot (omega arith) ∙ sym (append-nil (map (madeBy heldBeforeRoot) (taken (dispatch (tableOf table h)) 0 σ)))
 
-pub stay-are : (words : List ℕ) → map stayEntry words ≡ map (λ (s : Strand ℕ). record { strand = stay s; schema = 0 }) (map strandIn words)
+pub stay-are : (words : List ℕ) → map stayEntry words ≡ map (λ (s : HeldStrand ℕ). record { strand = stay s; schema = 0 }) (map strandIn words)
 stay-are [] = refl
 stay-are (w ∷ words) = ap (λ (es : List Entry). stayEntry w ∷ es) (stay-are words)
 
@@ -103,11 +103,11 @@ taken-small (q ∷ rs) mode a m = a
 
 -- what holds of each entry that a rule makes of a strand holds of all
 module _ (P : Entry → Type 0) (index : List ℕ) (class : ℕ) where
-  all-made : (r : Strand ℕ) → ((q : Rule) → Small q → P (madeBy r q)) → (rs : List Rule) → All Small rs → All P (map (madeBy r) rs)
+  all-made : (r : HeldStrand ℕ) → ((q : Rule) → Small q → P (madeBy r q)) → (rs : List Rule) → All Small rs → All P (map (madeBy r) rs)
   all-made r f [] a = tt
   all-made r f (q ∷ rs) a = (f q (a .0), all-made r f rs (a .1))
 
-  all-by : (r : Strand ℕ) → r .mode < 32 → ((q : Rule) → Small q → P (madeBy r q)) → All P (entriesBy index class r)
+  all-by : (r : HeldStrand ℕ) → r .mode < 32 → ((q : Rule) → Small q → P (madeBy r q)) → All P (entriesBy index class r)
   unfolding entriesBy
   all-by r m f = all-made r f (orElse (rulesIn index (r .mode) 0 class) (fallback 0 (r .mode) ∷ [])) (taken-small (rulesIn index (r .mode) 0 class) (r .mode) (in-small index (r .mode) 0 class) m)
 
@@ -120,7 +120,7 @@ all-stay : (P : Entry → Type 0) → ((w : ℕ) → P (stayEntry w)) → (words
 all-stay P f [] = tt
 all-stay P f (w ∷ words) = (f w, all-stay P f words)
 
-made-unnumbered : (r : Strand ℕ) (q : Rule) → Small q → Unnumbered (madeBy r q)
+made-unnumbered : (r : HeldStrand ℕ) (q : Rule) → Small q → Unnumbered (madeBy r q)
 made-unnumbered r q s = by (q .action)
   where
     by : (a : Action) → (byRule a (q .next) none (r .target) .mode < 32) × (byRule a (q .next) none (r .target) .here ≡ true → byRule a (q .next) none (r .target) .target ≡ none)
@@ -128,7 +128,7 @@ made-unnumbered r q s = by (q .action)
     by Unwrap = (s .0, λ e. absurd (differ (sym e)))
     by Validate = (s .0, λ e. refl)
 
-made-packable : (r : Strand ℕ) → Below 65536 (r .target) → (q : Rule) → Small q → Packable (byRule (q .action) (q .next) none (r .target))
+made-packable : (r : HeldStrand ℕ) → Below 65536 (r .target) → (q : Rule) → Small q → Packable (byRule (q .action) (q .next) none (r .target))
 made-packable r t q s = by (q .action)
   where
     by : (a : Action) → Packable (byRule a (q .next) none (r .target))
@@ -189,7 +189,7 @@ module _ (words schemas : List ℕ) where
 
       back : (i : ℕ) → i < length es → entryIn words schemas i ≡ getD es i nothing
       back i k =
-          ap₂ (λ (r : Strand ℕ) (n : ℕ). record { strand = r; schema = n })
+          ap₂ (λ (r : HeldStrand ℕ) (n : ℕ). record { strand = r; schema = n })
           (ap strandIn (word i k) ∙ packed-back (getD es i nothing .strand) (each-at EntryPackable es i nothing a k))
           (mark i k)
 

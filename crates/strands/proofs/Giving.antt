@@ -35,7 +35,7 @@ use Rattle.reader.specs.Stored.{Coded, coded, atMost, narrowed, isDeclaration}
 use Rattle.reader.proofs.Indexed.{at-most-le}
 use Rattle.model.specs.Elements.{spaceOf}
 use Rattle.strands.specs.declared.Placing.{Placing}
-use Rattle.strands.specs.Attributes.{Given, namespaceOf, givenOf, givenBy, placingOf, delivered, givensOf, numbersOf, laidGivens, givenIn, codeNamespaces}
+use Rattle.strands.specs.Attributes.{Given, namespaceOf, givenOf, givenBy, placingOf, delivered, givensOf, givenNumbers, laidGivens, givenIn, codeNamespaces}
 
 -- ---- namespaces
 abbrev pub placing : ℕ → ℕ → ℕ → Placing
@@ -52,24 +52,24 @@ module _ (t : Table) (s : List ℕ) where
     placing-listed h = rw (← eu, ← e, ne-eqb class 255 h)
 
   module _ (own open′ : List ℕ) (f : Found) where
-    pub placing-nothing : f ≡ variant.Nothing → placing 0 0 0 ≡ placingOf (spaceOf t s (stored.spaceOf own open′ f))
+    pub placing-nothing : f ≡ variant.Nothing → placing 0 0 0 ≡ placingOf (spaceOf t s (stored.storedSpace own open′ f))
     unfolding spaceOf
     placing-nothing e = rw (e, class-nil t)
 
-    pub placing-unbound : f ≡ variant.Unbound → placing 0 0 0 ≡ placingOf (spaceOf t s (stored.spaceOf own open′ f))
+    pub placing-unbound : f ≡ variant.Unbound → placing 0 0 0 ≡ placingOf (spaceOf t s (stored.storedSpace own open′ f))
     unfolding spaceOf
     placing-unbound e = rw (e, class-nil t)
 
-    pub placing-xml : f ≡ variant.Xml → placing 254 0 0 ≡ placingOf (spaceOf t s (stored.spaceOf own open′ f))
+    pub placing-xml : f ≡ variant.Xml → placing 254 0 0 ≡ placingOf (spaceOf t s (stored.storedSpace own open′ f))
     unfolding spaceOf
     placing-xml e = rw (e, class-xml t)
 
     module _ (k : ℕ) (b : Binding) (r : Placing) (er : r ≡ placingOf (spaceOf t s (declared (span (b .uri .at) (b .uri .len))))) where
-      pub placing-own : f ≡ variant.Own k → b ≡ stored.bindingIn own k → r ≡ placingOf (spaceOf t s (stored.spaceOf own open′ f))
-      placing-own e eb = er ∙ ap (λ (x : Binding). placingOf (spaceOf t s (declared (x .uri)))) eb ∙ ap (λ (g : Found). placingOf (spaceOf t s (stored.spaceOf own open′ g))) (sym e)
+      pub placing-own : f ≡ variant.Own k → b ≡ stored.bindingIn own k → r ≡ placingOf (spaceOf t s (stored.storedSpace own open′ f))
+      placing-own e eb = er ∙ ap (λ (x : Binding). placingOf (spaceOf t s (declared (x .uri)))) eb ∙ ap (λ (g : Found). placingOf (spaceOf t s (stored.storedSpace own open′ g))) (sym e)
 
-      pub placing-open : f ≡ variant.Open k → b ≡ stored.bindingIn open′ k → r ≡ placingOf (spaceOf t s (stored.spaceOf own open′ f))
-      placing-open e eb = er ∙ ap (λ (x : Binding). placingOf (spaceOf t s (declared (x .uri)))) eb ∙ ap (λ (g : Found). placingOf (spaceOf t s (stored.spaceOf own open′ g))) (sym e)
+      pub placing-open : f ≡ variant.Open k → b ≡ stored.bindingIn open′ k → r ≡ placingOf (spaceOf t s (stored.storedSpace own open′ f))
+      placing-open e eb = er ∙ ap (λ (x : Binding). placingOf (spaceOf t s (declared (x .uri)))) eb ∙ ap (λ (g : Found). placingOf (spaceOf t s (stored.storedSpace own open′ g))) (sym e)
 
 -- ---- one attribute
 pub eight-set : (l : List ℕ) (i a b c d e f g h : ℕ) → i + 8 ≤ length l
@@ -90,35 +90,35 @@ pub given-put : (l : List ℕ) (i : ℕ) (a : Attr) (w : Placing) (code : ℕ) (
     → x₂ ≡ narrowed (a .value) → n ≡ a .stop - a .value → x₃ ≡ narrowed n
     → x₅ ≡ narrowed (w .at) → x₆ ≡ narrowed (w .len) → x₇ ≡ narrowed code
     → set (set (set (set (set (set (set (set l i x₀) (i + 1) x₁) (i + 2) x₂) (i + 3) x₃) (i + 4) (w .class)) (i + 5) x₅) (i + 6) x₆) (i + 7) x₇
-    ≡ overwrite l i (numbersOf (givenBy a w code))
+    ≡ overwrite l i (givenNumbers (givenBy a w code))
 given-put l i a w code x₀ x₁ x₂ x₃ x₅ x₆ x₇ m n h small e₀ em e₁ e₂ en e₃ e₅ e₆ e₇ =
     let e₄ : w .class % 2 ^ 32 ≡ w .class = mod-eq-of-lt {n = w .class} {m = 2 ^ 32} (omega arith) in
     rw (e₄, ← em, ← en, ← e₀, ← e₁, ← e₂, ← e₃, ← e₅, ← e₆, ← e₇) (eight-set l i x₀ x₁ x₂ x₃ (w .class) x₅ x₆ x₇ h)
 
-pub eight-long : (gs : List Given) → length (gather numbersOf gs) ≡ 8 * length gs
+pub eight-long : (gs : List Given) → length (gather givenNumbers gs) ≡ 8 * length gs
 unfolding gather
 eight-long [] = refl
 eight-long (g ∷ gs) = omega (arith, eight-long gs)
 
 -- ---- an array with attributes in front is one that is overwritten there
 module _ (l : List ℕ) where
-  pub laid-over : (gs : List Given) → laidGivens gs l ≡ overwrite l 0 (gather numbersOf gs)
+  pub laid-over : (gs : List Given) → laidGivens gs l ≡ overwrite l 0 (gather givenNumbers gs)
   unfolding laidGivens overwrite
   laid-over gs =
-      let e : 8 * length gs ≡ 0 + length (gather numbersOf gs) = omega (arith, eight-long gs) in
-      ap (λ (k : ℕ). gather numbersOf gs ++ drop k l) e
+      let e : 8 * length gs ≡ 0 + length (gather givenNumbers gs) = omega (arith, eight-long gs) in
+      ap (λ (k : ℕ). gather givenNumbers gs ++ drop k l) e
 
   pub laid-none : laidGivens [] l ≡ l
-  laid-none = laid-over [] ∙ ap (overwrite l 0) (gather-none numbersOf) ∙ over-none l 0
+  laid-none = laid-over [] ∙ ap (overwrite l 0) (gather-none givenNumbers) ∙ over-none l 0
 
-  pub laid-more : (gs : List Given) (g : Given) → overwrite (laidGivens gs l) (8 * length gs) (numbersOf g) ≡ laidGivens (gs ++ (g ∷ [])) l
+  pub laid-more : (gs : List Given) (g : Given) → overwrite (laidGivens gs l) (8 * length gs) (givenNumbers g) ≡ laidGivens (gs ++ (g ∷ [])) l
   unfolding gather
   laid-more gs g =
-      let e : 8 * length gs ≡ 0 + length (gather numbersOf gs) = omega (arith, eight-long gs) in
-      ap (λ (k : ℕ). overwrite (laidGivens gs l) k (numbersOf g)) e
-      ∙ ap (λ (r : List ℕ). overwrite r (0 + length (gather numbersOf gs)) (numbersOf g)) (laid-over gs)
-      ∙ over-over l 0 (gather numbersOf gs) (numbersOf g) (omega arith)
-      ∙ ap (overwrite l 0) (sym (gather-append numbersOf gs (g ∷ [])))
+      let e : 8 * length gs ≡ 0 + length (gather givenNumbers gs) = omega (arith, eight-long gs) in
+      ap (λ (k : ℕ). overwrite (laidGivens gs l) k (givenNumbers g)) e
+      ∙ ap (λ (r : List ℕ). overwrite r (0 + length (gather givenNumbers gs)) (givenNumbers g)) (laid-over gs)
+      ∙ over-over l 0 (gather givenNumbers gs) (givenNumbers g) (omega arith)
+      ∙ ap (overwrite l 0) (sym (gather-append givenNumbers gs (g ∷ [])))
       ∙ sym (laid-over (gs ++ (g ∷ [])))
 
 -- ---- the attributes of an array with their codes
@@ -209,7 +209,7 @@ module _ (t : Table) (s own open′ array codes : List ℕ) (most : ℕ) (gs : L
           }
 
       pub turn-held : not b ≡ true → (code : ℕ) → code ≡ getD codes i 0 → (w : Placing) → w ≡ placingOf (spaceOf t s (namespaceOf own open′ code))
-          → (r : List ℕ) → r ≡ overwrite l (8 * n) (numbersOf (givenBy a w code)) → (n′ : ℕ) → n′ ≡ n + 1 → Holding t s own open′ array codes most gs l₀ r n′ (i + 1)
+          → (r : List ℕ) → r ≡ overwrite l (8 * n) (givenNumbers (givenBy a w code)) → (n′ : ℕ) → n′ ≡ n + 1 → Holding t s own open′ array codes most gs l₀ r n′ (i + 1)
       turn-held q code ec w ew r er n′ en =
           let g : Given = givenOf t s own open′ here in
           let eg : givenBy a w code ≡ g = rw (ew, ec, ea) in
@@ -221,12 +221,12 @@ module _ (t : Table) (s own open′ array codes : List ℕ) (most : ℕ) (gs : L
             most-few = d .most-few;
             long =
                 ap (λ (x : List ℕ). length x) er
-                ∙ length-over l (8 * n) (numbersOf (givenBy a w code)) (omega (arith, d .few, d .most-few, d .long))
+                ∙ length-over l (8 * n) (givenNumbers (givenBy a w code)) (omega (arith, d .few, d .most-few, d .long))
                 ∙ d .long;
             laid =
-                er ∙ ap (λ (x : Given). overwrite l (8 * n) (numbersOf x)) eg
-                ∙ ap (λ (x : List ℕ). overwrite x (8 * n) (numbersOf g)) (d .laid)
-                ∙ ap (λ (k : ℕ). overwrite (laidGivens (d .held) l₀) (8 * k) (numbersOf g)) (sym (d .counted))
+                er ∙ ap (λ (x : Given). overwrite l (8 * n) (givenNumbers x)) eg
+                ∙ ap (λ (x : List ℕ). overwrite x (8 * n) (givenNumbers g)) (d .laid)
+                ∙ ap (λ (k : ℕ). overwrite (laidGivens (d .held) l₀) (8 * k) (givenNumbers g)) (sym (d .counted))
                 ∙ laid-more l₀ (d .held) g;
             left = append-assoc (d .held) (g ∷ []) more ∙ ap (λ (x : List Given). d .held ++ x) (sym (first h ∙ rw (says, q))) ∙ d .left;
           }
@@ -251,7 +251,7 @@ pub record GivenSmall (g : Given) : Type 0 where
   pub code-in : g .code < 2 ^ 32
 
 -- the i-th attribute, behind i others
-read-one : (pre : List ℕ) (g : Given) (post : List ℕ) (i : ℕ) → length pre ≡ 8 * i → GivenSmall g → givenIn (pre ++ (numbersOf g ++ post)) i ≡ g
+read-one : (pre : List ℕ) (g : Given) (post : List ℕ) (i : ℕ) → length pre ≡ 8 * i → GivenSmall g → givenIn (pre ++ (givenNumbers g ++ post)) i ≡ g
 unfolding givenIn
 read-one pre g post i e p =
     rw (
@@ -274,19 +274,19 @@ read-one pre g post i e p =
       mod-eq-of-lt {n = g .code} {m = 2 ^ 32} (p .code-in),
     )
   where
-    at : (j k : ℕ) → k ≡ length pre + j → getD (pre ++ (numbersOf g ++ post)) k 0 ≡ getD (numbersOf g ++ post) j 0
-    at j k q = ap (λ (n : ℕ). getD (pre ++ (numbersOf g ++ post)) n 0) q ∙ getD-append-add pre (numbersOf g ++ post) j 0
+    at : (j k : ℕ) → k ≡ length pre + j → getD (pre ++ (givenNumbers g ++ post)) k 0 ≡ getD (givenNumbers g ++ post) j 0
+    at j k q = ap (λ (n : ℕ). getD (pre ++ (givenNumbers g ++ post)) n 0) q ∙ getD-append-add pre (givenNumbers g ++ post) j 0
 
 read-all : (gs : List Given) (pre post : List ℕ) (i : ℕ) → length pre ≡ 8 * i → All GivenSmall gs
-    → tabulate (givenIn (pre ++ (gather numbersOf gs ++ post))) i (length gs) ≡ gs
+    → tabulate (givenIn (pre ++ (gather givenNumbers gs ++ post))) i (length gs) ≡ gs
 unfolding tabulate gather
 read-all [] pre post i e h = refl
 read-all (g ∷ gs) pre post i e h =
-    let more : List ℕ = gather numbersOf gs ++ post in
-    let q : length (pre ++ numbersOf g) ≡ 8 * suc i = length-append pre (numbersOf g) ∙ omega arith in
-    ap (λ (x : Given). x ∷ tabulate (givenIn (pre ++ (numbersOf g ++ more))) (suc i) (length gs)) (read-one pre g more i e (h .0))
+    let more : List ℕ = gather givenNumbers gs ++ post in
+    let q : length (pre ++ givenNumbers g) ≡ 8 * suc i = length-append pre (givenNumbers g) ∙ omega arith in
+    ap (λ (x : Given). x ∷ tabulate (givenIn (pre ++ (givenNumbers g ++ more))) (suc i) (length gs)) (read-one pre g more i e (h .0))
     ∙ ap (λ (t : List Given). g ∷ t)
-    (ap (λ (l : List ℕ). tabulate (givenIn l) (suc i) (length gs)) (sym (append-assoc pre (numbersOf g) more)) ∙ read-all gs (pre ++ numbersOf g) post (suc i) q (h .1))
+    (ap (λ (l : List ℕ). tabulate (givenIn l) (suc i) (length gs)) (sym (append-assoc pre (givenNumbers g) more)) ∙ read-all gs (pre ++ givenNumbers g) post (suc i) q (h .1))
 
 pub givens-back : (gs : List Given) (l : List ℕ) → All GivenSmall gs → tabulate (givenIn (laidGivens gs l)) 0 (length gs) ≡ gs
 unfolding laidGivens

@@ -18,7 +18,7 @@ use Rattle.laws.specs.Reading.{le-or-lt}
 use Rattle.laws.proofs.Over.{over-none, over-set, over-over}
 use Rattle.table.specs.Table.{fallback}
 use Rattle.table.specs.declared.Rule.{Rule}
-use Rattle.model.specs.Stream.{Entry, Strand, stay}
+use Rattle.model.specs.Stream.{Entry, HeldStrand, stay}
 use Rattle.strands.specs.Packed.{strandIn, packed, wordsAt}
 use Rattle.strands.specs.Rules.{rulesIn}
 use Rattle.strands.specs.Entries.{madeBy, entriesBy, entriesFrom, stayEntry, counted, strandWord, schemaWord}
@@ -158,7 +158,7 @@ module _ (strands : List ℕ) (level n : ℕ) where
   row-end j h = let e : n - j ≡ 0 = omega arith in ap (tabulate at (16 * level + j)) e
 
 -- ---- what the rules of a section make of a strand
-module _ (index : List ℕ) (class : ℕ) (r : Strand ℕ) where
+module _ (index : List ℕ) (class : ℕ) (r : HeldStrand ℕ) where
   pub rules-none : rulesIn index (r .mode) 0 class ≡ [] → entriesBy index class r ≡ madeBy r (fallback 0 (r .mode)) ∷ []
   unfolding entriesBy
   rules-none e = rw e

@@ -25,14 +25,14 @@ use Rattle.table.proofs.Namespaces.{class-in}
 use Rattle.reader.specs.Namespaces as scene
 use Rattle.reader.specs.Events.{Start}
 use Rattle.model.specs.Elements.{Space, Attribute, Element, sameSpace, stays, spaceOf, attributeOf, elementOf}
-use Rattle.model.specs.Groups.{AttributeSection, sectionsOf}
+use Rattle.model.specs.Groups.{AttributeGroup, groupsOf}
 use Rattle.strands.specs.Attributes.{Sorted, sectionPlace, sortedOf}
 use Rattle.strands.specs.Writing.{members, headClass}
 use Rattle.strands.proofs.ListLaws.{keep-both}
 use Rattle.strands.proofs.Grouped.{has, alike, Formed, others, leaving, sections-of}
 
 -- ---- the place of an attribute among the sections, the first being k
-place-from : (k : ℕ) (cs : List AttributeSection) (a : Attribute) → k ≤ sectionPlace k cs a
+place-from : (k : ℕ) (cs : List AttributeGroup) (a : Attribute) → k ≤ sectionPlace k cs a
 unfolding sectionPlace
 place-from k [] a = omega arith
 place-from k (c ∷ cs) a = by (has c a) (place-from (suc k) cs a)
@@ -41,7 +41,7 @@ place-from k (c ∷ cs) a = by (has c a) (place-from (suc k) cs a)
     by true h = omega arith
     by false h = omega arith
 
-pub place-is : (cs : List AttributeSection) (a : Attribute) (d : AttributeSection) → anyPair alike cs ≡ false → (k i : ℕ) → i < length cs
+pub place-is : (cs : List AttributeGroup) (a : Attribute) (d : AttributeGroup) → anyPair alike cs ≡ false → (k i : ℕ) → i < length cs
     → eqb (sectionPlace k cs a) (k + i) ≡ has (getD cs i d) a
 unfolding sectionPlace anyPair
 place-is [] a d e k i h = absurd (omega arith)
@@ -52,12 +52,12 @@ place-is (c ∷ cs) a d e k i h = by (has c a) refl i h (place-is cs a d (or-rig
     by true q zero m ih f = eq-eqb k (k + 0) (omega arith) ∙ q
     by true q (suc j) m ih f =
         ne-eqb k (k + suc j) (λ s. omega arith)
-        ∙ sym (none-in (λ (x : AttributeSection). has x a) (getD cs j d) cs (others c a cs (or-left (any (alike c) cs) (anyPair alike cs) e) (sym q)) (in-at cs j d (omega arith)))
+        ∙ sym (none-in (λ (x : AttributeGroup). has x a) (getD cs j d) cs (others c a cs (or-left (any (alike c) cs) (anyPair alike cs) e) (sym q)) (in-at cs j d (omega arith)))
     by false q zero m ih f = ne-eqb (sectionPlace (suc k) cs a) (k + 0) (λ s. omega arith) ∙ q
     by false q (suc j) m ih f = let s : k + suc j ≡ suc k + j = omega arith in ap (eqb (sectionPlace (suc k) cs a)) s ∙ ih j (omega arith)
 
 -- a section's number is none of an attribute that stays
-pub place-some : (cs : List AttributeSection) (a : Attribute) → eqb (sectionPlace 1 cs a) 0 ≡ false
+pub place-some : (cs : List AttributeGroup) (a : Attribute) → eqb (sectionPlace 1 cs a) 0 ≡ false
 place-some cs a = ne-eqb (sectionPlace 1 cs a) 0 (λ e. omega (arith, place-from 1 cs a))
 
 -- ---- the attributes of a section
@@ -66,7 +66,7 @@ allOf σ = map (sortedOf σ) (σ .attributes)
 
 module _ (σ : Element) where
   -- its first attribute is one of the tag's
-  pub first-in : (c : AttributeSection) (f : Formed (leaving σ) c) → In (f .first) (σ .attributes)
+  pub first-in : (c : AttributeGroup) (f : Formed (leaving σ) c) → In (f .first) (σ .attributes)
   first-in c f = kept-in (λ (a : Attribute). not (stays σ a)) (f .first) (σ .attributes) away .0
     where
       there : In (f .first) (keep (has c) (leaving σ))
@@ -75,21 +75,21 @@ module _ (σ : Element) where
       away : In (f .first) (leaving σ)
       away = kept-in (has c) (f .first) (leaving σ) there .0
 
-  module _ (d : AttributeSection) (i : ℕ) (h : i < length (sectionsOf σ)) where
-    abbrev c : AttributeSection
-    c = getD (sectionsOf σ) i d
+  module _ (d : AttributeGroup) (i : ℕ) (h : i < length (groupsOf σ)) where
+    abbrev c : AttributeGroup
+    c = getD (groupsOf σ) i d
 
-    pub formed-at : Formed (leaving σ) (getD (sectionsOf σ) i d)
-    formed-at = each-at (Formed (leaving σ)) (sectionsOf σ) i d (sections-of σ .formed) h
+    pub formed-at : Formed (leaving σ) (getD (groupsOf σ) i d)
+    formed-at = each-at (Formed (leaving σ)) (groupsOf σ) i d (sections-of σ .formed) h
 
     numbered : (a : Attribute) → eqb (sortedOf σ a .section) (1 + i) ≡ (not (stays σ a) && has c a)
     numbered a = by (stays σ a)
       where
-        by : (z : Bool) → eqb (cond z 0 (sectionPlace 1 (sectionsOf σ) a)) (1 + i) ≡ (not z && has c a)
+        by : (z : Bool) → eqb (cond z 0 (sectionPlace 1 (groupsOf σ) a)) (1 + i) ≡ (not z && has c a)
         by true = ne-eqb 0 (1 + i) (λ e. omega arith)
-        by false = place-is (sectionsOf σ) a d (sections-of σ .apart) 1 i h
+        by false = place-is (groupsOf σ) a d (sections-of σ .apart) 1 i h
 
-    pub section-members : members (allOf σ) (1 + i) ≡ map (sortedOf σ) (getD (sectionsOf σ) i d .members)
+    pub section-members : members (allOf σ) (1 + i) ≡ map (sortedOf σ) (getD (groupsOf σ) i d .members)
     section-members =
         keep-map (sortedOf σ) (λ (a : Sorted). eqb (a .section) (1 + i)) (σ .attributes)
         ∙ ap (map (sortedOf σ))
@@ -97,7 +97,7 @@ module _ (σ : Element) where
         ∙ keep-both (λ (a : Attribute). not (stays σ a)) (has c) (σ .attributes)
         ∙ sym (formed-at .members-are))
 
-    pub section-class : headClass (members (allOf σ) (1 + i)) ≡ getD (sectionsOf σ) i d .space .class
+    pub section-class : headClass (members (allOf σ) (1 + i)) ≡ getD (groupsOf σ) i d .space .class
     section-class = ap headClass (section-members ∙ ap (map (sortedOf σ)) (formed-at .begins)) ∙ sym (ap (λ (w : Space). w .class) (formed-at .space-is))
 
 -- ---- one class to a namespace
@@ -112,7 +112,7 @@ space-class t s n = refl
 by-bytes : (t : Table) (s : List ℕ) (e : Start) (a : Attribute) → In a (elementOf t s e .attributes) → a .space .class ≡ classOf t (a .space .bytes)
 unfolding elementOf attributeOf
 by-bytes t s e a m =
-    let r : (x : scene.Attribute) × In x (e .attributes) × (a ≡ attributeOf t s x) = map-in (attributeOf t s) a (e .attributes) m in
+    let r : (x : scene.ReadAttribute) × In x (e .attributes) × (a ≡ attributeOf t s x) = map-in (attributeOf t s) a (e .attributes) m in
     rw (r .2) (space-class t s (r .0 .namespace))
 
 pub element-classed : (table : List ℕ) → Accepted table ≡ true → (s : List ℕ) (e : Start) → Classed (elementOf (decode table) s e)

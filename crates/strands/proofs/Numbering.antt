@@ -32,7 +32,7 @@ use Rattle.model.specs.Elements.{isPrefixed}
 use Rattle.strands.specs.Attributes.{Given, givenIn, namespaceOf, placeAmong, sectionsWith, staysWith, isNothing, Numbered, inSection, numberAmong, numbersFrom, sectionsAfter, codeNamespaces}
 
 -- ---- which attributes stay
-pub nothing-plain : (own open′ : List ℕ) (f : Found) → isNothing f ≡ not (isPrefixed (stored.spaceOf own open′ f))
+pub nothing-plain : (own open′ : List ℕ) (f : Found) → isNothing f ≡ not (isPrefixed (stored.storedSpace own open′ f))
 nothing-plain own open′ variant.Nothing = refl
 nothing-plain own open′ variant.Xml = refl
 nothing-plain own open′ (variant.Own k) = refl
@@ -41,14 +41,14 @@ nothing-plain own open′ variant.Unbound = refl
 
 module _ (s own open′ : List ℕ) (e : Namespace) (code : ℕ) (f : Found) (ef : f ≡ foundIn code) (b : Bool) (eb : b ≡ isNothing f) where
   prefixed : not (isPrefixed (namespaceOf own open′ code)) ≡ b
-  prefixed = ap (λ (g : Found). not (isPrefixed (stored.spaceOf own open′ g))) (sym ef) ∙ sym (nothing-plain own open′ f) ∙ sym eb
+  prefixed = ap (λ (g : Found). not (isPrefixed (stored.storedSpace own open′ g))) (sym ef) ∙ sym (nothing-plain own open′ f) ∙ sym eb
 
   pub stays-nothing : b ≡ true → (x : ℕ) → 0 ≡ cond (staysWith s e (namespaceOf own open′ code)) 0 x
   stays-nothing h x = rw (prefixed, h)
 
-  module _ (h : b ≡ false) (r : Bool) (er : r ≡ sameNamespace s e (stored.spaceOf own open′ f)) where
+  module _ (h : b ≡ false) (r : Bool) (er : r ≡ sameNamespace s e (stored.storedSpace own open′ f)) where
     says : staysWith s e (namespaceOf own open′ code) ≡ r
-    says = rw (prefixed, h) (ap (λ (g : Found). sameNamespace s e (stored.spaceOf own open′ g)) (sym ef) ∙ sym er)
+    says = rw (prefixed, h) (ap (λ (g : Found). sameNamespace s e (stored.storedSpace own open′ g)) (sym ef) ∙ sym er)
 
     pub stays-same : r ≡ true → (x : ℕ) → 0 ≡ cond (staysWith s e (namespaceOf own open′ code)) 0 x
     stays-same q x = rw (says, q)
@@ -67,9 +67,9 @@ pub out-of : (s : List ℕ) (n m : Namespace) (c : ℕ) → c ≡ 0 → false �
 out-of s n m c h = rw h
 
 pub in-of : (s own open′ : List ℕ) (f g : Found) (code c : ℕ) → g ≡ foundIn code → (c ≡ 0 → ⊥) → (r : Bool)
-    → r ≡ sameNamespace s (stored.spaceOf own open′ g) (stored.spaceOf own open′ f)
-    → r ≡ inSection s (stored.spaceOf own open′ f) (numbered (namespaceOf own open′ code) c)
-in-of s own open′ f g code c eg h r er = rw (ne-eqb c 0 h) (er ∙ ap (λ (x : Found). sameNamespace s (stored.spaceOf own open′ x) (stored.spaceOf own open′ f)) eg)
+    → r ≡ sameNamespace s (stored.storedSpace own open′ g) (stored.storedSpace own open′ f)
+    → r ≡ inSection s (stored.storedSpace own open′ f) (numbered (namespaceOf own open′ code) c)
+in-of s own open′ f g code c eg h r er = rw (ne-eqb c 0 h) (er ∙ ap (λ (x : Found). sameNamespace s (stored.storedSpace own open′ x) (stored.storedSpace own open′ f)) eg)
 
 -- ---- the loop of `section_of`
 module _ (s : List ℕ) (n : Namespace) (next : ℕ) (F : ℕ → Numbered) (i k v : ℕ) (inv : numberAmong s n next (tabulate F k (i - k)) ≡ v) where

@@ -10,7 +10,7 @@ use Rattle.laws.specs.Members.{All}
 use Rattle.table.specs.Table.{actionOf}
 use Rattle.table.specs.declared.Action.{Action}
 use Rattle.table.specs.declared.Action.the-variants.{Attach, Unwrap, Validate}
-use Rattle.model.specs.Stream.{Strand}
+use Rattle.model.specs.Stream.{HeldStrand}
 use Rattle.strands.specs.Packed.{strandIn, packed, actionNumber, targetNumber, hereNumber}
 
 -- a target below the count of units
@@ -19,7 +19,7 @@ Below units none = Unit {0}
 Below units (some u) = u < units
 
 -- what a number holds of a strand: five bits for its mode, sixteen for its target
-pub record Packable (r : Strand ℕ) : Type 0 where
+pub record Packable (r : HeldStrand ℕ) : Type 0 where
   pub mode-in : r .mode < 32
   pub target-in : Below 65536 (r .target)
 
@@ -80,7 +80,7 @@ target-back : (o : Option ℕ) → cond (eqb (aimed o) 1) (some (place o)) none 
 target-back none = refl
 target-back (some u) = refl
 
-module _ (r : Strand ℕ) (h : Packable r) where
+module _ (r : HeldStrand ℕ) (h : Packable r) where
   split : Parts (packed r) (r .mode) (actionNumber (r .action)) (bit (r .here)) (aimed (r .target)) (place (r .target))
   unfolding packed
   split =
@@ -97,10 +97,10 @@ module _ (r : Strand ℕ) (h : Packable r) where
   pub packed-small : packed r < 2 ^ 32
   packed-small = split .small
 
-pub packed-all : (rs : List (Strand ℕ)) → All Packable rs → map strandIn (map packed rs) ≡ rs
+pub packed-all : (rs : List (HeldStrand ℕ)) → All Packable rs → map strandIn (map packed rs) ≡ rs
 packed-all [] h = refl
 packed-all (r ∷ rs) h = ap₂ _∷_ (packed-back r (h .0)) (packed-all rs (h .1))
 
-pub packed-all-small : (rs : List (Strand ℕ)) → All Packable rs → All (λ (w : ℕ). w < 2 ^ 32) (map packed rs)
+pub packed-all-small : (rs : List (HeldStrand ℕ)) → All Packable rs → All (λ (w : ℕ). w < 2 ^ 32) (map packed rs)
 packed-all-small [] h = tt
 packed-all-small (r ∷ rs) h = (packed-small r (h .0), packed-all-small rs (h .1))

@@ -36,7 +36,7 @@ use Rattle.reader.proofs.Pairs.{keptOf}
 use Rattle.reader.proofs.Numbers.{InRange, attribute-in-range}
 use Rattle.reader.proofs.AgreeWhole.{attributesIn}
 use Rattle.model.specs.Elements.{Space, Attribute, uriSpan, spaceOf, Element, elementOf, attributeOf, sameSpace}
-use Rattle.model.specs.Groups.{AttributeSection, placed, sectionsFrom, sectionsOf}
+use Rattle.model.specs.Groups.{AttributeGroup, grouped, groupsFrom, groupsOf}
 use Rattle.strands.specs.Attributes.{Given, namespaceOf, givenOf, delivered, givensOf, laidGivens, givenIn, placeAmong, sectionsWith, staysWith, numbersFrom, sectionsAfter, codeNamespaces, Sorted, sortedIn, allSorted, sectionPlace, sortedOf}
 use Rattle.strands.proofs.Giving.{GivenSmall, givens-back}
 use Rattle.strands.proofs.Numbering as numbering
@@ -94,7 +94,7 @@ uri-held t s n h = holds-cond (SpanHeld s) (eqb (classOf t (uriOf s n)) 255) (λ
 abbrev pub CodeSmall : Coded → Type 0
 CodeSmall c = c .code < 82
 
-abbrev made : List ℕ → List ℕ → List ℕ → Coded → scene.Attribute
+abbrev made : List ℕ → List ℕ → List ℕ → Coded → scene.ReadAttribute
 made s own open′ c = attribute (c .attr) (namespaceOf own open′ (c .code))
 
 pub kept-are : (s own open′ : List ℕ) (cs : List Coded) → attributesIn s own open′ cs ≡ map (made s own open′) (keep (delivered s) cs)
@@ -150,7 +150,7 @@ module _ (s own : List ℕ) (owned : ℕ) (open′ : List ℕ) (bound : ℕ) whe
 
 -- ---- the model's sections and the namespaces of ours
 module _ (t : Table) (s : List ℕ) where
-  abbrev Spaces : List AttributeSection → List Namespace → Type 0
+  abbrev Spaces : List AttributeGroup → List Namespace → Type 0
   Spaces [] [] = Unit {0}
   Spaces [] (m ∷ ms) = ⊥
   Spaces (c ∷ cs) [] = ⊥
@@ -169,22 +169,22 @@ module _ (t : Table) (s : List ℕ) where
       by false true = refl
       by false false = refl
 
-  placed-with : (a : Attribute) (m : Namespace) → a .space ≡ spaceOf t s m → (cs : List AttributeSection) (ms : List Namespace) → Spaces cs ms → Spaces (placed cs a) (sectionsWith s ms m)
-  unfolding any placed
+  placed-with : (a : Attribute) (m : Namespace) → a .space ≡ spaceOf t s m → (cs : List AttributeGroup) (ms : List Namespace) → Spaces cs ms → Spaces (grouped cs a) (sectionsWith s ms m)
+  unfolding any grouped
   placed-with a m e [] [] h = (e, tt)
   placed-with a m e [] (x ∷ ms) h = absurd h
   placed-with a m e (c ∷ cs) [] h = absurd h
   placed-with a m e (c ∷ cs) (x ∷ ms) h =
-      subst (Spaces (placed (c ∷ cs) a)) (sym (with-cons x ms m)) (by (sameSpace (c .space) (a .space)) (sameNamespace s x m) (same-spaces (c .space) (a .space) x m (h .0) e) (placed-with a m e cs ms (h .1)))
+      subst (Spaces (grouped (c ∷ cs) a)) (sym (with-cons x ms m)) (by (sameSpace (c .space) (a .space)) (sameNamespace s x m) (same-spaces (c .space) (a .space) x m (h .0) e) (placed-with a m e cs ms (h .1)))
     where
-      by : (b d : Bool) → b ≡ d → Spaces (placed cs a) (sectionsWith s ms m)
-          → Spaces (cond b (record { space = c .space; members = c .members ++ (a ∷ []) } ∷ cs) (c ∷ placed cs a)) (cond d (x ∷ ms) (x ∷ sectionsWith s ms m))
+      by : (b d : Bool) → b ≡ d → Spaces (grouped cs a) (sectionsWith s ms m)
+          → Spaces (cond b (record { space = c .space; members = c .members ++ (a ∷ []) } ∷ cs) (c ∷ grouped cs a)) (cond d (x ∷ ms) (x ∷ sectionsWith s ms m))
       by true true q ih = h
       by false false q ih = (h .0, ih)
       by true false q ih = absurd (let z : _≡_ {A = ℕ} 0 1 = cc in omega arith)
       by false true q ih = absurd (let z : _≡_ {A = ℕ} 0 1 = cc in omega arith)
 
-  place-are : (a : Attribute) (m : Namespace) → a .space ≡ spaceOf t s m → (cs : List AttributeSection) (ms : List Namespace) → Spaces cs ms → (k : ℕ)
+  place-are : (a : Attribute) (m : Namespace) → a .space ≡ spaceOf t s m → (cs : List AttributeGroup) (ms : List Namespace) → Spaces cs ms → (k : ℕ)
       → sectionPlace (suc k) cs a ≡ suc (placeAmong s m k ms)
   unfolding sectionPlace placeAmong
   place-are a m e [] [] h k = refl
@@ -196,14 +196,14 @@ module _ (t : Table) (s : List ℕ) where
       by true ih = refl
       by false ih = ih
 
-  spaces-long : (cs : List AttributeSection) (ms : List Namespace) → Spaces cs ms → length ms ≡ length cs
+  spaces-long : (cs : List AttributeGroup) (ms : List Namespace) → Spaces cs ms → length ms ≡ length cs
   spaces-long [] [] h = refl
   spaces-long [] (x ∷ ms) h = absurd h
   spaces-long (c ∷ cs) [] h = absurd h
   spaces-long (c ∷ cs) (x ∷ ms) h = ap suc (spaces-long cs ms (h .1))
 
   -- the element whose attributes these are
-  abbrev pub elementIn : Namespace → ℕ → Span → List scene.Attribute → Element
+  abbrev pub elementIn : Namespace → ℕ → Span → List scene.ReadAttribute → Element
   elementIn n at part as′ = record { at = at; part = part; space = spaceOf t s n; attributes = map (attributeOf t s) as′ }
 
   pub element-is : (e : Start) → elementOf t s e ≡ elementIn (e .namespace) (e .at) (e .part) (e .attributes)
@@ -214,28 +214,28 @@ module _ (t : Table) (s : List ℕ) where
     abbrev apart : Attribute → Bool
     apart a = not (not (a .prefixed) || sameSpace (spaceOf t s n) (a .space))
 
-    matching : (as′ : List scene.Attribute) (cs : List AttributeSection) (ms : List Namespace) → Spaces cs ms
-        → Spaces (sectionsFrom cs (keep apart (map (attributeOf t s) as′))) (sectionsAfter s n ms (map (λ (x : scene.Attribute). x .namespace) as′))
-    unfolding sectionsFrom sectionsAfter keep attributeOf spaceOf sameNamespace
+    matching : (as′ : List scene.ReadAttribute) (cs : List AttributeGroup) (ms : List Namespace) → Spaces cs ms
+        → Spaces (groupsFrom cs (keep apart (map (attributeOf t s) as′))) (sectionsAfter s n ms (map (λ (x : scene.ReadAttribute). x .namespace) as′))
+    unfolding groupsFrom sectionsAfter keep attributeOf spaceOf sameNamespace
     matching [] cs ms h = h
     matching (x ∷ as′) cs ms h =
         by (staysWith s n (x .namespace)) (matching as′ cs ms h)
-        (matching as′ (placed cs (attributeOf t s x)) (sectionsWith s ms (x .namespace)) (placed-with (attributeOf t s x) (x .namespace) refl cs ms h))
+        (matching as′ (grouped cs (attributeOf t s x)) (sectionsWith s ms (x .namespace)) (placed-with (attributeOf t s x) (x .namespace) refl cs ms h))
       where
         rest : List Attribute
         rest = keep apart (map (attributeOf t s) as′)
 
         ns : List Namespace
-        ns = map (λ (y : scene.Attribute). y .namespace) as′
+        ns = map (λ (y : scene.ReadAttribute). y .namespace) as′
 
-        by : (b : Bool) → Spaces (sectionsFrom cs rest) (sectionsAfter s n ms ns)
-            → Spaces (sectionsFrom (placed cs (attributeOf t s x)) rest) (sectionsAfter s n (sectionsWith s ms (x .namespace)) ns)
-            → Spaces (sectionsFrom cs (cond (not b) (attributeOf t s x ∷ rest) rest)) (cond b (sectionsAfter s n ms ns) (sectionsAfter s n (sectionsWith s ms (x .namespace)) ns))
+        by : (b : Bool) → Spaces (groupsFrom cs rest) (sectionsAfter s n ms ns)
+            → Spaces (groupsFrom (grouped cs (attributeOf t s x)) rest) (sectionsAfter s n (sectionsWith s ms (x .namespace)) ns)
+            → Spaces (groupsFrom cs (cond (not b) (attributeOf t s x ∷ rest) rest)) (cond b (sectionsAfter s n ms ns) (sectionsAfter s n (sectionsWith s ms (x .namespace)) ns))
         by true p q = p
         by false p q = q
 
     module _ (own open′ : List ℕ) (at : ℕ) (part : Span) (cs : List Coded) where
-      abbrev as′ : List scene.Attribute
+      abbrev as′ : List scene.ReadAttribute
       as′ = attributesIn s own open′ cs
 
       abbrev σ : Element
@@ -247,19 +247,19 @@ module _ (t : Table) (s : List ℕ) where
       abbrev ns : List Namespace
       ns = codeNamespaces own open′ gs
 
-      spaces-are : map (λ (x : scene.Attribute). x .namespace) as′ ≡ ns
+      spaces-are : map (λ (x : scene.ReadAttribute). x .namespace) as′ ≡ ns
       unfolding givensOf
       spaces-are =
-          ap (map (λ (x : scene.Attribute). x .namespace)) (kept-are s own open′ cs)
-          ∙ map-map (λ (x : scene.Attribute). x .namespace) (made s own open′) (keep (delivered s) cs)
+          ap (map (λ (x : scene.ReadAttribute). x .namespace)) (kept-are s own open′ cs)
+          ∙ map-map (λ (x : scene.ReadAttribute). x .namespace) (made s own open′) (keep (delivered s) cs)
           ∙ sym (map-map (λ (g : Given). namespaceOf own open′ (g .code)) (givenOf t s own open′) (keep (delivered s) cs))
 
-      sections-match : Spaces (sectionsOf σ) (sectionsAfter s n [] ns)
-      unfolding sectionsOf
-      sections-match = subst (λ (l : List Namespace). Spaces (sectionsOf σ) (sectionsAfter s n [] l)) spaces-are (matching as′ [] [] tt)
+      sections-match : Spaces (groupsOf σ) (sectionsAfter s n [] ns)
+      unfolding groupsOf
+      sections-match = subst (λ (l : List Namespace). Spaces (groupsOf σ) (sectionsAfter s n [] l)) spaces-are (matching as′ [] [] tt)
 
-      pub sections-are : length (sectionsAfter s n [] ns) ≡ length (sectionsOf σ)
-      sections-are = spaces-long (sectionsOf σ) (sectionsAfter s n [] ns) sections-match
+      pub sections-are : length (sectionsAfter s n [] ns) ≡ length (groupsOf σ)
+      sections-are = spaces-long (groupsOf σ) (sectionsAfter s n [] ns) sections-match
 
       pub sections-few : length gs ≤ 16 → length (sectionsAfter s n [] ns) ≤ 16
       sections-few h = omega (arith, numbering.sections-few s n [] ns, map-long (λ (g : Given). namespaceOf own open′ (g .code)) gs)
@@ -275,8 +275,8 @@ module _ (t : Table) (s : List ℕ) where
       unfolding attributeOf spaceOf sameNamespace
       sorted-one c =
           let m : Namespace = namespaceOf own open′ (c .code) in
-          let e : suc (placeAmong s m 0 (sectionsAfter s n [] ns)) ≡ sectionPlace 1 (sectionsOf σ) (attributeOf t s (made s own open′ c)) =
-          sym (place-are (attributeOf t s (made s own open′ c)) m refl (sectionsOf σ) (sectionsAfter s n [] ns) sections-match 0) in
+          let e : suc (placeAmong s m 0 (sectionsAfter s n [] ns)) ≡ sectionPlace 1 (groupsOf σ) (attributeOf t s (made s own open′ c)) =
+          sym (place-are (attributeOf t s (made s own open′ c)) m refl (groupsOf σ) (sectionsAfter s n [] ns) sections-match 0) in
           ap (λ (k : ℕ). sorted (givenOf t s own open′ c) (cond (staysWith s n m) 0 k)) e
 
       numbers-are : numbersFrom s n [] ns ≡ map numberOf gs
@@ -300,4 +300,4 @@ module _ (t : Table) (s : List ℕ) where
           ∙ map-same (λ (c : Coded). sorted (givenOf t s own open′ c) (numberOf (givenOf t s own open′ c))) (λ (c : Coded). sortedOf σ (attributeOf t s (made s own open′ c))) sorted-one (keep (delivered s) cs)
           ∙ sym (map-map (sortedOf σ) (λ (c : Coded). attributeOf t s (made s own open′ c)) (keep (delivered s) cs))
           ∙ ap (map (sortedOf σ)) (sym (map-map (attributeOf t s) (made s own open′) (keep (delivered s) cs)))
-          ∙ ap (λ (x : List scene.Attribute). map (sortedOf σ) (map (attributeOf t s) x)) (sym (kept-are s own open′ cs))
+          ∙ ap (λ (x : List scene.ReadAttribute). map (sortedOf σ) (map (attributeOf t s) x)) (sym (kept-are s own open′ cs))

@@ -27,7 +27,7 @@ use Rattle.table.proofs.Indexed.{chosen-rules}
 use Rattle.model.specs.Theory.{AttributeUnit, holds}
 use Rattle.model.specs.Stream.{Entry, unitsOf, startRecords, give}
 use Rattle.model.specs.Elements.{Space, Attribute, Element, sameSpace, stays}
-use Rattle.model.specs.Groups.{AttributeSection, sectionsOf, attributeRules, unitBy, attributeUnits, isAttach, keepsSection, kept, startBodies}
+use Rattle.model.specs.Groups.{AttributeGroup, groupsOf, groupRules, unitBy, attributeUnits, isAttach, keepsGroup, kept, startBodies}
 use Rattle.model.specs.Records.{Body, startBody, attributeBodies}
 use Rattle.model.specs.Dispatch.{dispatch}
 use Rattle.model.proofs.Lists.{gather-same, gather-map}
@@ -52,7 +52,7 @@ attach-orElse mode [] = refl
 attach-orElse mode (r ∷ rs) = refl
 
 -- the unit of a section
-unit-is : (σ : Element) (c : AttributeSection) (action : Action) (schema : ℕ) → unitFor (σ .at) (map (sortedOf σ) (c .members)) action schema ≡ unitBy σ c action schema
+unit-is : (σ : Element) (c : AttributeGroup) (action : Action) (schema : ℕ) → unitFor (σ .at) (map (sortedOf σ) (c .members)) action schema ≡ unitBy σ c action schema
 unit-is σ c Attach schema = refl
 unit-is σ c Unwrap schema = refl
 unit-is σ c Validate schema = rw (gather-map sortedBodies (sortedOf σ) (c .members))
@@ -69,13 +69,13 @@ module _ (table : List ℕ) (h : Header) (few : h .rules ≤ 128) where
     abbrev index : List ℕ
     index = indexOf table h
 
-    class-few : (c : AttributeSection) → Formed (leaving σ) c → c .space .class < 256
+    class-few : (c : AttributeGroup) → Formed (leaving σ) c → c .space .class < 256
     class-few c f = rw (f .space-is) (v .few-classes (f .first) (first-in σ c f))
 
     module _ (mode : ℕ) (m : mode < 32) where
       -- ---- attribute units
-      section-units : (d : AttributeSection) (i : ℕ) → i < length (sectionsOf σ)
-          → sectionUnits index mode (σ .at) (allOf σ) (1 + i) ≡ (gather (λ (r : Rule). unitBy σ (getD (sectionsOf σ) i d) (r .action) (r .schema)) (attributeRules t mode (getD (sectionsOf σ) i d)))
+      section-units : (d : AttributeGroup) (i : ℕ) → i < length (groupsOf σ)
+          → sectionUnits index mode (σ .at) (allOf σ) (1 + i) ≡ (gather (λ (r : Rule). unitBy σ (getD (groupsOf σ) i d) (r .action) (r .schema)) (groupRules t mode (getD (groupsOf σ) i d)))
       unfolding sectionUnits
       section-units d i l =
           ap₂ (λ (ms : List Sorted) (class : ℕ). gather (λ (r : Rule). unitFor (σ .at) ms (r .action) (r .schema)) (rulesIn index mode 1 class)) (section-members σ d i l) (section-class σ d i l)
@@ -83,14 +83,14 @@ module _ (table : List ℕ) (h : Header) (few : h .rules ≤ 128) where
           ∙ gather-same (λ (r : Rule). unitFor (σ .at) (map (sortedOf σ) (c .members)) (r .action) (r .schema)) (λ (r : Rule). unitBy σ c (r .action) (r .schema)) (λ r. unit-is σ c (r .action) (r .schema)) (rulesOf t mode 1 (c .space .class))
           ∙ sym (units-orElse (unitBy σ c) (λ n. refl) mode (rulesOf t mode 1 (c .space .class)))
         where
-          c : AttributeSection
-          c = getD (sectionsOf σ) i d
+          c : AttributeGroup
+          c = getD (groupsOf σ) i d
 
-      pub units-are : strandUnits (indexOf table h) (σ .at) (allOf σ) (length (sectionsOf σ)) mode ≡ attributeUnits (tableOf table h) mode σ
+      pub units-are : strandUnits (indexOf table h) (σ .at) (allOf σ) (length (groupsOf σ)) mode ≡ attributeUnits (tableOf table h) mode σ
       unfolding strandUnits attributeUnits
       units-are =
-          gather-places (sectionUnits index mode (σ .at) (allOf σ)) (λ (c : AttributeSection). gather (λ (r : Rule). unitBy σ c (r .action) (r .schema)) (attributeRules t mode c))
-          (record { space = σ .space; members = [] }) (sectionsOf σ) 1 (section-units (record { space = σ .space; members = [] }))
+          gather-places (sectionUnits index mode (σ .at) (allOf σ)) (λ (c : AttributeGroup). gather (λ (r : Rule). unitBy σ c (r .action) (r .schema)) (groupRules t mode c))
+          (record { space = σ .space; members = [] }) (groupsOf σ) 1 (section-units (record { space = σ .space; members = [] }))
 
       -- ---- kept attributes
       abbrev attaches : ℕ → Bool
@@ -99,10 +99,10 @@ module _ (table : List ℕ) (h : Header) (few : h .rules ≤ 128) where
       class-attaches : (class : ℕ) → class < 256 → keepsClass index mode class ≡ attaches class
       class-attaches class l = ap (any (λ (r : Rule). isAttach (r .action))) (rules-in mode 1 class m (omega arith) l)
 
-      section-keeps : (a : Attribute) → In a (σ .attributes) → (c : AttributeSection) → Formed (leaving σ) c → (has c a && keepsSection t mode c) ≡ (has c a && attaches (a .space .class))
+      section-keeps : (a : Attribute) → In a (σ .attributes) → (c : AttributeGroup) → Formed (leaving σ) c → (has c a && keepsGroup t mode c) ≡ (has c a && attaches (a .space .class))
       section-keeps a i c f = by (has c a) refl
         where
-          by : (z : Bool) → z ≡ has c a → (z && keepsSection t mode c) ≡ (z && attaches (a .space .class))
+          by : (z : Bool) → z ≡ has c a → (z && keepsGroup t mode c) ≡ (z && attaches (a .space .class))
           by true e =
               let s : sameSpace (f .first .space) (a .space) ≡ true = ap (λ (w : Space). sameSpace w (a .space)) (sym (f .space-is)) ∙ sym e in
               attach-orElse mode (rulesOf t mode 1 (c .space .class))
@@ -114,19 +114,19 @@ module _ (table : List ℕ) (h : Header) (few : h .rules ≤ 128) where
       kept-are a i = by (stays σ a) refl
         where
           sectioned : Bool
-          sectioned = any (λ (c : AttributeSection). has c a && keepsSection t mode c) (sectionsOf σ)
+          sectioned = any (λ (c : AttributeGroup). has c a && keepsGroup t mode c) (groupsOf σ)
 
           away : stays σ a ≡ false → keepsClass index mode (a .space .class) ≡ sectioned
           away e =
-              let some : any (λ (c : AttributeSection). has c a) (sectionsOf σ) ≡ true = sections-of σ .each a (in-kept (λ (b : Attribute). not (stays σ b)) a (σ .attributes) i (ap not e)) in
+              let some : any (λ (c : AttributeGroup). has c a) (groupsOf σ) ≡ true = sections-of σ .each a (in-kept (λ (b : Attribute). not (stays σ b)) a (σ .attributes) i (ap not e)) in
               class-attaches (a .space .class) (v .few-classes a i)
-              ∙ sym (any-same (Formed (leaving σ)) (λ (c : AttributeSection). has c a && keepsSection t mode c) (λ (c : AttributeSection). has c a && attaches (a .space .class)) (section-keeps a i) (sectionsOf σ) (sections-of σ .formed)
-              ∙ any-and (λ (c : AttributeSection). has c a) (attaches (a .space .class)) (sectionsOf σ)
+              ∙ sym (any-same (Formed (leaving σ)) (λ (c : AttributeGroup). has c a && keepsGroup t mode c) (λ (c : AttributeGroup). has c a && attaches (a .space .class)) (section-keeps a i) (groupsOf σ) (sections-of σ .formed)
+              ∙ any-and (λ (c : AttributeGroup). has c a) (attaches (a .space .class)) (groupsOf σ)
               ∙ ap (λ (b : Bool). b && attaches (a .space .class)) some)
 
-          by : (z : Bool) → z ≡ stays σ a → (eqb (cond z 0 (sectionPlace 1 (sectionsOf σ) a)) 0 || keepsClass index mode (a .space .class)) ≡ (z || sectioned)
+          by : (z : Bool) → z ≡ stays σ a → (eqb (cond z 0 (sectionPlace 1 (groupsOf σ) a)) 0 || keepsClass index mode (a .space .class)) ≡ (z || sectioned)
           by true e = refl
-          by false e = ap (λ (b : Bool). b || keepsClass index mode (a .space .class)) (place-some (sectionsOf σ) a) ∙ away (sym e)
+          by false e = ap (λ (b : Bool). b || keepsClass index mode (a .space .class)) (place-some (groupsOf σ) a) ∙ away (sym e)
 
       kept-bodies : gather sortedBodies (keep (keeps index mode) (allOf σ)) ≡ gather attributeBodies (keep (kept t mode σ) (σ .attributes))
       kept-bodies =
@@ -151,8 +151,8 @@ module _ (table : List ℕ) (h : Header) (few : h .rules ≤ 128) where
         elementwise.gather-same (λ (e : Entry). e .strand .mode < 32) (elementRecords index (σ .at) begun (allOf σ)) (startRecords (dispatch t) σ) (λ e m. start-are e begun m d) es a
 
     pub tag-units-are : (es : List Entry) → All (λ (e : Entry). e .strand .mode < 32) es
-        → tagUnits (indexOf table h) (σ .at) (allOf σ) (length (sectionsOf σ)) es ≡ unitsOf (dispatch (tableOf table h)) σ es
+        → tagUnits (indexOf table h) (σ .at) (allOf σ) (length (groupsOf σ)) es ≡ unitsOf (dispatch (tableOf table h)) σ es
     tag-units-are es a =
-        elementwise.gather-same (λ (e : Entry). e .strand .mode < 32) (λ (e : Entry). strandUnits index (σ .at) (allOf σ) (length (sectionsOf σ)) (e .strand .mode))
+        elementwise.gather-same (λ (e : Entry). e .strand .mode < 32) (λ (e : Entry). strandUnits index (σ .at) (allOf σ) (length (groupsOf σ)) (e .strand .mode))
         (λ (e : Entry). attributeUnits t (e .strand .mode) σ)
         (λ e m. units-are (e .strand .mode) m) es a

@@ -21,7 +21,7 @@ use Rattle.laws.proofs.Gather.{total-more}
 use Rattle.laws.proofs.Over.{over-none, over-set}
 use Rattle.table.specs.declared.Action.{Action}
 use Rattle.table.specs.declared.Action.the-variants.{Attach, Unwrap, Validate}
-use Rattle.model.specs.Stream.{Entry, allot, Strand}
+use Rattle.model.specs.Stream.{Entry, allot, HeldStrand}
 use Rattle.strands.specs.Packed.{strandIn, packed, actionNumber, targetNumber, hereNumber}
 use Rattle.strands.specs.Entries.{strandWord, aimedAt, hereCount, Unnumbered}
 
@@ -37,7 +37,7 @@ here-bit mode action true none m a = let e : (mode + action * 2 ^ 5 + 2 ^ 7 + 0)
 here-bit mode action false (some u) m a = let e : (mode + action * 2 ^ 5 + 0 + (2 ^ 8 + u * 2 ^ 9)) / 2 ^ 7 % 2 ≡ 0 = omega arith in ap (λ (k : ℕ). eqb k 1) e
 here-bit mode action true (some u) m a = let e : (mode + action * 2 ^ 5 + 2 ^ 7 + (2 ^ 8 + u * 2 ^ 9)) / 2 ^ 7 % 2 ≡ 1 = omega arith in ap (λ (k : ℕ). eqb k 1) e
 
-pub here-back : (r : Strand ℕ) → r .mode < 32 → strandIn (packed r) .here ≡ r .here
+pub here-back : (r : HeldStrand ℕ) → r .mode < 32 → strandIn (packed r) .here ≡ r .here
 unfolding strandIn packed
 here-back r m = here-bit (r .mode) (actionNumber (r .action)) (r .here) (r .target) m (action-few (r .action))
 
@@ -158,7 +158,7 @@ module _ (all₀ : List ℕ) (n unit : ℕ) (all : List ℕ) (u j : ℕ) (y : Nu
                 }
 
         -- it gets a number
-        with-number : b ≡ true → (v : ℕ) → ((r : Strand ℕ) → w ≡ packed r → r .target ≡ none → r .mode < 32 → v ≡ packed (aimedAt r u)) → Numbered all₀ n unit es all u j
+        with-number : b ≡ true → (v : ℕ) → ((r : HeldStrand ℕ) → w ≡ packed r → r .target ≡ none → r .mode < 32 → v ≡ packed (aimedAt r u)) → Numbered all₀ n unit es all u j
             → Numbered all₀ n unit es (set all j v) (u + 1) (j + 1)
         with-number t v f z = by (z .rest) (z .split) (z .rest-are) (z .each)
           where
@@ -196,7 +196,7 @@ module _ (all₀ : List ℕ) (n unit : ℕ) (all : List ℕ) (u j : ℕ) (y : Nu
             numbered = λ es l e a. as-it-was es t (y .numbered es l e a);
           }
 
-      pub numbering-yes : b ≡ true → (v : ℕ) → ((r : Strand ℕ) → w ≡ packed r → r .target ≡ none → r .mode < 32 → v ≡ packed (aimedAt r u)) → Numbering all₀ n unit (set all j v) (u + 1) (j + 1)
+      pub numbering-yes : b ≡ true → (v : ℕ) → ((r : HeldStrand ℕ) → w ≡ packed r → r .target ≡ none → r .mode < 32 → v ≡ packed (aimedAt r u)) → Numbering all₀ n unit (set all j v) (u + 1) (j + 1)
       numbering-yes t v f =
           record {
             size₀ = y .size₀;

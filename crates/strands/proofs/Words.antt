@@ -14,7 +14,7 @@ use Rattle.table.specs.Table.{actionOf}
 use Rattle.table.specs.declared.Action.{Action}
 use Rattle.table.specs.declared.Action.the-variants.{Attach, Unwrap, Validate}
 use Rattle.table.specs.declared.Rule.{Rule}
-use Rattle.model.specs.Stream.{Strand, receiver, stay}
+use Rattle.model.specs.Stream.{HeldStrand, receiver, stay}
 use Rattle.strands.specs.Packed.{strandIn, packed, actionNumber, targetNumber, hereNumber, wordsAt, receives, isUnit, targetIn}
 use Rattle.strands.specs.Entries.{madeBy, aimedAt}
 
@@ -65,7 +65,7 @@ module _ (w : ℕ) where
   stay-is action aim e f = omega arith
 
 -- what a rule makes, by its action
-module _ (r : Strand ℕ) (q : Rule) where
+module _ (r : HeldStrand ℕ) (q : Rule) where
   pub made-attach : (aim : ℕ) → q .action ≡ Attach → aim ≡ targetNumber (r .target) → q .next + aim ≡ packed (madeBy r q .strand)
   unfolding packed
   made-attach aim e f = rw e (omega arith)
@@ -89,7 +89,7 @@ here-few : (b : Bool) → hereNumber b ≤ 128
 here-few true = omega arith
 here-few false = omega arith
 
-pub aimed-is : (w unit : ℕ) (r : Strand ℕ) → w ≡ packed r → r .target ≡ none → r .mode < 32 → w % 256 + 256 + unit * 512 ≡ packed (aimedAt r unit)
+pub aimed-is : (w unit : ℕ) (r : HeldStrand ℕ) → w ≡ packed r → r .target ≡ none → r .mode < 32 → w % 256 + 256 + unit * 512 ≡ packed (aimedAt r unit)
 unfolding packed
 aimed-is w unit r e n m =
     ap (λ (k : ℕ). k % 256 + 256 + unit * 512) e

@@ -16,7 +16,7 @@ use Rattle.reader.specs.declared.Found.{Found}
 use Rattle.reader.specs.declared.Found.the-variants as variant
 use Rattle.strands.specs.declared.Placing.{Placing}
 use Rattle.model.specs.Elements.{Space, Attribute, isPrefixed, sameSpace, Element, stays, spaceOf}
-use Rattle.model.specs.Groups.{AttributeSection, sectionsOf}
+use Rattle.model.specs.Groups.{AttributeGroup, groupsOf}
 
 -- An attribute as the array has it: its part, its value, the class and URI span of its namespace, and the code of the declaration in force
 pub record Given : Type 0 where
@@ -28,7 +28,7 @@ pub record Given : Type 0 where
 
 -- the namespace that a code stands for
 abbrev pub namespaceOf : List ℕ → List ℕ → ℕ → Namespace
-namespaceOf own open′ code = stored.spaceOf own open′ (stored.foundIn code)
+namespaceOf own open′ code = stored.storedSpace own open′ (stored.foundIn code)
 
 abbrev pub givenOf : Table → List ℕ → List ℕ → List ℕ → stored.Coded → Given
 givenOf t s own open′ c =
@@ -51,8 +51,8 @@ unfoldable pub givensOf : Table → List ℕ → List ℕ → List ℕ → List 
 givensOf t s own open′ l = map (givenOf t s own open′) (keep (delivered s) l)
 
 -- eight numbers to an attribute
-abbrev pub numbersOf : Given → List ℕ
-numbersOf g =
+abbrev pub givenNumbers : Given → List ℕ
+givenNumbers g =
     stored.narrowed (g .part .at) ∷ stored.narrowed (g .part .len)
     ∷ stored.narrowed (g .value .at) ∷ stored.narrowed (g .value .len)
     ∷ stored.narrowed (g .class)
@@ -62,7 +62,7 @@ numbersOf g =
 
 -- an array with these attributes from its first place on, and what it held behind them
 unfoldable pub laidGivens : List Given → List ℕ → List ℕ
-laidGivens gs l = gather numbersOf gs ++ drop (8 * length gs) l
+laidGivens gs l = gather givenNumbers gs ++ drop (8 * length gs) l
 
 unfoldable pub givenIn : List ℕ → ℕ → Given
 givenIn l k =
@@ -142,10 +142,10 @@ abbrev pub allSorted : List ℕ → List ℕ → ℕ → List Sorted
 allSorted attributes sections n = tabulate (sortedIn attributes sections) 0 n
 
 -- the same of the model's element: the number of an attribute's section in `sectionsOf`, from 1; 0 where it stays
-unfoldable pub sectionPlace : ℕ → List AttributeSection → Attribute → ℕ
+unfoldable pub sectionPlace : ℕ → List AttributeGroup → Attribute → ℕ
 sectionPlace k [] a = k
 sectionPlace k (c ∷ cs) a = cond (sameSpace (c .space) (a .space)) k (sectionPlace (suc k) cs a)
 
 abbrev pub sortedOf : Element → Attribute → Sorted
 sortedOf e a =
-    record { part = a .part; value = a .value; class = a .space .class; uri = a .space .uri; section = cond (stays e a) 0 (sectionPlace 1 (sectionsOf e) a) }
+    record { part = a .part; value = a .value; class = a .space .class; uri = a .space .uri; section = cond (stays e a) 0 (sectionPlace 1 (groupsOf e) a) }

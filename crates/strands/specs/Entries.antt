@@ -11,16 +11,16 @@ use Rattle.laws.specs.Lists.{tabulate}
 use Rattle.laws.specs.Gather.{gather, total}
 use Rattle.table.specs.Table.{orElse, fallback}
 use Rattle.table.specs.declared.Rule.{Rule}
-use Rattle.model.specs.Stream.{Entry, Strand, byRule, stay}
+use Rattle.model.specs.Stream.{Entry, HeldStrand, byRule, stay}
 use Rattle.strands.specs.Packed.{strandIn, packed}
 use Rattle.strands.specs.Rules.{rulesIn}
 
 -- the strand that a rule makes of one with this target; a new unit has no number yet
-abbrev pub madeBy : Strand ℕ → Rule → Entry
+abbrev pub madeBy : HeldStrand ℕ → Rule → Entry
 madeBy r q = record { strand = byRule (q .action) (q .next) none (r .target); schema = q .schema }
 
 -- "each strand .. takes the rules of (its mode, kind 0, class)"; "No rule: one unwrap strand, same mode"
-unfoldable pub entriesBy : List ℕ → ℕ → Strand ℕ → List Entry
+unfoldable pub entriesBy : List ℕ → ℕ → HeldStrand ℕ → List Entry
 entriesBy index class r = map (madeBy r) (orElse (rulesIn index (r .mode) 0 class) (fallback 0 (r .mode) ∷ []))
 
 -- of all strands, packed in numbers
@@ -49,7 +49,7 @@ unfoldable pub entriesIn : List ℕ → List ℕ → ℕ → List Entry
 entriesIn words schemas n = tabulate (entryIn words schemas) 0 n
 
 -- a strand whose unit opens here, with the unit's number
-abbrev pub aimedAt : Strand ℕ → ℕ → Strand ℕ
+abbrev pub aimedAt : HeldStrand ℕ → ℕ → HeldStrand ℕ
 aimedAt r u = record { mode = r .mode; action = r .action; target = some u; here = r .here }
 
 -- how many of some strands open a unit here

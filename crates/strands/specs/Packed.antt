@@ -9,10 +9,10 @@ use Rattle.laws.specs.Lists.{tabulate}
 use Rattle.table.specs.Table.{actionOf}
 use Rattle.table.specs.declared.Action.{Action}
 use Rattle.table.specs.declared.Action.the-variants.{Attach, Unwrap, Validate}
-use Rattle.model.specs.Stream.{Strand, receiver}
+use Rattle.model.specs.Stream.{HeldStrand, receiver}
 
 -- a strand in a number: mode 5 bits, action 2, opened here 1, has a target 1, target 16, from the lowest on
-unfoldable pub strandIn : ℕ → Strand ℕ
+unfoldable pub strandIn : ℕ → HeldStrand ℕ
 strandIn w =
     record {
       mode = w % 2 ^ 5;
@@ -34,7 +34,7 @@ abbrev pub hereNumber : Bool → ℕ
 hereNumber false = 0
 hereNumber true = 2 ^ 7
 
-unfoldable pub packed : Strand ℕ → ℕ
+unfoldable pub packed : HeldStrand ℕ → ℕ
 packed r = r .mode + actionNumber (r .action) * 2 ^ 5 + hereNumber (r .here) + targetNumber (r .target)
 
 -- the numbers of a level's strands: sixteen places to a level
@@ -42,7 +42,7 @@ abbrev pub wordsAt : List ℕ → ℕ → ℕ → List ℕ
 wordsAt strands level count = tabulate (λ (i : ℕ). getD strands i 0) (16 * level) count
 
 -- the unit that gets what a strand delivers
-abbrev pub receives : Strand ℕ → Option ℕ
+abbrev pub receives : HeldStrand ℕ → Option ℕ
 receives r = receiver (r .action) (r .target)
 
 abbrev pub isUnit : Option ℕ → Bool

@@ -13,7 +13,7 @@ use Rattle.table.specs.declared.Action.the-variants.{Attach, Unwrap, Validate}
 use Rattle.table.specs.declared.Rule.{Rule}
 use Rattle.reader.specs.Spans.{span}
 use Rattle.model.specs.Theory.{AttributeUnit, Piece, opens, holds, Record}
-use Rattle.model.specs.Stream.{Entry, Strand, give}
+use Rattle.model.specs.Stream.{Entry, HeldStrand, give}
 use Rattle.model.specs.Records.{Body, spaced, plain, closeBody, virtualStart, virtualEnd}
 use Rattle.model.specs.Dispatch.{pieceBody}
 use Rattle.records.specs.declared.Row.{Row}

@@ -20,9 +20,9 @@ ghost use Rattle.table.specs.Table.{tableOf};
 ghost use Rattle.lexer.specs.Attrs.{attrsIn};
 ghost use Rattle.reader.specs.Spans.{span};
 ghost use Rattle.reader.specs.Namespaces.{declared};
-ghost use Rattle.reader.specs.Stored.{spaceOf, coded};
+ghost use Rattle.reader.specs.Stored.{storedSpace, coded};
 ghost use Rattle.model.specs.Elements as elements;
-ghost use Rattle.strands.specs.Attributes.{placingOf, numbersOf, givenBy, givensOf, laidGivens};
+ghost use Rattle.strands.specs.Attributes.{placingOf, givenNumbers, givenBy, givensOf, laidGivens};
 
 // A number as 32 bits hold it.
 pub fn narrow(x: usize) -> u32
@@ -55,7 +55,7 @@ pub fn space_of(
     outer: &[u32; 256],
     f: Found,
 ) -> Placing
-    ensures { λ r. ⌜ r ≡ placingOf (elements.spaceOf (tableOf (now (table .entry)) header) (now (s .entry)) (spaceOf (now (own .entry)) (now (outer .entry)) f)) ⌝ }
+    ensures { λ r. ⌜ r ≡ placingOf (elements.spaceOf (tableOf (now (table .entry)) header) (now (s .entry)) (storedSpace (now (own .entry)) (now (outer .entry)) f)) ⌝ }
 {
     match f {
         Found::Nothing => Placing {
@@ -87,7 +87,7 @@ pub fn space_of(
 // Stores the k-th attribute: its eight numbers.
 fn put_given(attributes: &mut [u32], k: usize, a: Attr, space: Placing, code: usize)
     requires { ⌜ 8 * k + 8 ≤ length (now attributes) ⌝ }
-    ensures { λ _. ⌜ now (attributes .exit) ≡ overwrite (now (attributes .entry)) (8 * k) (numbersOf (givenBy a space code)) ⌝ }
+    ensures { λ _. ⌜ now (attributes .exit) ≡ overwrite (now (attributes .entry)) (8 * k) (givenNumbers (givenBy a space code)) ⌝ }
 {
     let at = 8 * k;
     let name = a.name;

@@ -5,7 +5,7 @@ use table::words::action_of;
 ghost use mathlib.Core.Path.{_≡_};
 ghost use mathlib.Core.Option.{none};
 ghost use Prim.Native.Nat.{ℕ, _<_};
-ghost use Rattle.model.specs.Stream.{Strand, stay};
+ghost use Rattle.model.specs.Stream.{HeldStrand, stay};
 ghost use Rattle.strands.specs.Packed.{strandIn, packed, actionNumber, targetNumber, receives, isUnit, targetIn};
 ghost use Rattle.strands.specs.Entries.{madeBy, aimedAt};
 
@@ -82,7 +82,7 @@ pub(crate) fn made_by(w: u32, rule: Rule) -> u32
 // A strand whose unit opens here, with the unit's number.
 pub(crate) fn aimed(w: u32, unit: usize) -> u32
     requires { ⌜ unit < 65536 ⌝ }
-    ensures { λ r. ⌜ ((r′ : Strand ℕ) → w ≡ packed r′ → r′ .target ≡ none → r′ .mode < 32 → r ≡ packed (aimedAt r′ unit)) ⌝ }
+    ensures { λ r. ⌜ ((r′ : HeldStrand ℕ) → w ≡ packed r′ → r′ .target ≡ none → r′ .mode < 32 → r ≡ packed (aimedAt r′ unit)) ⌝ }
 {
     w % 256 + 256 + (unit as u32) * 512
 }

@@ -9,7 +9,7 @@ ghost use Prim.Native.Nat.{_+_, _≤_, _<_};
 ghost use lib.ListN.{length};
 ghost use Rattle.laws.specs.Lists.{tabulate};
 ghost use Rattle.laws.specs.Over.{overwrite};
-ghost use Rattle.reader.specs.Stored.{foundIn, spaceOf};
+ghost use Rattle.reader.specs.Stored.{foundIn, storedSpace};
 ghost use Rattle.strands.specs.Attributes.{namespaceOf, isNothing, givenIn, staysWith, inSection, numberedIn, numberAmong, codeNamespaces, numbersFrom, sectionsAfter};
 
 // What was found for the k-th attribute of the array.
@@ -44,7 +44,7 @@ fn in_section(
     k: usize,
 ) -> bool
     requires { ⌜ (k < 16) × (k < length (now sections)) ⌝ }
-    ensures { λ r. ⌜ r ≡ inSection (now (s .entry)) (spaceOf (now (own .entry)) (now (outer .entry)) f) (numberedIn (now (own .entry)) (now (outer .entry)) (now (attributes .entry)) (now (sections .entry)) k) ⌝ }
+    ensures { λ r. ⌜ r ≡ inSection (now (s .entry)) (storedSpace (now (own .entry)) (now (outer .entry)) f) (numberedIn (now (own .entry)) (now (outer .entry)) (now (attributes .entry)) (now (sections .entry)) k) ⌝ }
 {
     if sections[k] == 0 {
         return false;
@@ -65,7 +65,7 @@ fn section_of(
 ) -> usize
     requires { ⌜ (i < 16) × (m ≤ i) × (i ≤ length (now sections)) ⌝ }
     ensures { λ r. ⌜ (
-        let e = spaceOf (now (own .entry)) (now (outer .entry)) element in
+        let e = storedSpace (now (own .entry)) (now (outer .entry)) element in
         let n = namespaceOf (now (own .entry)) (now (outer .entry)) (givenIn (now (attributes .entry)) i .code) in
         let before = tabulate (numberedIn (now (own .entry)) (now (outer .entry)) (now (attributes .entry)) (now (sections .entry))) 0 i in
         r ≡ cond (staysWith (now (s .entry)) e n) 0 (numberAmong (now (s .entry)) n (m + 1) before)
@@ -100,7 +100,7 @@ pub fn number_sections(
 ) -> usize
     requires { ⌜ n ≤ 16 ⌝ }
     ensures { λ r. ⌜ (
-        let e = spaceOf (now (own .entry)) (now (outer .entry)) element in
+        let e = storedSpace (now (own .entry)) (now (outer .entry)) element in
         let ns = codeNamespaces (now (own .entry)) (now (outer .entry)) (tabulate (givenIn (now (attributes .entry))) 0 n) in
         (r ≡ length (sectionsAfter (now (s .entry)) e [] ns))
         × (now (sections .exit) ≡ overwrite (now (sections .entry)) 0 (numbersFrom (now (s .entry)) e [] ns))

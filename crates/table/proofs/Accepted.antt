@@ -22,8 +22,8 @@ use Rattle.laws.proofs.Lists.{length-tabulate, keep-map, all-kept, pair-kept}
 use Rattle.laws.proofs.Members.{in-at, all-in, none-in, map-in, all-by}
 use Rattle.compare.specs.Compare.{xmlUri}
 use Rattle.compare.proofs.Equal.{same-refl}
-use Rattle.table.specs.Table.{headerOf, wordAt, wordsOf, fieldsOf, actionOf, ruleOf, urisFrom, urisOf, decode, written, orElse, rulesOf, any as anyClass}
-use Rattle.table.specs.Judge.{said, judged, Accepted, headerFits, lengthFits, urisFill, wordFits, isEmpty, keeps, sameKey, rulesClash, urisClash}
+use Rattle.table.specs.Table.{headerOf, wordAt, wordsOf, fieldsOf, actionOf, ruleOf, urisFrom, urisOf, decode, namesClass, orElse, rulesOf, anyClass as anyClass}
+use Rattle.table.specs.Judge.{said, judged, Accepted, headerFits, lengthFits, urisFill, wordFits, isEmpty, keeps, sameRuleKey, rulesClash, urisClash}
 use Rattle.table.specs.declared.Header.{Header}
 use Rattle.table.specs.declared.Fields.{Fields}
 use Rattle.table.specs.declared.Rule.{Rule}
@@ -236,7 +236,7 @@ rule-in t a r m =
 -- rules with one mode, kind and class, of which no two clash
 module _ (mode kind class : ℕ) where
   abbrev here : ℕ → Bool
-  here w = written mode kind class (ruleOf w)
+  here w = namesClass mode kind class (ruleOf w)
 
   validates : (w : ℕ) → keeps (fieldsOf w) ≡ false → ruleOf w .action ≡ Validate
   validates w e =
@@ -250,11 +250,11 @@ module _ (mode kind class : ℕ) where
       let b = written-says mode kind class (ruleOf w) hw in
       let f : Fields = fieldsOf v in
       let g : Fields = fieldsOf w in
-      let s : sameKey f g ≡ true =
+      let s : sameRuleKey f g ≡ true =
       both (eqb (f .mode) (g .mode)) (eqb (f .kind) (g .kind) && eqb (f .class) (g .class)) (eq-eqb (f .mode) (g .mode) (a .mode-is ∙ sym (b .mode-is)))
       (both (eqb (f .kind) (g .kind)) (eqb (f .class) (g .class)) (eq-eqb (f .kind) (g .kind) (a .kind-is ∙ sym (b .kind-is))) (eq-eqb (f .class) (g .class) (a .class-is ∙ sym (b .class-is))))
       in
-      validates w (and-rest (keeps f) (keeps g) k (and-rest (sameKey f g) (keeps f && keeps g) s (or-right (eqb v w) (sameKey f g && (keeps f && keeps g)) c)))
+      validates w (and-rest (keeps f) (keeps g) k (and-rest (sameRuleKey f g) (keeps f && keeps g) s (or-right (eqb v w) (sameRuleKey f g && (keeps f && keeps g)) c)))
 
   one-of : (ws : List ℕ) → all here ws ≡ true → anyPair rulesClash ws ≡ false → OneKept (map ruleOf ws)
   unfolding all anyPair
@@ -279,8 +279,8 @@ module _ (mode kind class : ℕ) where
       by false true p q o ih = o (omega (arith, eqb-true (fieldsOf v .action) 1 (sym q)))
       by false false p q o ih = ih
 
-  one-kept-of : (ws : List ℕ) → anyPair rulesClash ws ≡ false → OneKept (keep (written mode kind class) (map ruleOf ws))
-  one-kept-of ws c = subst OneKept (sym (keep-map ruleOf (written mode kind class) ws)) (one-of (keep here ws) (all-kept here ws) (pair-kept here rulesClash ws c))
+  one-kept-of : (ws : List ℕ) → anyPair rulesClash ws ≡ false → OneKept (keep (namesClass mode kind class) (map ruleOf ws))
+  one-kept-of ws c = subst OneKept (sym (keep-map ruleOf (namesClass mode kind class) ws)) (one-of (keep here ws) (all-kept here ws) (pair-kept here rulesClash ws c))
 
 either-one : (a b : List Rule) → OneKept a → OneKept b → OneKept (orElse a b)
 either-one [] b h k = k
@@ -291,4 +291,4 @@ unfolding rulesOf
 one-kept t a mode kind class =
     let ws : List ℕ = wordsOf t (headerOf t) in
     let c = passed t a .rules in
-    either-one (keep (written mode kind class) (map ruleOf ws)) (keep (written mode kind anyClass) (map ruleOf ws)) (one-kept-of mode kind class ws c) (one-kept-of mode kind anyClass ws c)
+    either-one (keep (namesClass mode kind class) (map ruleOf ws)) (keep (namesClass mode kind anyClass) (map ruleOf ws)) (one-kept-of mode kind class ws c) (one-kept-of mode kind anyClass ws c)

@@ -17,7 +17,7 @@ use Rattle.laws.specs.Lists.{any, keep, tabulate}
 use Rattle.laws.specs.Reading.{le-or-lt, slice-here}
 use Rattle.laws.proofs.Flags.{flag-same}
 use Rattle.laws.proofs.Lists.{length-tabulate, keep-same, keep-none, keep-append, keep-map, any-append, any-stronger}
-use Rattle.table.specs.Table.{wordAt, wordsOf, ruleOf, tableOf, written, orElse, rulesOf, any as anyClass}
+use Rattle.table.specs.Table.{wordAt, wordsOf, ruleOf, tableOf, namesClass, orElse, rulesOf, anyClass as anyClass}
 use Rattle.table.specs.Index.{keyOf, bucketOf, bucket, indexed, indexFrom, upTo, indexOf, nextFrom, nextRule, wordIn, firstOf, endOf, chosenOf}
 use Rattle.table.specs.declared.Header.{Header}
 use Rattle.table.specs.declared.Rule.{Rule}
@@ -299,15 +299,15 @@ module _ (mode kind class : ℕ) (hm : mode < 32) (hk : kind < 2) (hc : class < 
   key-bucket : (w : ℕ) → hasKey (bucket mode kind * 256 + class) w ≡ true → inBucket (bucket mode kind) w ≡ true
   key-bucket w e = eq-eqb (bucketOf w) (bucket mode kind) (omega (arith, eqb-true (keyOf w) (bucket mode kind * 256 + class) e))
 
-  written-key : (w : ℕ) → written mode kind class (ruleOf w) ≡ hasKey (bucket mode kind * 256 + class) w
-  written-key w = flag-same (written mode kind class (ruleOf w)) (hasKey (bucket mode kind * 256 + class) w) there back
+  written-key : (w : ℕ) → namesClass mode kind class (ruleOf w) ≡ hasKey (bucket mode kind * 256 + class) w
+  written-key w = flag-same (namesClass mode kind class (ruleOf w)) (hasKey (bucket mode kind * 256 + class) w) there back
     where
-      there : written mode kind class (ruleOf w) ≡ true → hasKey (bucket mode kind * 256 + class) w ≡ true
+      there : namesClass mode kind class (ruleOf w) ≡ true → hasKey (bucket mode kind * 256 + class) w ≡ true
       there e =
           let a = written-says mode kind class (ruleOf w) e in
           eq-eqb (keyOf w) (bucket mode kind * 256 + class) (omega (arith, a .mode-is, a .kind-is, a .class-is))
 
-      back : hasKey (bucket mode kind * 256 + class) w ≡ true → written mode kind class (ruleOf w) ≡ true
+      back : hasKey (bucket mode kind * 256 + class) w ≡ true → namesClass mode kind class (ruleOf w) ≡ true
       back e =
           let d = eqb-true (keyOf w) (bucket mode kind * 256 + class) e in
           says-written mode kind class (ruleOf w) (record { mode-is = omega arith; kind-is = omega arith; class-is = omega arith })
@@ -315,10 +315,10 @@ module _ (mode kind class : ℕ) (hm : mode < 32) (hk : kind < 2) (hc : class < 
   bucket-few : bucket mode kind < 64
   bucket-few = omega arith
 
-  kept-words : (ws : List ℕ) → keep (written mode kind class) (map ruleOf ws) ≡ map ruleOf (keep (hasKey (bucket mode kind * 256 + class)) ws)
+  kept-words : (ws : List ℕ) → keep (namesClass mode kind class) (map ruleOf ws) ≡ map ruleOf (keep (hasKey (bucket mode kind * 256 + class)) ws)
   kept-words ws =
-      keep-map ruleOf (written mode kind class) ws
-      ∙ ap (map ruleOf) (keep-same (λ (w : ℕ). written mode kind class (ruleOf w)) (hasKey (bucket mode kind * 256 + class)) written-key ws)
+      keep-map ruleOf (namesClass mode kind class) ws
+      ∙ ap (map ruleOf) (keep-same (λ (w : ℕ). namesClass mode kind class (ruleOf w)) (hasKey (bucket mode kind * 256 + class)) written-key ws)
 
 -- ---- what is chosen
 module _ (l : List ℕ) (mode kind class : ℕ) where
@@ -364,24 +364,24 @@ module _ (t : List ℕ) (h : Header) (few : h .rules ≤ 128) (mode kind class :
       (bucket-few mode kind k hm hk hk′) (key-bucket mode kind k hm hk hk′)
 
   next-rules : (k : ℕ) → k < 256
-      → map ruleOf (those l high (bucket mode kind * 256 + k) (nextRule l low high (bucket mode kind * 256 + k))) ≡ keep (written mode kind k) (map ruleOf ws)
+      → map ruleOf (those l high (bucket mode kind * 256 + k) (nextRule l low high (bucket mode kind * 256 + k))) ≡ keep (namesClass mode kind k) (map ruleOf ws)
   next-rules k hk′ =
       ap (map ruleOf) (next-those l high (bucket mode kind * 256 + k) end-fits end-few low ∙ all-those k hk′)
       ∙ sym (kept-words mode kind k hm hk hk′ ws)
 
   -- where those that name the class are some, or none
   some-naming : (w : ℕ) (rest : List ℕ) → those l high (bucket mode kind * 256 + class) low ≡ w ∷ rest
-      → keep (written mode kind class) (map ruleOf ws) ≡ rulesOf (tableOf t h) mode kind class
+      → keep (namesClass mode kind class) (map ruleOf ws) ≡ rulesOf (tableOf t h) mode kind class
   unfolding rulesOf
   some-naming w rest e =
-      let d : keep (written mode kind class) (map ruleOf ws) ≡ ruleOf w ∷ map ruleOf rest = kept-words mode kind class hm hk hc ws ∙ ap (map ruleOf) (sym (all-those class hc) ∙ e) in
-      d ∙ sym (ap (λ (rs : List Rule). orElse rs (keep (written mode kind anyClass) (map ruleOf ws))) d)
+      let d : keep (namesClass mode kind class) (map ruleOf ws) ≡ ruleOf w ∷ map ruleOf rest = kept-words mode kind class hm hk hc ws ∙ ap (map ruleOf) (sym (all-those class hc) ∙ e) in
+      d ∙ sym (ap (λ (rs : List Rule). orElse rs (keep (namesClass mode kind anyClass) (map ruleOf ws))) d)
 
-  no-naming : those l high (bucket mode kind * 256 + class) low ≡ [] → keep (written mode kind anyClass) (map ruleOf ws) ≡ rulesOf (tableOf t h) mode kind class
+  no-naming : those l high (bucket mode kind * 256 + class) low ≡ [] → keep (namesClass mode kind anyClass) (map ruleOf ws) ≡ rulesOf (tableOf t h) mode kind class
   unfolding rulesOf
   no-naming e =
-      let d : keep (written mode kind class) (map ruleOf ws) ≡ [] = kept-words mode kind class hm hk hc ws ∙ ap (map ruleOf) (sym (all-those class hc) ∙ e) in
-      sym (ap (λ (rs : List Rule). orElse rs (keep (written mode kind anyClass) (map ruleOf ws))) d)
+      let d : keep (namesClass mode kind class) (map ruleOf ws) ≡ [] = kept-words mode kind class hm hk hc ws ∙ ap (map ruleOf) (sym (all-those class hc) ∙ e) in
+      sym (ap (λ (rs : List Rule). orElse rs (keep (namesClass mode kind anyClass) (map ruleOf ws))) d)
 
   -- the rules of the chosen key in the chosen window
   pub chosen-rules : map ruleOf

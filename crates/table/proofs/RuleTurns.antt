@@ -10,7 +10,7 @@ use mathlib.Core.List.{List, map}
 use lib.ListN.{getD, List·getD-map}
 use Rattle.laws.proofs.Lists.{getD-tabulate, getD-tabulate-out, all-done, all-not, all-on, any-done, any-found, any-on, pair-done, pair-found, pair-on}
 use Rattle.table.specs.Table.{wordAt, wordsOf, fieldsOf, ruleOf}
-use Rattle.table.specs.Judge.{fieldsFit, wordFits, sameKey, keeps, rulesClash}
+use Rattle.table.specs.Judge.{fieldsFit, wordFits, sameRuleKey, keeps, rulesClash}
 use Rattle.table.specs.declared.Fields.{Fields}
 use Rattle.table.specs.declared.Header.{Header}
 use Rattle.table.specs.declared.Rule.{Rule}
@@ -24,7 +24,7 @@ module _ (t : List ℕ) (h : Header) (i : ℕ) (r : Rule) where
   pub rule-outside : h .rules ≤ i → r ≡ ruleOf 0 → r ≡ getD (map ruleOf (wordsOf t h)) i (ruleOf 0)
   rule-outside l f = f ∙ ap ruleOf (sym (getD-tabulate-out (wordAt t) 0 (h .rules) i 0 l)) ∙ sym (List·getD-map ruleOf (wordsOf t h) i 0)
 
-pub two-rules : (v w : ℕ) (f g : Fields) → f ≡ fieldsOf v → g ≡ fieldsOf w → (eqb v w || sameKey f g && (keeps f && keeps g)) ≡ rulesClash v w
+pub two-rules : (v w : ℕ) (f g : Fields) → f ≡ fieldsOf v → g ≡ fieldsOf w → (eqb v w || sameRuleKey f g && (keeps f && keeps g)) ≡ rulesClash v w
 two-rules v w f g e d = rw (e, d)
 
 -- the loops that go through the rules: v is the answer

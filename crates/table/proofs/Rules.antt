@@ -14,16 +14,16 @@ use Rattle.laws.specs.Members.{In}
 use Rattle.laws.proofs.Flags.{and-left, and-right}
 use Rattle.laws.proofs.Lists.{keep-same, keep-none, keep-other}
 use Rattle.laws.proofs.Members.{in-kept, kept-in}
-use Rattle.table.specs.Table.{Table, written, orElse, rulesOf, any as anyClass}
+use Rattle.table.specs.Table.{Table, namesClass, orElse, rulesOf, anyClass as anyClass}
 use Rattle.table.specs.declared.Rule.{Rule}
 
 -- a rule of the table names the class
 abbrev pub named : Table → ℕ → ℕ → ℕ → Bool
-named t mode kind class = any (written mode kind class) (t .rules)
+named t mode kind class = any (namesClass mode kind class) (t .rules)
 
 -- the rule names the class; or it is any, and no rule names the class
 abbrev pub taken : Table → ℕ → ℕ → ℕ → Rule → Bool
-taken t mode kind class r = written mode kind class r || (written mode kind anyClass r && not (named t mode kind class))
+taken t mode kind class r = namesClass mode kind class r || (namesClass mode kind anyClass r && not (named t mode kind class))
 
 module _ (p q : Rule → Bool) where
   -- where one passes, the others stay
@@ -49,7 +49,7 @@ module _ (p q : Rule → Bool) where
 module _ (t : Table) (mode kind class : ℕ) where
   pub rules-kept : rulesOf t mode kind class ≡ keep (taken t mode kind class) (t .rules)
   unfolding rulesOf
-  rules-kept = either-kept (written mode kind class) (written mode kind anyClass) (t .rules)
+  rules-kept = either-kept (namesClass mode kind class) (namesClass mode kind anyClass) (t .rules)
 
   pub taken-in : (r : Rule) → In r (rulesOf t mode kind class) → In r (t .rules) × (taken t mode kind class r ≡ true)
   taken-in r m = kept-in (taken t mode kind class) r (t .rules) (subst (In r) rules-kept m)
@@ -64,7 +64,7 @@ pub record Written (mode kind class : ℕ) (r : Rule) : Type 0 where
   pub class-is : r .class ≡ class
 
 module _ (mode kind class : ℕ) (r : Rule) where
-  pub written-says : written mode kind class r ≡ true → Written mode kind class r
+  pub written-says : namesClass mode kind class r ≡ true → Written mode kind class r
   written-says e =
       let rest : (eqb (r .kind) kind && eqb (r .class) class) ≡ true = and-right (eqb (r .mode) mode) (eqb (r .kind) kind && eqb (r .class) class) e in
       record {
@@ -73,20 +73,20 @@ module _ (mode kind class : ℕ) (r : Rule) where
         class-is = eqb-true (r .class) class (and-right (eqb (r .kind) kind) (eqb (r .class) class) rest);
       }
 
-  pub says-written : Written mode kind class r → written mode kind class r ≡ true
+  pub says-written : Written mode kind class r → namesClass mode kind class r ≡ true
   says-written w = simp (eq-eqb (r .mode) mode (w .mode-is), eq-eqb (r .kind) kind (w .kind-is), eq-eqb (r .class) class (w .class-is))
 
 module _ (t : Table) (mode kind class : ℕ) (r : Rule) where
   pub taken-says : taken t mode kind class r ≡ true → Written mode kind class r ⊎ (Written mode kind anyClass r × (named t mode kind class ≡ false))
-  taken-says = by (written mode kind class r) refl
+  taken-says = by (namesClass mode kind class r) refl
     where
-      by : (b : Bool) → b ≡ written mode kind class r → (b || (written mode kind anyClass r && not (named t mode kind class))) ≡ true
+      by : (b : Bool) → b ≡ namesClass mode kind class r → (b || (namesClass mode kind anyClass r && not (named t mode kind class))) ≡ true
           → Written mode kind class r ⊎ (Written mode kind anyClass r × (named t mode kind class ≡ false))
       by true e h = inl (written-says mode kind class r (sym e))
       by false e h =
           inr (
-            written-says mode kind anyClass r (and-left (written mode kind anyClass r) (not (named t mode kind class)) h),
-            not-true (named t mode kind class) (and-right (written mode kind anyClass r) (not (named t mode kind class)) h),
+            written-says mode kind anyClass r (and-left (namesClass mode kind anyClass r) (not (named t mode kind class)) h),
+            not-true (named t mode kind class) (and-right (namesClass mode kind anyClass r) (not (named t mode kind class)) h),
           )
 
   pub says-taken : Written mode kind class r ⊎ (Written mode kind anyClass r × (named t mode kind class ≡ false)) → taken t mode kind class r ≡ true

@@ -18,8 +18,8 @@ abbrev pub T : List ℕ
 T = 0x01 ∷ 0x02 ∷ 0x01 ∷ 0x01 ∷ 0x00 ∷ 0x06 ∷ 0x00 ∷ 0x08 ∷ 0x01 ∷ 0x75 ∷ []
 
 -- the four bytes of a rule
-abbrev pub packed : ℕ → ℕ → ℕ → ℕ → ℕ → ℕ → List ℕ
-packed mode kind class action schema next =
+abbrev pub ruleBytes : ℕ → ℕ → ℕ → ℕ → ℕ → ℕ → List ℕ
+ruleBytes mode kind class action schema next =
     (mode * 8 + kind * 4 + class / 64) ∷ (class % 64 * 4 + action) ∷ schema ∷ (next * 8) ∷ []
 
 -- a URI and its length
@@ -30,10 +30,10 @@ listed uri = length uri ∷ uri
 abbrev pub T2 : List ℕ
 T2 =
     (2 ∷ 2 ∷ 2 ∷ 4 ∷ [])
-    ++ packed 0 0 1 2 0 1
-    ++ packed 1 0 2 2 1 1
-    ++ packed 1 0 2 0 0 1
-    ++ packed 1 0 255 1 0 1
+    ++ ruleBytes 0 0 1 2 0 1
+    ++ ruleBytes 1 0 2 2 1 1
+    ++ ruleBytes 1 0 2 0 0 1
+    ++ ruleBytes 1 0 255 1 0 1
     ++ listed (bytes "u")
     ++ listed (bytes "v")
 
@@ -91,38 +91,38 @@ unfolding computing
 uri-cut = refl
 
 -- A2: rules that differ in their next mode alone are not repeated; A3: an attribute rule's next mode is in range, and need not be 0
-two-units : judged (ruled (packed 0 1 255 2 0 0 ∷ packed 0 1 255 2 0 1 ∷ [])) ≡ said 0 12
+two-units : judged (ruled (ruleBytes 0 1 255 2 0 0 ∷ ruleBytes 0 1 255 2 0 1 ∷ [])) ≡ said 0 12
 unfolding computing
 two-units = refl
 
-repeated : judged (ruled (packed 0 1 255 2 0 1 ∷ packed 0 1 255 2 0 1 ∷ [])) ≡ said 12 0
+repeated : judged (ruled (ruleBytes 0 1 255 2 0 1 ∷ ruleBytes 0 1 255 2 0 1 ∷ [])) ≡ said 12 0
 unfolding computing
 repeated = refl
 
-next-past-the-modes : judged (ruled (packed 0 1 255 2 0 2 ∷ [])) ≡ said 11 0
+next-past-the-modes : judged (ruled (ruleBytes 0 1 255 2 0 2 ∷ [])) ≡ said 11 0
 unfolding computing
 next-past-the-modes = refl
 
 -- a mode past the modes; 11 goes before 12
-mode-past-the-modes : judged (ruled (packed 2 0 0 1 0 0 ∷ packed 2 0 0 1 0 0 ∷ [])) ≡ said 11 0
+mode-past-the-modes : judged (ruled (ruleBytes 2 0 0 1 0 0 ∷ ruleBytes 2 0 0 1 0 0 ∷ [])) ≡ said 11 0
 unfolding computing
 mode-past-the-modes = refl
 
 -- A4: validate without a schema; attach or unwrap with one
-no-schema : judged (0 ∷ 1 ∷ 0 ∷ 1 ∷ packed 0 0 0 2 0 0) ≡ said 11 0
+no-schema : judged (0 ∷ 1 ∷ 0 ∷ 1 ∷ ruleBytes 0 0 0 2 0 0) ≡ said 11 0
 unfolding computing
 no-schema = refl
 
-attach-with-a-schema : judged (0 ∷ 1 ∷ 2 ∷ 1 ∷ packed 0 0 0 0 1 0) ≡ said 11 0
+attach-with-a-schema : judged (0 ∷ 1 ∷ 2 ∷ 1 ∷ ruleBytes 0 0 0 0 1 0) ≡ said 11 0
 unfolding computing
 attach-with-a-schema = refl
 
-unwrap-with-a-schema : judged (0 ∷ 1 ∷ 2 ∷ 1 ∷ packed 0 0 0 1 1 0) ≡ said 11 0
+unwrap-with-a-schema : judged (0 ∷ 1 ∷ 2 ∷ 1 ∷ ruleBytes 0 0 0 1 1 0) ≡ said 11 0
 unfolding computing
 unwrap-with-a-schema = refl
 
 -- action 3; each zero bit set; a class that is not listed
-action-3 : judged (ruled (packed 0 0 0 3 0 0 ∷ [])) ≡ said 11 0
+action-3 : judged (ruled (ruleBytes 0 0 0 3 0 0 ∷ [])) ≡ said 11 0
 unfolding computing
 action-3 = refl
 
@@ -130,11 +130,11 @@ zero-bits : map (λ (b : ℕ). judged (ruled ((0 ∷ 0 ∷ 0 ∷ b ∷ []) ∷ [
 unfolding computing
 zero-bits = refl
 
-class-253 : judged (ruled (packed 0 0 253 1 0 0 ∷ [])) ≡ said 11 0
+class-253 : judged (ruled (ruleBytes 0 0 253 1 0 0 ∷ [])) ≡ said 11 0
 unfolding computing
 class-253 = refl
 
-class-past-the-uris : judged (1 ∷ 1 ∷ 0 ∷ 1 ∷ packed 0 0 2 1 0 0 ++ listed (bytes "u")) ≡ said 11 0
+class-past-the-uris : judged (1 ∷ 1 ∷ 0 ∷ 1 ∷ ruleBytes 0 0 2 1 0 0 ++ listed (bytes "u")) ≡ said 11 0
 unfolding computing
 class-past-the-uris = refl
 
@@ -152,19 +152,19 @@ unfolding computing
 uri-twice = refl
 
 -- A6: attach and unwrap, or attach twice, for one mode, kind and class; not so for class 0 and any, for another mode or kind
-attach-and-unwrap : judged (ruled (packed 0 0 0 0 0 0 ∷ packed 0 0 0 1 0 1 ∷ [])) ≡ said 12 0
+attach-and-unwrap : judged (ruled (ruleBytes 0 0 0 0 0 0 ∷ ruleBytes 0 0 0 1 0 1 ∷ [])) ≡ said 12 0
 unfolding computing
 attach-and-unwrap = refl
 
-attach-twice : judged (ruled (packed 0 0 0 0 0 0 ∷ packed 0 0 0 0 0 1 ∷ [])) ≡ said 12 0
+attach-twice : judged (ruled (ruleBytes 0 0 0 0 0 0 ∷ ruleBytes 0 0 0 0 0 1 ∷ [])) ≡ said 12 0
 unfolding computing
 attach-twice = refl
 
-attach-elsewhere : judged (ruled (packed 0 0 0 0 0 0 ∷ packed 1 0 0 0 0 0 ∷ packed 0 1 0 0 0 0 ∷ [])) ≡ said 0 16
+attach-elsewhere : judged (ruled (ruleBytes 0 0 0 0 0 0 ∷ ruleBytes 1 0 0 0 0 0 ∷ ruleBytes 0 1 0 0 0 0 ∷ [])) ≡ said 0 16
 unfolding computing
 attach-elsewhere = refl
 
-attach-and-unwrap-any : judged (ruled (packed 0 0 0 0 0 0 ∷ packed 0 0 255 1 0 1 ∷ [])) ≡ said 0 12
+attach-and-unwrap-any : judged (ruled (ruleBytes 0 0 0 0 0 0 ∷ ruleBytes 0 0 255 1 0 1 ∷ [])) ≡ said 0 12
 unfolding computing
 attach-and-unwrap-any = refl
 
@@ -201,7 +201,7 @@ unfolding computing
 no-rule-for-attributes = refl
 
 -- A7: one naming rule, even unwrap, hides every any rule
-unwrap-hides : rulesOf (decode (ruled (packed 0 0 255 2 0 0 ∷ packed 0 0 0 1 0 0 ∷ packed 0 0 255 0 0 0 ∷ []))) 0 0 0 ≡ rule 0 0 0 Unwrap 0 0 ∷ []
+unwrap-hides : rulesOf (decode (ruled (ruleBytes 0 0 255 2 0 0 ∷ ruleBytes 0 0 0 1 0 0 ∷ ruleBytes 0 0 255 0 0 0 ∷ []))) 0 0 0 ≡ rule 0 0 0 Unwrap 0 0 ∷ []
 unfolding computing
 unwrap-hides = refl
 

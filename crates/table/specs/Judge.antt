@@ -48,12 +48,12 @@ isEmpty uri = eqb (length uri) 0
 abbrev pub keeps : Fields → Bool
 keeps f = ltb (f .action) 2
 
-abbrev pub sameKey : Fields → Fields → Bool
-sameKey f g = eqb (f .mode) (g .mode) && (eqb (f .kind) (g .kind) && eqb (f .class) (g .class))
+abbrev pub sameRuleKey : Fields → Fields → Bool
+sameRuleKey f g = eqb (f .mode) (g .mode) && (eqb (f .kind) (g .kind) && eqb (f .class) (g .class))
 
 -- "a rule repeated, or two attach/unwrap rules for one mode, kind, class"
 abbrev pub rulesClash : ℕ → ℕ → Bool
-rulesClash v w = eqb v w || sameKey (fieldsOf v) (fieldsOf w) && (keeps (fieldsOf v) && keeps (fieldsOf w))
+rulesClash v w = eqb v w || sameRuleKey (fieldsOf v) (fieldsOf w) && (keeps (fieldsOf v) && keeps (fieldsOf w))
 
 -- 12: "URI listed twice or that of xml"
 abbrev pub urisClash : List (List ℕ) → Bool

@@ -79,12 +79,12 @@ abbrev pub decode : List ℕ → Table
 decode t = tableOf t (headerOf t)
 
 -- "255 in a rule means any"
-abbrev pub any : ℕ
-any = 255
+abbrev pub anyClass : ℕ
+anyClass = 255
 
 -- the rules of a mode and a kind that have this in their class field
-abbrev pub written : ℕ → ℕ → ℕ → Rule → Bool
-written mode kind class r = eqb (r .mode) mode && (eqb (r .kind) kind && eqb (r .class) class)
+abbrev pub namesClass : ℕ → ℕ → ℕ → Rule → Bool
+namesClass mode kind class r = eqb (r .mode) mode && (eqb (r .kind) kind && eqb (r .class) class)
 
 -- the first list, or where it is empty the second
 abbrev pub orElse : List Rule → List Rule → List Rule
@@ -93,11 +93,11 @@ orElse (r ∷ rs) other = r ∷ rs
 
 -- "the rules of (its mode, kind, class): those naming the class if there is one, else those naming any", in table order
 unfoldable pub rulesOf : Table → ℕ → ℕ → ℕ → List Rule
-rulesOf t mode kind class = orElse (keep (written mode kind class) (t .rules)) (keep (written mode kind any) (t .rules))
+rulesOf t mode kind class = orElse (keep (namesClass mode kind class) (t .rules)) (keep (namesClass mode kind anyClass) (t .rules))
 
 -- What is taken where no rule fits. "No rule: one unwrap strand, same mode"; of an attribute section "otherwise they are not kept"
 abbrev pub fallback : ℕ → ℕ → Rule
-fallback kind mode = record { mode = mode; kind = kind; class = any; action = Unwrap; schema = 0; next = mode }
+fallback kind mode = record { mode = mode; kind = kind; class = anyClass; action = Unwrap; schema = 0; next = mode }
 
 -- the place of a URI in a list, its first place being k; 255 where it is not there
 unfoldable pub listedFrom : List (List ℕ) → ℕ → List ℕ → ℕ

@@ -22,7 +22,7 @@ use Rattle.table.proofs.Namespaces.{inside-of}
 use Rattle.table.specs.declared.Answer.{Answer}
 use Rattle.table.specs.declared.Header.{Header}
 use Rattle.table.specs.declared.Listed.{Listed}
-use Rattle.uris.specs.Uris.{stands, uriSpanOf, sliceOf, uriOf, uriPlace}
+use Rattle.uris.specs.Uris.{stands, uriSpanOf, sliceOf, uriPart, uriPlace}
 use Rattle.uris.specs.declared.UriSpan.{UriSpan}
 use Rattle.uris.specs.declared.Source.{Source}
 use Rattle.uris.specs.declared.Source.the-variants.{Table, Scene}
@@ -83,8 +83,8 @@ module _ (table s : List ℕ) (class at len : ℕ) where
       by true false false e = omega arith
 
   -- so the part is as long as `uri_span` says
-  pub as-long : length (uriOf table s class at len) ≡ uriSpanOf table s class at len .len
-  unfolding uriOf
+  pub as-long : length (uriPart table s class at len) ≡ uriSpanOf table s class at len .len
+  unfolding uriPart
   as-long =
       let w = uriSpanOf table s class at len in
       let b = sliceOf table s (w .source) in
@@ -92,14 +92,14 @@ module _ (table s : List ℕ) (class at len : ℕ) where
 
 -- ---- the part that it names
 module _ (table s : List ℕ) (class at len : ℕ) (w : UriSpan) (p : w ≡ uriSpanOf table s class at len) where
-  part-by : (x : Source) → w .source ≡ x → spanOf (sliceOf table s x) (w .at) (w .len) ≡ uriOf table s class at len
-  unfolding uriOf
+  part-by : (x : Source) → w .source ≡ x → spanOf (sliceOf table s x) (w .at) (w .len) ≡ uriPart table s class at len
+  unfolding uriPart
   part-by x e = ap (λ (y : Source). spanOf (sliceOf table s y) (w .at) (w .len)) (sym e) ∙ ap (λ (v : UriSpan). spanOf (sliceOf table s (v .source)) (v .at) (v .len)) p
 
-  pub table-part : (r : List ℕ) → w .source ≡ Table → r ≡ spanOf table (w .at) (w .len) → r ≡ uriOf table s class at len
+  pub table-part : (r : List ℕ) → w .source ≡ Table → r ≡ spanOf table (w .at) (w .len) → r ≡ uriPart table s class at len
   table-part r e h = h ∙ part-by Table e
 
-  pub scene-part : (r : List ℕ) → w .source ≡ Scene → r ≡ spanOf s (w .at) (w .len) → r ≡ uriOf table s class at len
+  pub scene-part : (r : List ℕ) → w .source ≡ Scene → r ≡ spanOf s (w .at) (w .len) → r ≡ uriPart table s class at len
   scene-part r e h = h ∙ part-by Scene e
 
 -- ---- where that part stands

@@ -31,8 +31,8 @@ sliceOf table s Table = table
 sliceOf table s Scene = s
 
 -- the part's bytes
-unfoldable pub uriOf : List ℕ → List ℕ → ℕ → ℕ → ℕ → List ℕ
-uriOf table s class at len = let w = uriSpanOf table s class at len in spanOf (sliceOf table s (w .source)) (w .at) (w .len)
+unfoldable pub uriPart : List ℕ → List ℕ → ℕ → ℕ → ℕ → List ℕ
+uriPart table s class at len = let w = uriSpanOf table s class at len in spanOf (sliceOf table s (w .source)) (w .at) (w .len)
 
 -- where the part stands
 unfoldable pub uriPlace : RefT (List ℕ) → RefT (List ℕ) → ℕ → ℕ → ℕ → ℕ × ℕ

@@ -7,7 +7,7 @@ ghost use mathlib.Core.Path.{_≡_};
 ghost use Prim.Native.Nat.{_+_};
 ghost use lib.ListN.{length};
 ghost use lib.Dec.{leb};
-ghost use Rattle.uris.specs.Uris.{uriSpanOf, uriOf, uriPlace};
+ghost use Rattle.uris.specs.Uris.{uriSpanOf, uriPart, uriPlace};
 
 // Where a URI stands: in the table or in the scene, its place and its length.
 pub struct UriSpan {
@@ -69,7 +69,7 @@ pub fn uri_span(table: &[u8], scene: &[u8], class: u8, at: usize, len: usize) ->
 // The URI: the part of the table or of the scene that uri_span names, at its place and of its length.
 pub fn uri<'a>(table: &'a [u8], scene: &'a [u8], class: u8, at: usize, len: usize) -> &'a [u8]
     ensures place { λ r. ⌜ r .ptr ≡ uriPlace (table .entry) (scene .entry) class at len ⌝ }
-    ensures bytes { λ r. ⌜ now r ≡ uriOf (now (table .entry)) (now (scene .entry)) class at len ⌝ }
+    ensures bytes { λ r. ⌜ now r ≡ uriPart (now (table .entry)) (now (scene .entry)) class at len ⌝ }
 {
     let span = uri_span(table, scene, class, at, len);
     let source = span.source;

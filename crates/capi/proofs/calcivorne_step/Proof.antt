@@ -2,7 +2,7 @@
 use mathlib.Core.Path.{ap, _∙_}
 use borrow.Author.Needs.{needs}
 use Rattle.table.specs.declared.Answer.{Answer}
-use Rattle.capi.specs.Calls.{numbersOf, byteStep, bytesBehind}
+use Rattle.capi.specs.Calls.{answerNumbers, byteStep, bytesBehind}
 use Rattle.capi.proofs.Told.{short, long}
 use Rattle.capi.proofs.calcivorne_step.Statement.{statement}
 use Rattle.capi.proofs.calcivorne_step.Tie as tie
@@ -13,7 +13,7 @@ returns c =
     let b = a .session .now in
     let h = c .if1 .taken in
     let w = byteStep (a .table .now) (a .scene .now) b (a .out .now) in
-    (short b 255 (w .answer .number) h, (short b (a .answer .now) (numbersOf (w .answer)) h, (short b (a .out .now) (w .output) h, short b b (bytesBehind b w) h)))
+    (short b 255 (w .answer .number) h, (short b (a .answer .now) (answerNumbers (w .answer)) h, (short b (a .out .now) (w .output) h, short b b (bytesBehind b w) h)))
 
 step-bytes-requires : tie.Need-step-bytes-requires
 step-bytes-requires c κs = search needs
@@ -36,7 +36,7 @@ returns-2 c =
     let w = byteStep (a .table .now) (a .scene .now) b (a .out .now) in (
       long b 255 (w .answer .number) _ h (ap (λ (x : Answer). x .number) (e .0)),
       (
-        long b (a .answer .now) (numbersOf (w .answer)) _ h (c .tell .ensures ∙ ap numbersOf (e .0)),
+        long b (a .answer .now) (answerNumbers (w .answer)) _ h (c .tell .ensures ∙ ap answerNumbers (e .0)),
         (long b (a .out .now) (w .output) _ h (e .1 .0), long b b (bytesBehind b w) _ h (e .1 .1)),
       ),
     )

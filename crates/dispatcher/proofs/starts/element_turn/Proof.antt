@@ -5,7 +5,7 @@ use native.Mathlib.Omega.{arith}
 use Rattle.table.specs.Table.{decode}
 use Rattle.lexer.specs.Attrs.{attrsIn}
 use Rattle.reader.specs.Namespaces.{declarationsOf}
-use Rattle.reader.specs.Stored.{spaceOf}
+use Rattle.reader.specs.Stored.{storedSpace}
 use Rattle.dispatcher.specs.Sessions.{sessionOf}
 use Rattle.dispatcher.specs.Turns.{startOf, stepBy}
 use Rattle.dispatcher.specs.declared.Turn.{Turn}
@@ -59,7 +59,7 @@ open-level-requires c κs =
     let z = sessionOf (a .head) (a .levels .now) (a .bindings .now) (a .spaces .now) (a .strands .now) in
     let ds = declarationsOf (a .scene .now) (attrsIn (a .attrs .now) (a .tag .count)) in
     let e = startOf (a .scene .now) (a .bindings .now) (a .own .now) (a .attrs .now) (a .codes .now) (a .at) (a .tag) (a .found) in
-    let w = placing-is (a .table .now) (a .header) (a .index .now) (a .scene .now) z (h .0) (spaceOf (a .own .now) (a .bindings .now) (a .found)) (c .before .before .before .before .before .before .before .before .before .before .before .before .before .before .before .before .before .space-of .result) (c .before .before .before .before .before .before .before .before .before .before .before .before .before .before .before .before .before .space-of .ensures) in
+    let w = placing-is (a .table .now) (a .header) (a .index .now) (a .scene .now) z (h .0) (storedSpace (a .own .now) (a .bindings .now) (a .found)) (c .before .before .before .before .before .before .before .before .before .before .before .before .before .before .before .before .before .space-of .result) (c .before .before .before .before .before .before .before .before .before .before .before .before .before .before .before .before .before .space-of .ensures) in
     let again = told-again (a .scene .now) (a .bindings .now) (a .own .now) (a .attrs .now) (a .codes .now) (a .at) (a .tag) (a .found) (a .owned) ds (h .1) in
     let d = c .before .before .before .before .before .before .before .before .before .decide .ensures z (a .at) (a .tag) ds refl refl refl refl refl refl (h .0) again w in (
       roomy (a .scene .now) (a .bindings .now) (a .own .now) (a .attrs .now) (a .codes .now) (a .at) (a .tag) (a .found) (a .owned) ds (h .1) (a .head) (c .before .before .before .before .before .before .before .before .before .before .before .before .before .before .before .before .before .before .before .before .before .if1 .left) (c .before .before .before .before .before .before .before .before .before .before .before .before .before .before .before .before .before .before .before .if2 .left),
@@ -76,7 +76,7 @@ returns-3 c =
     let h = b .pre in
     let z = sessionOf (a .head) (a .levels .now) (a .bindings .now) (a .spaces .now) (a .strands .now) in
     let ds = declarationsOf (a .scene .now) (attrsIn (a .attrs .now) (a .tag .count)) in
-    let w = placing-is (a .table .now) (a .header) (a .index .now) (a .scene .now) z (h .0) (spaceOf (a .own .now) (a .bindings .now) (a .found)) (c .before .before .before .before .before .before .before .before .before .before .before .before .before .before .before .before .before .before .before .before .space-of .result) (c .before .before .before .before .before .before .before .before .before .before .before .before .before .before .before .before .before .before .before .before .space-of .ensures) in
+    let w = placing-is (a .table .now) (a .header) (a .index .now) (a .scene .now) z (h .0) (storedSpace (a .own .now) (a .bindings .now) (a .found)) (c .before .before .before .before .before .before .before .before .before .before .before .before .before .before .before .before .before .before .before .before .space-of .result) (c .before .before .before .before .before .before .before .before .before .before .before .before .before .before .before .before .before .before .before .before .space-of .ensures) in
     let again = told-again (a .scene .now) (a .bindings .now) (a .own .now) (a .attrs .now) (a .codes .now) (a .at) (a .tag) (a .found) (a .owned) ds (h .1) in
     let d = c .before .before .before .before .before .before .before .before .before .before .before .before .decide .ensures z (a .at) (a .tag) ds refl refl refl refl refl refl (h .0) again w in
     c .before .before .open-level .ensures (a .table .now) (a .scene .now) (a .attrs .now) (a .codes .now) (a .header) (a .found) ds (h .0) (h .1) w d

@@ -3,14 +3,14 @@ use Prim.Native.Nat.{ℕ}
 use mathlib.Core.Path.{_≡_, sym, ap, _∙_}
 use mathlib.Core.List.{List}
 use borrow.Author.Needs.{needs}
-use Rattle.lexer.specs.Stops.{placeOf}
+use Rattle.lexer.specs.Stops.{stopPlace}
 use Rattle.lexer.specs.declared.Stop.{Stop}
 use Rattle.lexer.proofs.stops.place_of.Statement.{statement}
 use Rattle.lexer.proofs.stops.place_of.Tie as tie
 
 -- the place of the stop that was met
-placed : (s : List ℕ) (x m : Stop) (r : ℕ) → x ≡ m → r ≡ placeOf s m → r ≡ placeOf s x
-placed s x m r e h = h ∙ ap (placeOf s) (sym e)
+placed : (s : List ℕ) (x m : Stop) (r : ℕ) → x ≡ m → r ≡ stopPlace s m → r ≡ stopPlace s x
+placed s x m r e h = h ∙ ap (stopPlace s) (sym e)
 
 enum-known-x : tie.Need-enum-known-x
 enum-known-x c = search needs

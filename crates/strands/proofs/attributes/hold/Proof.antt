@@ -9,7 +9,7 @@ use lib.ListN.{getD}
 use Rattle.lexer.specs.Attrs.{attrsIn}
 use Rattle.table.specs.Table.{Table, tableOf}
 use Rattle.reader.specs.declared.Found.{Found}
-use Rattle.reader.specs.Stored.{isDeclaration, spaceOf, coded}
+use Rattle.reader.specs.Stored.{isDeclaration, storedSpace, coded}
 use Rattle.model.specs.Elements as elements
 use Rattle.strands.specs.Attributes.{Given, placingOf, givensOf}
 use Rattle.strands.proofs.Giving.{Holding, begin, turn-left, turn-held, ended}
@@ -73,7 +73,7 @@ loop-again c =
     ⊎-elim
     (λ w.
     turn-held t (a .s .now) (a .own .now) (a .outer .now) (a .attrs .now) (a .codes .now) (c .before .before .before .before .before .before .at-most .result) gs _ (l .all) (l .n) (l .i) (l .inv) (c .before .before .before .before .loop-test .taken) (c .before .before .before .attr-in .result) (c .before .before .before .attr-in .ensures) (c .before .is-declaration .result) e (w .0 .taken)
-    (getD (a .codes .now) (l .i) 0) refl (w .3 .result) (w .3 .ensures ∙ ap (λ (f : Found). placingOf (elements.spaceOf t (a .s .now) (spaceOf (a .own .now) (a .outer .now) f))) (w .2 .ensures)) (c .if1 .all) (w .8 ∙ w .5 .ensures) (c .if1 .n) (w .9))
+    (getD (a .codes .now) (l .i) 0) refl (w .3 .result) (w .3 .ensures ∙ ap (λ (f : Found). placingOf (elements.spaceOf t (a .s .now) (storedSpace (a .own .now) (a .outer .now) f))) (w .2 .ensures)) (c .if1 .all) (w .8 ∙ w .5 .ensures) (c .if1 .n) (w .9))
     (λ w. turn-left t (a .s .now) (a .own .now) (a .outer .now) (a .attrs .now) (a .codes .now) (c .before .before .before .before .before .before .at-most .result) gs _ (l .all) (l .n) (l .i) (l .inv) (c .before .before .before .before .loop-test .taken) (c .before .before .before .attr-in .result) (c .before .before .before .attr-in .ensures) (c .before .is-declaration .result) e (w .0 .left) (c .if1 .all) (w .1) (c .if1 .n) (w .2))
     (c .if1 .came)
 

@@ -5,13 +5,13 @@ use Prim.Native.Nat.{_-_, _≤_}
 use native.Mathlib.Omega.{arith}
 use borrow.Author.Needs.{needs}
 use lib.ListN.{length, length-set}
-use Rattle.reader.specs.Stored.{spaceOf}
+use Rattle.reader.specs.Stored.{storedSpace}
 use Rattle.strands.proofs.Numbering.{Numbering, begin, turn, namespaceAt, all-numbered}
 use Rattle.strands.proofs.sections.number_sections.Statement.{statement}
 use Rattle.strands.proofs.sections.number_sections.Tie as tie
 
 abbrev Inv-loop : tie.InvT-loop
-Inv-loop s own outer element attributes n all₀ m₀ i₀ all m i = (i ≤ n) × (length all₀ ≡ 16) × (length all ≡ 16) × Numbering s (spaceOf own outer element) (namespaceAt own outer attributes) all₀ all m i
+Inv-loop s own outer element attributes n all₀ m₀ i₀ all m i = (i ≤ n) × (length all₀ ≡ 16) × (length all ≡ 16) × Numbering s (storedSpace own outer element) (namespaceAt own outer attributes) all₀ all m i
 
 abbrev μ-loop : tie.MeasureT-loop
 μ-loop s own outer element attributes n all₀ m₀ i₀ all m i = n - i

@@ -4,7 +4,7 @@ use Prim.Native.Nat.{ℕ, _+_, _-_}
 use native.Mathlib.Omega.{arith}
 use borrow.Author.Needs.{needs}
 use Rattle.laws.specs.Lists.{tabulate}
-use Rattle.reader.specs.Stored.{spaceOf}
+use Rattle.reader.specs.Stored.{storedSpace}
 use Rattle.strands.specs.Attributes.{namespaceOf, givenIn, numberAmong, numberedIn}
 use Rattle.strands.proofs.Numbering.{stays-nothing, stays-same, stays-not, turn-found, turn-on, turn-done, numbered-apart}
 use Rattle.strands.proofs.sections.section_of.Statement.{statement}
@@ -25,7 +25,7 @@ is-nothing-requires c κs = search needs
 returns : tie.Need-returns Inv-loop μ-loop
 returns c =
     let a = c .before .before .before .before .before .args in
-    stays-nothing (a .s .now) (a .own .now) (a .outer .now) (spaceOf (a .own .now) (a .outer .now) (a .element)) (givenIn (a .attributes .now) (a .i) .code) (c .before .before .found-at .result) (c .before .before .found-at .ensures) _ (c .before .is-nothing .ensures) (c .if1 .taken) _
+    stays-nothing (a .s .now) (a .own .now) (a .outer .now) (storedSpace (a .own .now) (a .outer .now) (a .element)) (givenIn (a .attributes .now) (a .i) .code) (c .before .before .found-at .result) (c .before .before .found-at .ensures) _ (c .before .is-nothing .ensures) (c .if1 .taken) _
 
 same-space-requires : tie.Need-same-space-requires Inv-loop μ-loop
 same-space-requires c κs = search needs
@@ -33,7 +33,7 @@ same-space-requires c κs = search needs
 returns-2 : tie.Need-returns-2 Inv-loop μ-loop
 returns-2 c =
     let a = c .before .before .before .before .before .before .before .args in
-    stays-same (a .s .now) (a .own .now) (a .outer .now) (spaceOf (a .own .now) (a .outer .now) (a .element)) (givenIn (a .attributes .now) (a .i) .code) (c .before .before .before .before .found-at .result) (c .before .before .before .before .found-at .ensures) _ (c .before .before .before .is-nothing .ensures) (c .before .before .if1 .left) _ (c .before .same-space .ensures) (c .if2 .taken) _
+    stays-same (a .s .now) (a .own .now) (a .outer .now) (storedSpace (a .own .now) (a .outer .now) (a .element)) (givenIn (a .attributes .now) (a .i) .code) (c .before .before .before .before .found-at .result) (c .before .before .before .before .found-at .ensures) _ (c .before .before .before .is-nothing .ensures) (c .before .before .if1 .left) _ (c .before .same-space .ensures) (c .if2 .taken) _
 
 loop-holds : tie.Need-loop-holds Inv-loop μ-loop
 loop-holds c =
@@ -56,8 +56,8 @@ returns-3 c =
     let l = c .before .before .before .before .loop in
     let f = c .before .before .before .before .before .before .before .before .before .found-at in
     let b = c .before .before .before .before .before in
-    numbered-apart _ _ _ _ (stays-not (a .s .now) (a .own .now) (a .outer .now) (spaceOf (a .own .now) (a .outer .now) (a .element)) (givenIn (a .attributes .now) (a .i) .code) (f .result) (f .ensures) _ (b .before .before .before .is-nothing .ensures) (b .before .before .if1 .left) _ (b .before .same-space .ensures) (b .if2 .left))
-    (turn-found (a .s .now) _ _ _ (a .i) (l .k) _ (l .inv) (c .before .before .before .loop-test .taken) _ (ap (spaceOf (a .own .now) (a .outer .now)) (f .ensures)) _ (c .before .before .in-section .ensures) (c .before .if3 .taken))
+    numbered-apart _ _ _ _ (stays-not (a .s .now) (a .own .now) (a .outer .now) (storedSpace (a .own .now) (a .outer .now) (a .element)) (givenIn (a .attributes .now) (a .i) .code) (f .result) (f .ensures) _ (b .before .before .before .is-nothing .ensures) (b .before .before .if1 .left) _ (b .before .same-space .ensures) (b .if2 .left))
+    (turn-found (a .s .now) _ _ _ (a .i) (l .k) _ (l .inv) (c .before .before .before .loop-test .taken) _ (ap (storedSpace (a .own .now) (a .outer .now)) (f .ensures)) _ (c .before .before .in-section .ensures) (c .before .if3 .taken))
 
 add-k : tie.Need-add-k Inv-loop μ-loop
 add-k c = search needs
@@ -69,7 +69,7 @@ loop-again : tie.Need-loop-again Inv-loop μ-loop
 loop-again c =
     let a = c .before .before .before .before .before .before .before .before .before .before .before .args in
     let l = c .before .before .before .loop in
-    turn-on (a .s .now) _ _ _ (a .i) (l .k) _ (l .inv) (c .before .before .loop-test .taken) _ (ap (spaceOf (a .own .now) (a .outer .now)) (c .before .before .before .before .before .before .before .before .found-at .ensures)) _ (c .before .in-section .ensures) (c .if3 .left)
+    turn-on (a .s .now) _ _ _ (a .i) (l .k) _ (l .inv) (c .before .before .loop-test .taken) _ (ap (storedSpace (a .own .now) (a .outer .now)) (c .before .before .before .before .before .before .before .before .found-at .ensures)) _ (c .before .in-section .ensures) (c .if3 .left)
 
 add-result : tie.Need-add-result Inv-loop μ-loop
 add-result c = search needs
@@ -80,7 +80,7 @@ returns-4 c =
     let l = c .before .loop in
     let f = c .before .before .before .before .before .before .found-at in
     let b = c .before .before in
-    numbered-apart _ _ _ _ (stays-not (a .s .now) (a .own .now) (a .outer .now) (spaceOf (a .own .now) (a .outer .now) (a .element)) (givenIn (a .attributes .now) (a .i) .code) (f .result) (f .ensures) _ (b .before .before .before .is-nothing .ensures) (b .before .before .if1 .left) _ (b .before .same-space .ensures) (b .if2 .left))
+    numbered-apart _ _ _ _ (stays-not (a .s .now) (a .own .now) (a .outer .now) (storedSpace (a .own .now) (a .outer .now) (a .element)) (givenIn (a .attributes .now) (a .i) .code) (f .result) (f .ensures) _ (b .before .before .before .is-nothing .ensures) (b .before .before .if1 .left) _ (b .before .same-space .ensures) (b .if2 .left))
     (turn-done (a .s .now) _ _ _ (a .i) (l .k) _ (l .inv) (c .loop-test .left))
 
 pub section-of-spec : {M : Type 1} → statement M
