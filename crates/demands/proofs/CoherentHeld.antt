@@ -4,13 +4,11 @@
 --     coherent-held
 --     coherent-more                                    more bytes behind the scene
 use Prim.Native.Nat.{ℕ, zero, suc, _+_, _-_, _*_, _≤_, _<_}
-use mathlib.Core.Path.{_≡_, refl, sym, ap, ap₂, subst, _∙_}
+use mathlib.Core.Path.{_≡_, refl, sym, ap₂, subst, _∙_}
 use mathlib.Core.List.{List, [], _++_}
 use mathlib.Core.Bool.{Bool, true, false, not, _&&_, _||_}
 use mathlib.Core.Logic.{_⊎_, inl, inr, ⊎-elim}
 use native.Mathlib.Omega.{arith}
-use native.Mathlib.Numerals.{add-one}
-use native.Mathlib.Nat.{add-zero, zero-add}
 use borrow.Author.Tests.{eqb-true, leb-true, eqb-false, not-true, le-leb}
 use lib.ListN.{length, getD, length-append}
 use lib.Dec.{eqb}
@@ -20,7 +18,6 @@ use Rattle.laws.specs.Gather.{total}
 use Rattle.laws.specs.Members.{All}
 use Rattle.laws.specs.Tests.{both}
 use Rattle.laws.proofs.Flags.{differ, and-left, and-right}
-use Rattle.laws.proofs.Gather.{total-append}
 use Rattle.table.specs.Table.{Table}
 use Rattle.lexer.specs.Whole.{isPart, isWholeName}
 use Rattle.reader.specs.Spans.{span, bytesOf}
@@ -31,7 +28,6 @@ use Rattle.reader.specs.Counted.{countOf}
 use Rattle.reader.specs.Held.{SpanHeld, BindingHeld, OpenHeld, Held}
 use Rattle.reader.specs.declared.Span.{Span}
 use Rattle.reader.specs.declared.Binding.{Binding}
-use Rattle.reader.proofs.Tabulated.{tabulate-append}
 use Rattle.reader.proofs.MoreBytes.{bytes-more, refused-more}
 use Rattle.dispatcher.specs.Sessions.{uriIn, readerOf}
 use Rattle.dispatcher.specs.Coherence.{openLevels, openBindings, depthFits, boundFits, placeInside, spanInside, levelSpansInside, bindingSpansInside, namesFit, bindingsAllowed, prefixFits, prefixesFit, strandCountsFit, modesFit, classesFit, targetsFit, validatesAim, unitsFit, countsAddUp, awaitedFits, closedFits, coherent}

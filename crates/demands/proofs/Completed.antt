@@ -10,7 +10,7 @@ use native.Mathlib.Omega.{arith}
 use borrow.Author.Tests.{eqb-true, eq-eqb, lt-ltb}
 use lib.ListN.{length, drop, getD, length-append}
 use lib.Dec.{eqb}
-use Rattle.laws.specs.Reading.{RunNext, stop, run, le-or-lt}
+use Rattle.laws.specs.Reading.{stop, run, le-or-lt}
 use Rattle.laws.specs.Lists.{sameList}
 use Rattle.laws.proofs.Holds.{holds-cond}
 use Rattle.lexer.specs.Stops.{afterRead, afterName}

@@ -16,7 +16,7 @@ use Rattle.laws.specs.Over.{overwrite}
 use Rattle.laws.specs.Gather.{gather}
 use Rattle.laws.proofs.Holds.{holds-cond}
 use Rattle.laws.proofs.Over.{drop-over, length-over}
-use Rattle.table.specs.Table.{Table, decode, headerOf, wordsOf, urisOf}
+use Rattle.table.specs.Table.{decode, headerOf, wordsOf, urisOf}
 use Rattle.table.specs.Judge.{judged, said, headerFits, lengthFits, wordFits, isEmpty, rulesClash, urisClash}
 use Rattle.table.specs.declared.Answer.{Answer}
 use Rattle.reader.specs.Events as scene
@@ -29,7 +29,7 @@ use Rattle.model.specs.Stream.{entriesAt, after}
 use Rattle.model.specs.Dispatch.{dispatch, recordBytesOf}
 use Rattle.dispatcher.specs.Sessions.{readerOf, stateOf}
 use Rattle.dispatcher.specs.Coherence.{coherent}
-use Rattle.dispatcher.specs.Stepping.{Plan, refused, finished, event, startPlan, ownDeclarations, planBy, planOf, Step, answered, refusedStep, eventStep, planned, longest, stepOf}
+use Rattle.dispatcher.specs.Stepping.{Plan, refused, finished, event, startPlan, ownDeclarations, planBy, planOf, Step, refusedStep, eventStep, planned, longest, stepOf}
 use Rattle.dispatcher.specs.declared.Session.{Session}
 use Rattle.demands.specs.Answers.{Ready, Deep, Full, Crowded, Spent, Limit, Starts, Answered, bad-table, long-scene, bad-session, unread, all-read, limited, no-room, wrote, Unchanged, Changed, Exactly, ExactlyAt, Unread, AllRead, NoRoom}
 use Rattle.demands.proofs.Goes.{event-goes}

@@ -16,7 +16,6 @@ use Rattle.laws.specs.Members.{All}
 use Rattle.laws.specs.Reading.{le-or-lt}
 use Rattle.laws.proofs.Flags.{differ}
 use Rattle.laws.proofs.Holds.{holds-cond}
-use Rattle.compare.specs.Compare.{xmlUri}
 use Rattle.compare.proofs.Equal.{same-refl, same-eq, same-sym}
 use Rattle.table.specs.Table.{Table, headerOf, decode, classOf}
 use Rattle.table.specs.Index.{indexOf}

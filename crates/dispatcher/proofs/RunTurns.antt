@@ -3,10 +3,10 @@ use Prim.Native.Nat.{ℕ, suc, _+_, _*_, _-_, _≤_, _<_}
 use mathlib.Core.Path.{_≡_, refl, sym, ap, subst, _∙_}
 use mathlib.Core.List.{List, _++_}
 use mathlib.Core.Bool.{Bool, true, false, cond, not}
-use mathlib.Core.Logic.{_⊎_, inl, inr, ⊎-elim}
+use mathlib.Core.Logic.{_⊎_, ⊎-elim}
 use native.Mathlib.Omega.{arith}
 use borrow.Author.Tests.{lt-ltb, le-ltb, eq-eqb, ne-eqb, ltb-false, not-true, not-false}
-use lib.Dec.{eqb, ltb, leb}
+use lib.Dec.{ltb}
 use lib.ListN.{length, take, drop, length-drop}
 use Rattle.laws.specs.Gather.{gather}
 use Rattle.laws.specs.Over.{overwrite}
@@ -15,12 +15,10 @@ use Rattle.table.specs.Index.{indexOf}
 use Rattle.table.specs.declared.Answer.{Answer}
 use Rattle.table.specs.declared.Header.{Header}
 use Rattle.table.specs.Judge.{judged, Accepted}
-use Rattle.model.specs.Theory.{Record}
-use Rattle.model.specs.Records.{Body}
 use Rattle.model.specs.Dispatch.{recordBytesOf}
 use Rattle.dispatcher.specs.Sessions.{freshOf, sessionOf}
 use Rattle.dispatcher.specs.Coherence.{coherent}
-use Rattle.dispatcher.specs.Stepping.{Plan, refused, finished, event, planOf, planned, Step, Run, answered, refusedStep, eventStep, longest, stepOf, handed, runFrom, runOf, ran}
+use Rattle.dispatcher.specs.Stepping.{Plan, refused, finished, event, planOf, planned, Step, Run, answered, refusedStep, stepOf, handed, runFrom, runOf, ran}
 use Rattle.dispatcher.specs.Turns.{TurnReady, stepBy, turnAnswer}
 use Rattle.dispatcher.specs.declared.Session.{Session}
 use Rattle.dispatcher.specs.declared.Turn.{Turn}

@@ -12,7 +12,7 @@ use Rattle.laws.specs.Lists.{sameList}
 use Rattle.laws.specs.Reading.{le-or-lt}
 use Rattle.laws.proofs.Holds.{holds-cond}
 use Rattle.compare.specs.Compare.{xmlUri}
-use Rattle.compare.proofs.Equal.{same-refl, same-eq}
+use Rattle.compare.proofs.Equal.{same-eq}
 use Rattle.table.specs.Table.{Table, headerOf, decode, listedFrom, classOf}
 use Rattle.table.specs.Judge.{Accepted}
 use Rattle.table.proofs.Accepted.{header-in, all-listed}

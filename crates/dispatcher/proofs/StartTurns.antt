@@ -9,7 +9,7 @@
 use Prim.Native.Nat.{ℕ, zero, suc, _+_, _-_, _*_, _%_, _^_, _≤_, _<_}
 use mathlib.Core.Path.{_≡_, refl, sym, ap, ap₂, subst, _∙_}
 use mathlib.Core.List.{List, [], _∷_, _++_, map}
-use mathlib.Core.Bool.{Bool, true, false, cond, not}
+use mathlib.Core.Bool.{Bool, true, false, not}
 use mathlib.Core.Option.{Option}
 use mathlib.Core.Logic.{⊎-elim}
 use native.Mathlib.Omega.{arith}
@@ -18,7 +18,7 @@ use borrow.Author.Tests.{eqb-false, leb-true, le-leb, lt-leb, lt-ltb, not-true}
 use lib.ListN.{length, getD, take, drop, replicate}
 use lib.Dec.{eqb}
 use Rattle.laws.specs.Reading.{le-or-lt}
-use Rattle.laws.specs.Lists.{any, keep, tabulate}
+use Rattle.laws.specs.Lists.{any, tabulate}
 use Rattle.laws.specs.Gather.{gather}
 use Rattle.laws.specs.Members.{All}
 use Rattle.laws.proofs.Holds.{holds-cond}
@@ -44,9 +44,9 @@ use Rattle.reader.specs.declared.Found.{Found}
 use Rattle.reader.specs.declared.Found.the-variants as found
 use Rattle.reader.specs.declared.Meant.{Meant}
 use Rattle.reader.specs.declared.Meant.the-variants as told
-use Rattle.reader.specs.Spans.{wholeSpan, partSpan, kindOf}
-use Rattle.reader.specs.Namespaces.{Namespace, nothing, xml, declared, ReadAttribute, attribute, declarationsOf, refusedBinding, meant, meaningOf}
-use Rattle.reader.specs.Stored.{narrowed, Coded, coded, codesOf, codeThen, codesAfter, foundIn, foundElement, foundAttribute, isDeclaration, isUnbound, storedSpace, laidBindings, fitting}
+use Rattle.reader.specs.Spans.{wholeSpan, partSpan}
+use Rattle.reader.specs.Namespaces.{Namespace, nothing, xml, declared, ReadAttribute, declarationsOf, refusedBinding, meant, meaningOf}
+use Rattle.reader.specs.Stored.{narrowed, Coded, coded, codesOf, codeThen, codesAfter, foundElement, foundAttribute, isUnbound, storedSpace, laidBindings, fitting}
 use Rattle.reader.specs.Events.{Start, Open, bindingsOf, begun, startRead, startMeant}
 use Rattle.reader.specs.Scope.{opensIn, opensOf}
 use Rattle.reader.specs.Held.{SpanHeld}
@@ -65,7 +65,7 @@ use Rattle.model.specs.Dispatch.{dispatch}
 use Rattle.strands.specs.declared.Placing.{Placing}
 use Rattle.strands.specs.Packed.{strandIn}
 use Rattle.strands.specs.Entries.{entryIn, entriesIn}
-use Rattle.strands.specs.Attributes.{Sorted, namespaceOf, delivered, placingOf}
+use Rattle.strands.specs.Attributes.{Sorted, placingOf}
 use Rattle.strands.specs.Writing.{strandUnits, tagUnits}
 use Rattle.strands.proofs.Numbered.{allOf, element-classed}
 use Rattle.strands.proofs.Sorted.{kept-are}

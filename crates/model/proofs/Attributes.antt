@@ -2,8 +2,8 @@
 use mathlib.Core.Path.{_≡_, refl, sym, ap, ap₂, subst, _∙_}
 use mathlib.Core.Bool.{Bool, true, false, cond, not, _&&_, _||_, or-false}
 use mathlib.Core.Logic.{_⊎_, inl, inr}
-use mathlib.Core.List.{List, [], _∷_, _++_, map, append-assoc, map-append}
-use mathlib.Core.Option.{Option, none, some}
+use mathlib.Core.List.{List, [], _∷_, _++_, map, append-assoc}
+use mathlib.Core.Option.{none, some}
 use Prim.Native.Nat.{ℕ}
 use Rattle.laws.specs.Lists.{sameList, keep, any}
 use Rattle.laws.specs.Gather.{gather}
@@ -12,8 +12,8 @@ use Rattle.laws.proofs.Flags.{differ}
 use Rattle.laws.proofs.Members.{in-kept}
 use Rattle.laws.proofs.Lists.{any-same}
 use Rattle.compare.proofs.Equal.{same-refl, same-eq}
-use Rattle.table.specs.Table.{Table, rulesOf, fallback, orElse}
-use Rattle.model.specs.Theory.{Action, Attach, Unwrap, Validate, Rule, AttributeUnit, Piece, opens, holds}
+use Rattle.table.specs.Table.{Table}
+use Rattle.model.specs.Theory.{Action, Attach, Unwrap, Validate, Rule, AttributeUnit, opens, holds}
 use Rattle.model.specs.Sections.{AttributeSection, TagAttribute, putTo, formedFrom, attributeSections, sectionAmong, tagAttributes}
 use Rattle.model.specs.Model.{attached, keptBodies, startPieces, virtualPieces, attributePieces}
 use Rattle.model.specs.Groups as stream

@@ -11,8 +11,8 @@ use lib.Seq.{getD-append-add}
 use Rattle.laws.specs.Lists.{tabulate}
 use Rattle.laws.specs.Gather.{gather}
 use Rattle.lexer.specs.declared.Attr.{Attr}
-use Rattle.reader.specs.Spans.{span, partSpan, valueSpan, kindOf}
-use Rattle.reader.specs.Namespaces.{binding, declaredBy, declarationsOf}
+use Rattle.reader.specs.Spans.{kindOf}
+use Rattle.reader.specs.Namespaces.{declaredBy, declarationsOf}
 use Rattle.reader.specs.Stored.{bindingIn, bindingsIn, bindingNumbers, laidBindings}
 use Rattle.reader.specs.declared.Binding.{Binding}
 use Rattle.reader.specs.declared.Kind.{Kind}

@@ -5,7 +5,7 @@ use mathlib.Core.List.{List, [], _∷_, _++_}
 use mathlib.Core.Bool.{cond, _&&_}
 use mathlib.Core.Option.{Option, none, some}
 use native.Mathlib.Omega.{arith}
-use lib.ListN.{drop, length-append, length-drop, List·getD-append}
+use lib.ListN.{drop, length-append, length-drop}
 use lib.Seq.{take-append-le, drop-append-le}
 use Rattle.laws.specs.Lists.{sameList, any}
 use Rattle.laws.specs.Members.{All}
@@ -14,7 +14,7 @@ use Rattle.lexer.specs.declared.Name.{Name}
 use Rattle.lexer.specs.declared.Attr.{Attr}
 use Rattle.lexer.proofs.Inside.{NameInside, AttrBehind}
 use Rattle.reader.specs.Spans.{bytesOf, wholeSpan, prefixSpan, kindOf}
-use Rattle.reader.specs.Namespaces.{declaredBy, declarationsOf, refusedBinding, lookUp, Namespace, nothing, xml, declared, uriOf, sameNamespace, ofPrefix, ofElement, ReadAttribute, before, resolvedBy, resolved, sameName, sameExpanded, refused, meantBy, meaningOf}
+use Rattle.reader.specs.Namespaces.{declaredBy, declarationsOf, refusedBinding, lookUp, Namespace, nothing, xml, declared, uriOf, sameNamespace, ofPrefix, ofElement, ReadAttribute, resolvedBy, resolved, sameName, sameExpanded, refused, meantBy, meaningOf}
 use Rattle.reader.specs.Events.{Open, ReaderState, partOf}
 use Rattle.reader.specs.Held.{SpanHeld, BindingIn, BindingHeld, OpenHeld, Held}
 use Rattle.reader.specs.declared.Span.{Span}

@@ -1,4 +1,4 @@
--- The open elements and their bindings in arrays of numbers; numbers 21 and 22. Definitions.
+-- The open elements and their bindings in arrays of numbers. Definitions.
 use Prim.Native.Nat.{ℕ, zero, suc, _+_, _*_, _-_}
 use mathlib.Core.List.{List, [], _∷_}
 use mathlib.Core.Bool.{cond}
@@ -34,7 +34,7 @@ withLevel sc name own owned =
       bindings = overwrite (sc .bindings) (4 * sc .bound) (take (4 * owned) own);
     }
 
--- "21 depth 65; 22 a 65th open binding": 0 where it is opened, else the scope as it was. A tag has at most 16 declarations
+-- an element opened in a scope that has room, else the scope as it was, with 21 or 22. A tag has at most 16 declarations
 unfoldable pub openedOf : Scope → Span → List ℕ → ℕ → Opened
 openedOf sc name own owned =
     cond (leb 64 (sc .depth)) (openedTo 21 sc)

@@ -2,7 +2,7 @@
 --     section-length, strand-length, tag-length         how many attribute units there are
 --     section-records, strand-records, tag-records      how many records they have
 --     element-length, elements-length                   how many records an element has along its strands
-use Prim.Native.Nat.{ℕ, suc, _+_, _*_}
+use Prim.Native.Nat.{ℕ, _+_, _*_}
 use mathlib.Core.Path.{_≡_, refl, sym, ap, _∙_}
 use mathlib.Core.List.{List, [], _∷_, _++_, map}
 use mathlib.Core.Bool.{Bool, true, false, cond}
@@ -16,7 +16,7 @@ use Rattle.laws.proofs.Gather.{total-append}
 use Rattle.table.specs.declared.Action.{Action}
 use Rattle.table.specs.declared.Action.the-variants.{Attach, Unwrap, Validate}
 use Rattle.table.specs.declared.Rule.{Rule}
-use Rattle.model.specs.Theory.{AttributeUnit, Piece, opens, holds}
+use Rattle.model.specs.Theory.{AttributeUnit, holds}
 use Rattle.model.specs.Stream.{Entry, give, attributesFrom}
 use Rattle.model.specs.Records.{Body, virtualEnd}
 use Rattle.model.proofs.Count.{attributeCount, length-gathered, length-give, length-attributes}

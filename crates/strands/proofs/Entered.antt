@@ -22,13 +22,13 @@ use Rattle.laws.proofs.Flags.{differ}
 use Rattle.laws.proofs.Holds.{each-at}
 use Rattle.laws.proofs.Lists.{length-tabulate, getD-tabulate}
 use Rattle.laws.proofs.Over.{take-over}
-use Rattle.table.specs.Table.{ruleOf, tableOf, rulesOf, orElse, fallback}
+use Rattle.table.specs.Table.{ruleOf, tableOf, orElse, fallback}
 use Rattle.table.specs.Index.{indexOf, chosenOf}
 use Rattle.table.specs.declared.Action.{Action}
 use Rattle.table.specs.declared.Action.the-variants.{Attach, Unwrap, Validate}
 use Rattle.table.specs.declared.Header.{Header}
 use Rattle.table.specs.declared.Rule.{Rule}
-use Rattle.table.proofs.Indexed.{those, chosen-rules}
+use Rattle.table.proofs.Indexed.{those}
 use Rattle.model.specs.Theory.{taken}
 use Rattle.model.specs.Stream.{Entry, allot, newUnits, takeRules, HeldStrand, heldBeforeRoot, stay, byRule}
 use Rattle.model.specs.Elements.{Element}

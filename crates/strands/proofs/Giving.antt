@@ -19,8 +19,7 @@ use Rattle.laws.specs.Over.{overwrite}
 use Rattle.laws.proofs.Over.{over-none, length-over, over-over, set-over, over-set}
 use Rattle.laws.proofs.Gather.{gather-none, gather-append}
 use Rattle.laws.proofs.Lists.{tabulate-here, tabulate-done}
-use Rattle.compare.specs.Compare.{spanOf, xmlUri}
-use Rattle.compare.proofs.Equal.{same-refl}
+use Rattle.compare.specs.Compare.{spanOf}
 use Rattle.table.specs.Table.{Table, classOf}
 use Rattle.table.proofs.Namespaces.{class-nil, class-xml}
 use Rattle.lexer.specs.declared.Attr.{Attr}
