@@ -147,7 +147,7 @@ unsigned char calcivorne_step(
  *     span[1]  its offset there
  *     span[2]  its length
  *
- * For a class that the table lists it is the table's own bytes; for 255 the scene's at uri_offset, if all uri_len bytes lie inside it. For any other
+ * For a class that the table lists it is the table's own bytes; for 255 the scene's at uri_offset, if uri_offset + uri_len is at most scene_len. For any other
  * class or span, and with a table that judge refuses, it is the empty part at the scene's start: 1, 0, 0.
  */
 unsigned char calcivorne_uri(
