@@ -2,7 +2,7 @@
 --     taken-within     the events that a run took pass no limit
 --     whole-within     a run that gives 9 passes no limit
 --     limited-run      one that gives 21 to 24 stopped at the first start that passes a limit, by that
---     run-ends         where the output has room for the events before the first limit, number and place are those of `endOf`
+--     run-ends         where the output has room for the events before the first limit, number and place are those of `runEnd`
 --     run-full         where it has not: 25
 --     finished-exactly, limited-exactly, refused-exactly     where it has room for all events: which number exactly when
 use Prim.Native.Nat.{ℕ, _+_, _*_, _-_, _≤_, _<_}

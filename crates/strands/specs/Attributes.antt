@@ -141,7 +141,7 @@ sortedIn attributes sections k =
 abbrev pub allSorted : List ℕ → List ℕ → ℕ → List Sorted
 allSorted attributes sections n = tabulate (sortedIn attributes sections) 0 n
 
--- the same of the model's element: the number of an attribute's section in `sectionsOf`, from 1; 0 where it stays
+-- the same of the model's element: the number of an attribute's group in `groupsOf`, from 1; 0 where it stays
 unfoldable pub sectionPlace : ℕ → List AttributeGroup → Attribute → ℕ
 sectionPlace k [] a = k
 sectionPlace k (c ∷ cs) a = cond (sameSpace (c .space) (a .space)) k (sectionPlace (suc k) cs a)
