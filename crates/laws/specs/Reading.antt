@@ -3,7 +3,7 @@
 --     drop-here, drop-out, slice-here     what is left of a list from an index on, at the code's `i + 1`
 --     Stable, stable-*                    an answer that is not `cut` stays when more bytes come
 --     peek                                the byte at an index, or `cut`
---     RunNext, run, run-*                  a machine that reads byte by byte
+--     RunNext, run, run-*                 a machine that reads byte by byte
 --     run-agree, run-agree-at             machines that know their scene, when more bytes come
 --     run-out, run-stop, run-go, machine  a turn of the loop that runs a machine: `search machine`
 --     room-step, fill-next                an array filled from the front, the default behind
