@@ -1,4 +1,6 @@
 // Eight bytes of a slice at a time, as one number.
+pub mod plain;
+
 ghost use mathlib.Core.Path.{_≡_};
 ghost use mathlib.Core.List.{[], _∷_};
 ghost use Prim.Native.Nat.{_+_, _≤_};
