@@ -3,10 +3,10 @@ use crate::word_at;
 ghost use mathlib.Core.Path.{_≡_};
 ghost use mathlib.Core.Bool.{true};
 ghost use Prim.Native.Nat.{ℕ, _-_, _≤_};
-ghost use lib.ListN.{take, drop};
+ghost use lib.ListN.{take};
 ghost use Rattle.laws.specs.Lists.{all};
 ghost use Rattle.words.specs.Words.{digits};
-ghost use Rattle.words.specs.Plain.{isPlain, repeated, Clear};
+ghost use Rattle.words.specs.Plain.{isPlain, plainBytes, repeated, Clear};
 
 // The high bit of each byte of w that is plain. A byte of a quote from 80 on is never plain, nor are its seven low bits.
 fn plain_bits(w: u64, quote: u8) -> u64
@@ -33,8 +33,7 @@ fn plain_count(bits: u64) -> usize
 
 // A place from at on: the bytes up to it are plain.
 pub fn plain_end(s: &[u8], at: usize, quote: u8) -> usize
-    ensures behind { λ r. ⌜ at ≤ r ⌝ }
-    ensures plain { λ r. ⌜ all (isPlain quote) (take (r - at) (drop at (now (s .entry)))) ≡ true ⌝ }
+    ensures { λ r. ⌜ (at ≤ r) × (plainBytes (now (s .entry)) quote at r ≡ true) ⌝ }
 {
     let mut i = at;
     if 8 <= s.len() {

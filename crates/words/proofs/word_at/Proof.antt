@@ -59,7 +59,7 @@ returns : tie.Need-returns
 returns c =
     let a = c .before .before .before .before .before .before .before .before .before .before .args in
     let q = eight-at (a .s .now) (a .i) (omega arith) in
-    (c .word-of .ensures .0 ∙ ap littleEndian (sym q), c .word-of .ensures .1 ∙ sym q)
+    rw q (c .word-of .ensures)
 
 pub word-at-spec : {M : Type 1} → statement M
 word-at-spec =
