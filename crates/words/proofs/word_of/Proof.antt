@@ -1,6 +1,6 @@
 -- `words::word_of` meets its contract.
-use Rattle.words.proofs.Words.{le64, le64-digits}
 use native.Mathlib.Omega.{arith}
+use Rattle.words.proofs.Words.{le64, le64-digits}
 use Rattle.words.proofs.word_of.Statement.{statement}
 use Rattle.words.proofs.word_of.Tie as tie
 
