@@ -4,7 +4,8 @@ use mathlib.Core.Path.{_≡_, refl, sym, _∙_}
 use mathlib.Core.List.{List, [], _∷_, _++_}
 use mathlib.Core.Bool.{Bool, true, false, _||_, or-assoc}
 use native.Mathlib.Numerals.{add-one}
-use lib.ListN.{length, getD, drop, drop-of-length-le}
+use native.Mathlib.Omega.{arith}
+use lib.ListN.{length, getD, drop, length-drop, drop-of-length-le}
 use lib.Seq.{drop-cons}
 use Rattle.laws.specs.Lists.{any, anyPair}
 
@@ -28,10 +29,16 @@ unfolding any
 any-append p [] ys = refl
 any-append p (x ∷ xs) ys = rw (any-append p xs ys) (sym (or-assoc (p x) (any p xs) (any p ys)))
 
+-- one element is no pair
+pair-few : {A : Type 0} (p : A → A → Bool) (l : List A) → length l ≤ 1 → anyPair p l ≡ false
+unfolding any anyPair
+pair-few p [] h = refl
+pair-few p (x ∷ []) h = refl
+pair-few p (x ∷ y ∷ l) h = absurd (omega arith)
+
 module _ {A : Type 0} (p : A → A → Bool) (l : List A) (i : ℕ) where
-  pub pair-out : length l ≤ i → anyPair p (drop i l) ≡ false
-  unfolding anyPair
-  pair-out h = rw (drop-of-length-le l h)
+  pub pair-out : length l ≤ i + 1 → anyPair p (drop i l) ≡ false
+  pair-out h = pair-few p (drop i l) (omega (arith, length-drop i l))
 
   pub pair-here : (d : A) → i < length l → anyPair p (drop i l) ≡ (any (p (getD l i d)) (drop (i + 1) l) || anyPair p (drop (i + 1) l))
   unfolding anyPair
