@@ -1,6 +1,6 @@
 -- A text, an end and a refusal, as the code's parts make them: the records of the innermost level, 25 or the output with them, the session behind.
 --     inner-level, written-text, written-end     what the innermost level writes
---     full-turn, room-turn                       25, and the records laid
+--     full-turn, room-turn, not-full             25, and the records laid; room for two of each strand
 --     stop-step, closed-session                  a refusal; the numbers behind an end
 --     opens-inner, awaited-plan, ..              what the reader's rules plan
 use Prim.Native.Nat.{ℕ, zero, suc, _+_, _*_, _-_, _/_, _%_, _^_, _≤_, _<_}
@@ -10,14 +10,15 @@ use mathlib.Core.List.{List, _∷_, map}
 use mathlib.Core.Bool.{Bool, true, false, not}
 use native.Mathlib.Omega.{arith}
 use native.Mathlib.Nat.{add-zero, mod-eq-of-lt}
-use borrow.Author.Tests.{eq-eqb, ne-eqb, lt-ltb, le-ltb}
+use borrow.Author.Tests.{eq-eqb, ne-eqb, lt-ltb, le-ltb, ltb-true, ltb-false}
 use lib.ListN.{length, getD}
-use lib.Dec.{eqb}
+use lib.Dec.{eqb, ltb}
 use Rattle.laws.specs.Lists.{tabulate, sameList}
 use Rattle.laws.specs.Tests.{untold, untold′}
 use Rattle.laws.specs.Reading.{le-or-lt}
 use Rattle.laws.specs.Over.{overwrite}
 use Rattle.laws.specs.Gather.{gather, total}
+use Rattle.laws.proofs.Lists.{length-tabulate}
 use Rattle.table.specs.Table.{Table}
 use Rattle.lexer.specs.Stops.{numberOf, stopPlace}
 use Rattle.lexer.specs.Values.{textEnd}
@@ -50,7 +51,7 @@ use Rattle.records.specs.declared.Row.{Row}
 use Rattle.records.proofs.Laid.{rows-end}
 use Rattle.strands.specs.Packed.{wordsAt}
 use Rattle.strands.specs.Writing.{rowFor, rowOf, eventRecords, eventCount}
-use Rattle.strands.proofs.Delivered.{events-length, texts-records, ends-records, rows-bytes, rows-length}
+use Rattle.strands.proofs.Delivered.{events-length, events-most, texts-records, ends-records, rows-bytes, rows-length}
 use Rattle.dispatcher.specs.Sessions.{classIn, uriIn, strandCount, strandsIn, levelIn, levelsIn, sessionOf, readerOf, stateOf, withEnd}
 use Rattle.dispatcher.specs.Stepping.{Plan, event, refused, planBy, planOf, planned, Step, answered, refusedStep, eventStep}
 use Rattle.dispatcher.specs.Turns.{stopTurn, stepBy, closedHead, endRow}
@@ -91,24 +92,36 @@ module _ (at n : ℕ) (rs : List (Record Body ℕ)) (next′ z : Session) (out :
       let o : out′ ≡ overwrite out 0 (gather model.recordBytesOf rs) = rows-end (map rowOf rs) out 0 out′ used m l .1 ∙ ap (overwrite out 0) (rows-bytes rs) in
       rw (le-ltb (length out) (16 * length rs) (omega arith), e, o)
 
--- an event of the innermost level by what was counted and laid
-module _ (b : Body) (closes : Bool) (strands : List ℕ) (level n count records : ℕ) (rs : List (Record Body ℕ)) (w : rs ≡ gather (eventRecords b closes) (wordsAt strands level count)) (e : n ≡ count) (c : records ≡ total (eventCount closes) (wordsAt strands level n)) where
-  all-counted : records ≡ length rs
+-- two records for each strand fit
+pub not-full : (len : ℕ) (strands : List ℕ) (level n : ℕ) (closes : Bool) → 32 * n ≤ len → false ≡ ltb (len / 16) (total (eventCount closes) (wordsAt strands level n))
+not-full len strands level n closes h =
+    let m = events-most closes (wordsAt strands level n) in
+    sym (le-ltb (len / 16) (total (eventCount closes) (wordsAt strands level n)) (omega (arith, m, length-tabulate (λ (i : ℕ). getD strands i 0) (16 * level) n)))
+
+-- an event of the innermost level by the test for room and what was laid
+module _ (b : Body) (closes : Bool) (strands : List ℕ) (level n count : ℕ) (rs : List (Record Body ℕ)) (w : rs ≡ gather (eventRecords b closes) (wordsAt strands level count)) (e : n ≡ count)
+    (at : ℕ) (next′ z : Session) (out : List ℕ) (full : Bool) (f : full ≡ ltb (length out / 16) (total (eventCount closes) (wordsAt strands level n))) where
+  all-counted : total (eventCount closes) (wordsAt strands level n) ≡ length rs
   all-counted =
-      c ∙ sym (events-length b closes (wordsAt strands level n)) ∙ ap (λ (k : ℕ). length (gather (eventRecords b closes) (wordsAt strands level k))) e ∙ sym (ap length w)
+      sym (events-length b closes (wordsAt strands level n)) ∙ ap (λ (k : ℕ). length (gather (eventRecords b closes) (wordsAt strands level k))) e ∙ sym (ap length w)
 
-  module _ (at : ℕ) (next′ z : Session) (out : List ℕ) where
-    pub event-full : length out / 16 < records → refusedStep 25 at z out ≡ eventStep at rs next′ z out
-    event-full h = full-turn at records rs next′ z out all-counted (omega arith)
+  full-is : full ≡ ltb (length out / 16) (length rs)
+  full-is = f ∙ ap (ltb (length out / 16)) all-counted
 
-    pub event-room : (row : Row) (used : ℕ) (out′ : List ℕ) → records ≤ length out / 16 → bodyOf row ≡ b
-        → laid out′ used ≡ laidRows (laid out 0) (map rowOf (gather (eventRecords (bodyOf row) closes) (wordsAt strands level n)))
-        → _≡_ {A = Step} (record { answer = answered 0 (next′ .place) 1 records; session = next′; output = out′ }) (eventStep at rs next′ z out)
-    event-room row used out′ h r l =
-        room-turn at records rs next′ z out all-counted used out′ (omega arith)
-        (l
-        ∙ ap (λ (rs′ : List (Record Body ℕ)). laidRows (laid out 0) (map rowOf rs′))
-        (ap₂ (λ (x : Body) (k : ℕ). gather (eventRecords x closes) (wordsAt strands level k)) r e ∙ sym w))
+  pub event-full : full ≡ true → refusedStep 25 at z out ≡ eventStep at rs next′ z out
+  event-full h = full-turn at (length rs) rs next′ z out refl (omega (arith, ltb-true (length out / 16) (length rs) (sym full-is ∙ h)))
+
+  pub event-room : (row : Row) (used : ℕ) (out′ : List ℕ) → full ≡ false → bodyOf row ≡ b
+      → laid out′ used ≡ laidRows (laid out 0) (map rowOf (gather (eventRecords (bodyOf row) closes) (wordsAt strands level n)))
+      → _≡_ {A = Step} (record { answer = answered 0 (next′ .place) 1 (used / 16); session = next′; output = out′ }) (eventStep at rs next′ z out)
+  event-room row used out′ h r l =
+      let m : 16 * length rs ≤ length out = omega (arith, ltb-false (length out / 16) (length rs) (sym full-is ∙ h)) in
+      let l′ : laid out′ used ≡ laidRows (laid out 0) (map rowOf rs) =
+      l
+      ∙ ap (λ (rs′ : List (Record Body ℕ)). laidRows (laid out 0) (map rowOf rs′))
+      (ap₂ (λ (x : Body) (k : ℕ). gather (eventRecords x closes) (wordsAt strands level k)) r e ∙ sym w) in
+      let u = rows-end (map rowOf rs) out 0 out′ used (omega (arith, rows-length rs)) l′ .0 in
+      room-turn at (used / 16) rs next′ z out (omega (arith, u, rows-length rs)) used out′ (omega (arith, u, rows-length rs)) l′
 
 -- the row of an end, for numbers that are small enough
 pub end-body : (part : Span) (spaces : List ℕ) (level : ℕ) → getD spaces (4 * level) 0 < 256 → part .at < 4294967296 → part .len < 4294967296

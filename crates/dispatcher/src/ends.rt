@@ -21,9 +21,10 @@ use strands::events::write_event;
 ghost use mathlib.Core.Path.{_≡_};
 ghost use mathlib.Core.List.{List};
 ghost use mathlib.Core.Bool.{true};
-ghost use Prim.Native.Nat.{ℕ, _+_, _*_, _-_, _≤_, _<_};
+ghost use Prim.Native.Nat.{ℕ, _+_, _*_, _-_, _/_, _≤_, _<_};
 ghost use lib.ListN.{length, getD};
-ghost use lib.Dec.{eqb};
+ghost use lib.Dec.{eqb, ltb};
+ghost use Rattle.laws.specs.Gather.{total};
 ghost use Rattle.table.specs.Table.{Table};
 ghost use Rattle.reader.specs.Spans.{between};
 ghost use Rattle.reader.specs.Scope.{opensOf};
@@ -35,7 +36,8 @@ ghost use Rattle.model.specs.Tree.{text, end};
 ghost use Rattle.model.specs.Stream.{written};
 ghost use Rattle.model.specs.Records.{textBody};
 ghost use Rattle.model.specs.Dispatch.{dispatch};
-ghost use Rattle.strands.specs.Writing.{rowFor};
+ghost use Rattle.strands.specs.Packed.{wordsAt};
+ghost use Rattle.strands.specs.Writing.{rowFor, eventCount};
 ghost use Rattle.dispatcher.specs.Sessions.{sessionOf, readerOf, stateOf, withPlace, withEnd};
 ghost use Rattle.dispatcher.specs.Stepping.{planBy, planOf, planned, eventStep};
 ghost use Rattle.dispatcher.specs.Turns.{Innermost, endRow, closedHead, stepBy};
@@ -54,6 +56,23 @@ pub fn count_at(spaces: &[u32; 4 * Session::DEPTH], level: usize) -> usize
     ensures { λ r. ⌜ r ≡ getD (now (spaces .entry)) (4 * level + 3) 0 ⌝ }
 {
     space_at(spaces, level, 3) as usize
+}
+
+// Is an output of this length too short for the records of n strands of a level? They are counted where two for each would not fit.
+fn is_full(
+    len: usize,
+    strands: &[u32; Session::STRANDS * Session::DEPTH],
+    level: usize,
+    n: usize,
+    closes: bool,
+) -> bool
+    requires { ⌜ (level < 64) × (n ≤ 16) ⌝ }
+    ensures { λ r. ⌜ r ≡ ltb (len / 16) (total (eventCount closes) (wordsAt (now (strands .entry)) level n)) ⌝ }
+{
+    if len >= 32 * n {
+        return false;
+    }
+    len / 16 < event_count(strands, level, n, closes)
 }
 
 fn text_row(at: usize, end: usize) -> Row
@@ -89,11 +108,10 @@ fn text_event(
 {
     let level = head.depth - 1;
     let n = count_at(spaces, level);
-    let records = event_count(strands, level, n, false);
-    if out.len() / 16 < records {
+    if is_full(out.len(), strands, level, n, false) {
         return stop(25, at, head);
     }
-    write_event(strands, level, n, text_row(at, end), false, out);
+    let used = write_event(strands, level, n, text_row(at, end), false, out);
     let next = Head {
         place: end,
         units: head.units,
@@ -105,7 +123,7 @@ fn text_event(
     Turn {
         number: 0,
         place: end,
-        records,
+        records: used / 16,
         head: next,
     }
 }
@@ -185,15 +203,14 @@ fn end_event(
 {
     let level = head.depth - 1;
     let n = count_at(spaces, level);
-    let records = event_count(strands, level, n, true);
-    if out.len() / 16 < records {
+    if is_full(out.len(), strands, level, n, true) {
         return stop(25, at, head);
     }
-    write_event(strands, level, n, end_row(part, spaces, level), true, out);
+    let used = write_event(strands, level, n, end_row(part, spaces, level), true, out);
     Turn {
         number: 0,
         place,
-        records,
+        records: used / 16,
         head: closed_head(head, place, levels),
     }
 }
