@@ -11,7 +11,7 @@ use lib.Dec.{eqb}
 use lib.ListN.{length, take, drop, length-drop, take-append-drop}
 use lib.Seq.{drop-drop, take-all}
 use Rattle.laws.specs.Lists.{sameList}
-use Rattle.words.specs.Words.{littleEndian, digits}
+use Rattle.lanes.specs.Words.{littleEndian, digits}
 use Rattle.compare.proofs.Equal.{same-refl, same-eq}
 
 -- the same bytes before both

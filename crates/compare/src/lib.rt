@@ -1,5 +1,5 @@
 // Bytes compared with bytes, and with the fixed byte strings that document 01 names.
-use words::word_at;
+use lanes::word_at;
 ghost use mathlib.Core.Path.{_≡_};
 ghost use Prim.Native.Nat.{_≤_};
 ghost use lib.ListN.{length};

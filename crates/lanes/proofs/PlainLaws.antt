@@ -9,9 +9,9 @@ use lib.ListN.{length, take, drop}
 use lib.Seq.{drop-drop, take-add, take-take}
 use Rattle.laws.specs.Lists.{all}
 use Rattle.laws.proofs.Lists.{all-append}
-use Rattle.words.specs.Words.{digits}
-use Rattle.words.specs.Plain.{isPlain, plainBytes, repeated, Clear}
-use Rattle.words.proofs.Lanes.{clear-none}
+use Rattle.lanes.specs.Words.{digits}
+use Rattle.lanes.specs.Plain.{isPlain, plainBytes, repeated, Clear}
+use Rattle.lanes.proofs.Lanes.{clear-none}
 
 -- nothing is passed over yet
 pub none-passed : (s : List ℕ) (quote at : ℕ) → plainBytes s quote at at ≡ true

@@ -7,7 +7,7 @@ use native.Mathlib.Omega.{arith}
 use lib.Bits.{bitOr, or-shifted-r}
 use lib.ListN.{length, getD, take, drop}
 use Rattle.laws.specs.Reading.{drop-here}
-use Rattle.words.specs.Words.{littleEndian, digits}
+use Rattle.lanes.specs.Words.{littleEndian, digits}
 
 -- a byte x shifted by k, before a number below 2 ^ k
 put : (x k y n : ℕ) → n ≡ x * 2 ^ k → y < 2 ^ k → n < 18446744073709551616 → bitOr y (n % 18446744073709551616) ≡ n + y

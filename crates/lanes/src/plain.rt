@@ -5,8 +5,8 @@ ghost use mathlib.Core.Bool.{true};
 ghost use Prim.Native.Nat.{ℕ, _-_, _≤_};
 ghost use lib.ListN.{take};
 ghost use Rattle.laws.specs.Lists.{all};
-ghost use Rattle.words.specs.Words.{digits};
-ghost use Rattle.words.specs.Plain.{isPlain, plainBytes, repeated, Clear};
+ghost use Rattle.lanes.specs.Words.{digits};
+ghost use Rattle.lanes.specs.Plain.{isPlain, plainBytes, repeated, Clear};
 
 // The high bit of each byte of w that is plain. A byte of a quote from 80 on is never plain, nor are its seven low bits.
 fn plain_bits(w: u64, quote: u8) -> u64

@@ -6,10 +6,10 @@ use native.Mathlib.Nat.{le-refl}
 use native.Mathlib.Omega.{arith}
 use borrow.Author.Needs.{needs}
 use lib.ListN.{length}
-use Rattle.words.specs.Plain.{plainBytes}
-use Rattle.words.proofs.PlainLaws.{none-passed, some-passed, all-passed}
-use Rattle.words.proofs.plain.plain_end.Statement.{statement}
-use Rattle.words.proofs.plain.plain_end.Tie as tie
+use Rattle.lanes.specs.Plain.{plainBytes}
+use Rattle.lanes.proofs.PlainLaws.{none-passed, some-passed, all-passed}
+use Rattle.lanes.proofs.plain.plain_end.Statement.{statement}
+use Rattle.lanes.proofs.plain.plain_end.Tie as tie
 
 abbrev Inv-loop : tie.InvT-loop
 Inv-loop s at quote i₀ last i = (at ≤ i) × (plainBytes s quote at i ≡ true)

@@ -2,10 +2,10 @@
 use mathlib.Core.Path.{sym, ap, _∙_}
 use native.Mathlib.Omega.{arith}
 use borrow.Author.Needs.{needs}
-use Rattle.words.specs.Words.{littleEndian}
-use Rattle.words.proofs.Words.{eight-at}
-use Rattle.words.proofs.word_at.Statement.{statement}
-use Rattle.words.proofs.word_at.Tie as tie
+use Rattle.lanes.specs.Words.{littleEndian}
+use Rattle.lanes.proofs.Words.{eight-at}
+use Rattle.lanes.proofs.word_at.Statement.{statement}
+use Rattle.lanes.proofs.word_at.Tie as tie
 
 shared-slice-read-word-of : tie.Need-shared-slice-read-word-of
 shared-slice-read-word-of c = search needs

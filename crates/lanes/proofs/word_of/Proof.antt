@@ -1,8 +1,8 @@
 -- `words::word_of` meets its contract.
-use Rattle.words.proofs.Words.{le64, le64-digits}
+use Rattle.lanes.proofs.Words.{le64, le64-digits}
 use native.Mathlib.Omega.{arith}
-use Rattle.words.proofs.word_of.Statement.{statement}
-use Rattle.words.proofs.word_of.Tie as tie
+use Rattle.lanes.proofs.word_of.Statement.{statement}
+use Rattle.lanes.proofs.word_of.Tie as tie
 
 returns : tie.Need-returns
 returns c = (

@@ -2,10 +2,10 @@
 use Prim.Native.Nat.{_-_}
 use native.Mathlib.Omega.{arith}
 use borrow.Author.Needs.{needs}
-use Rattle.words.specs.Plain.{repeated}
-use Rattle.words.proofs.Lanes.{counted}
-use Rattle.words.proofs.plain.plain_count.Statement.{statement}
-use Rattle.words.proofs.plain.plain_count.Tie as tie
+use Rattle.lanes.specs.Plain.{repeated}
+use Rattle.lanes.proofs.Lanes.{counted}
+use Rattle.lanes.proofs.plain.plain_count.Statement.{statement}
+use Rattle.lanes.proofs.plain.plain_count.Tie as tie
 
 sub-result : tie.Need-sub-result
 sub-result c = search needs

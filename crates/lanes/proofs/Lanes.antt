@@ -13,8 +13,8 @@ use lib.Count.{trailingZeros, under, trailing-le}
 use lib.ListN.{take}
 use borrow.Author.Tests.{ne-eqb, le-leb, lt-ltb}
 use Rattle.laws.specs.Lists.{all}
-use Rattle.words.specs.Words.{digits}
-use Rattle.words.specs.Plain.{isPlain, repeated, Clear}
+use Rattle.lanes.specs.Words.{digits}
+use Rattle.lanes.specs.Plain.{isPlain, repeated, Clear}
 
 -- the high bit of each lane of low, all below 80, that is not the one of c
 abbrev other : ℕ → ℕ → ℕ → ℕ

@@ -2,10 +2,10 @@
 use native.Mathlib.Omega.{arith}
 use mathlib.Core.Path.{ap}
 use lib.Bits.{bitAnd, and-le-r}
-use Rattle.words.specs.Plain.{repeated}
-use Rattle.words.proofs.Lanes.{plains, lows, xor-low, quotes-of, quotes-fit, bits-fit, bits-plain}
-use Rattle.words.proofs.plain.plain_bits.Statement.{statement}
-use Rattle.words.proofs.plain.plain_bits.Tie as tie
+use Rattle.lanes.specs.Plain.{repeated}
+use Rattle.lanes.proofs.Lanes.{plains, lows, xor-low, quotes-of, quotes-fit, bits-fit, bits-plain}
+use Rattle.lanes.proofs.plain.plain_bits.Statement.{statement}
+use Rattle.lanes.proofs.plain.plain_bits.Tie as tie
 
 mul-quotes : tie.Need-mul-quotes
 mul-quotes c = omega (arith, quotes-fit (c .args .quote))
