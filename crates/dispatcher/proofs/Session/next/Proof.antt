@@ -15,13 +15,18 @@ steps-from-requires c κs =
     let z = c .before .before .before .before .before .before .before .before .before .before .before .before .before .args .self in
     let p = c .before .before .before .before .before .before .before .before .before .before .before .before .before .pre in
     let fields = c .before .before .before .before .before .before .before .before .before .before .before .before .before .good .0 .1 .1 in
-    let scope = fields .1 .1 .1 .1 .0 .1 .1 in
-    (p .0, p .1, p .2, p .3, record {
-      levels-long = sym (length-map (z .scope .levels) (λ (x : ℕ). x)) ∙ scope .1 .1 .0 .1 .0 .1;
-      bindings-long = sym (length-map (z .scope .bindings) (λ (x : ℕ). x)) ∙ scope .1 .1 .1 .0 .1 .0 .1;
-      spaces-long = sym (length-map (z .spaces) (λ (x : ℕ). x)) ∙ fields .1 .1 .1 .1 .1 .0 .1 .0 .1;
-      strands-long = sym (length-map (z .strands) (λ (x : ℕ). x)) ∙ fields .1 .1 .1 .1 .1 .1 .0 .1 .0 .1;
-    })
+    let scope = fields .1 .1 .1 .1 .0 .1 .1 in (
+      p .0,
+      p .1,
+      p .2,
+      p .3,
+      record {
+        levels-long = sym (length-map (z .scope .levels) (λ (x : ℕ). x)) ∙ scope .1 .1 .0 .1 .0 .1;
+        bindings-long = sym (length-map (z .scope .bindings) (λ (x : ℕ). x)) ∙ scope .1 .1 .1 .0 .1 .0 .1;
+        spaces-long = sym (length-map (z .spaces) (λ (x : ℕ). x)) ∙ fields .1 .1 .1 .1 .1 .0 .1 .0 .1;
+        strands-long = sym (length-map (z .strands) (λ (x : ℕ). x)) ∙ fields .1 .1 .1 .1 .1 .1 .0 .1 .0 .1;
+      },
+    )
 
 answer-of-requires : tie.Need-answer-of-requires
 answer-of-requires c κs = search needs
