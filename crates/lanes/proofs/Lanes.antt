@@ -1,144 +1,161 @@
--- Lanes: the bytes of a number. One direction is all that is needed: where a lane of the mask is 0 the byte is plain.
---     mask-step                   the mask works on each lane apart
---     plain-lane, plain-lanes     lanes of 0: the bytes are plain
---     clear-below                 the zeros at a number's end are whole lanes of 0
-use Prim.Native.Nat.{ℕ, zero, suc, _+_, _-_, _*_, _/_, _%_, _^_, _≤_, _<_}
+-- Lanes: the bytes of a number, the least significant first. One direction is all that is needed: where the lanes of the mask are 0 up to one, the
+-- bytes up to there are plain.
+--     less-step, other-step       a lane of a difference without its high bit: nothing was borrowed from the lanes behind it
+--     plain-lanes                 lanes of 0 in the mask: the bytes are plain
+--     counted                     the zeros at a number's end, by eight: lanes of 0
+use Prim.Native.Nat.{ℕ, zero, suc, _+_, _*_, _/_, _%_, _^_, _≤_, _<_}
 use mathlib.Core.Path.{_≡_, refl, sym, ap, subst, _∙_}
-use mathlib.Core.List.{List, [], _∷_}
-use mathlib.Core.Bool.{true, false}
-use native.Mathlib.Nat.{not-suc-le-zero, le-of-suc-le-suc, mod-eq-of-lt}
+use mathlib.Core.Bool.{true}
+use native.Mathlib.Nat.{mul-assoc, pow-suc, mod-eq-of-lt, not-suc-le-zero, le-of-suc-le-suc}
 use native.Mathlib.Omega.{arith}
-use lib.Bits.{bitAnd, bitXor, and-block, xor-block, and-le-l, and-le-r, and-mask, xor-lt, xor-self}
+use lib.Bits.{bitAnd, bitOr, bitXor, and-le-l, and-le-r, or-add-and, and-high, and-mod, or-mod, xor-mod, and-shr, or-shr, xor-shr, xor-self}
 use lib.Count.{trailingZeros, under, trailing-le}
 use lib.ListN.{take}
 use borrow.Author.Tests.{ne-eqb, le-leb, lt-ltb}
 use Rattle.laws.specs.Lists.{all}
 use Rattle.lanes.specs.Words.{digits}
-use Rattle.lanes.specs.Plain.{isPlain, repeated, Clear}
+use Rattle.lanes.specs.Plain.{isPlain, Clear}
 
--- the high bit of each lane of low, all below 80, that is not the one of c
-abbrev other : ℕ → ℕ → ℕ → ℕ
-other n low c = bitXor low c + repeated n 0x7F
+-- a number of n lanes, each of them c
+abbrev pub repeated : ℕ → ℕ → ℕ
+repeated zero c = 0
+repeated (suc n) c = repeated n c * 256 + c
 
--- the high bit of each lane of w that is a plain byte; the other bits are any
-abbrev pub plains : ℕ → ℕ → ℕ → ℕ
-plains n w quotes =
-    let low = bitAnd w (repeated n 0x7F) in
-    let a = bitAnd (low + repeated n 0x60) (other n low quotes) in
-    let b = bitAnd (bitAnd (bitAnd a (other n low (repeated n 0x26))) (other n low (repeated n 0x3C))) (other n low (repeated n 0x5D)) in
-    bitAnd b (repeated n 0xFF - w)
+-- ---- differences of n lanes that wrap
 
--- the high bit of each lane of w that is no plain byte
-unfoldable mask : ℕ → ℕ → ℕ → ℕ
-mask n w quotes = repeated n 0x80 - bitAnd (plains n w quotes) (repeated n 0x80)
+record Less (n r b a : ℕ) : Type 0 where
+  over : ℕ
+  is : r + b ≡ a + over * 256 ^ n
 
--- a number's least lane, and the others
-record Lane (a h l : ℕ) : Type 0 where
-  parts : a ≡ h * 256 + l
-  small : l < 256
+wrapped : (r b a : ℕ) → (r + b) % 2 ^ 64 ≡ a → Less 8 r b a
+wrapped r b a e = record { over = (r + b) / 2 ^ 64; is = omega arith }
 
-and-lane : (a b h k l m : ℕ) → Lane a h l → Lane b k m → Lane (bitAnd a b) (bitAnd h k) (bitAnd l m)
-and-lane a b h k l m p q =
-    record {
-      parts = rw (p .parts, q .parts) (and-block 8 h k l m (p .small) (q .small));
-      small = omega (arith, and-le-l l m, p .small);
-    }
+-- a lane without its high bit: it is the difference of the lanes, and so are the lanes behind it
+less-step : (n r b a : ℕ) → Less (suc n) r b a → r % 256 < 128 → b % 256 < 128 → (a % 256 ≡ r % 256 + b % 256) × Less n (r / 256) (b / 256) (a / 256)
+less-step n r b a l h k =
+    let x : ℕ = l .over * 256 ^ n in
+    let p : l .over * 256 ^ suc n ≡ x * 256 = ap (λ (m : ℕ). l .over * m) (pow-suc 256 n) ∙ sym (mul-assoc (l .over) (256 ^ n) 256) in
+    let e : r + b ≡ a + x * 256 = l .is ∙ ap (λ (m : ℕ). a + m) p in
+    (omega arith, record { over = l .over; is = omega arith })
 
-xor-lane : (a b h k l m : ℕ) → Lane a h l → Lane b k m → Lane (bitXor a b) (bitXor h k) (bitXor l m)
-xor-lane a b h k l m p q =
-    record {
-      parts = rw (p .parts, q .parts) (xor-block 8 h k l m (p .small) (q .small));
-      small = xor-lt 8 l m (p .small) (q .small);
-    }
+-- the same of what w has not in common with c, less 1: the lane of w is not c
+other-step : (n r w c : ℕ) → c < 256 → Less (suc n) r (repeated (suc n) 1) (bitXor w (repeated (suc n) c)) → r % 256 < 128
+    → (w % 256 ≡ c → ⊥) × Less n (r / 256) (repeated n 1) (bitXor (w / 256) (repeated n c))
+other-step n r w c h l k =
+    let o = repeated (suc n) 1 in
+    let v = repeated (suc n) c in
+    let s = less-step n r o (bitXor w v) l k (omega arith) in
+    let low : v % 256 ≡ c = omega arith in
+    let high : v / 256 ≡ repeated n c = omega arith in
+    let one : o / 256 ≡ repeated n 1 = omega arith in
+    let m : bitXor w v % 256 ≡ bitXor (w % 256) c = xor-mod w v 8 ∙ ap (bitXor (w % 256)) low in
+    let d : bitXor w v / 256 ≡ bitXor (w / 256) (repeated n c) = xor-shr w v 8 ∙ ap (bitXor (w / 256)) high in
+    (λ e. let z : bitXor (w % 256) c ≡ 0 = rw e (xor-self c) in omega (arith, s .0, m, z), rw (one, d) at (s .1))
 
-repeated-lane : (n c : ℕ) → c < 256 → Lane (repeated (suc n) c) (repeated n c) c
-repeated-lane n c h = record { parts = refl; small = h }
+-- ---- the mask: the high bits of the lanes of six numbers
 
-other-lane : (n a b h k l m : ℕ) → Lane a h l → Lane b k m → l < 128 → m < 128 → Lane (other (suc n) a b) (other n h k) (other 1 l m)
-other-lane n a b h k l m p q u v =
-    let x = xor-lane a b h k l m p q in
-    record { parts = omega (arith, x .parts); small = omega (arith, xor-lt 7 l m u v) }
+-- a number's high bits, one to a lane
+abbrev highs : ℕ → ℕ → ℕ
+highs n m = bitAnd m (repeated n 0x80)
 
-rest-lane : (n a h l : ℕ) → Lane (bitAnd a (repeated (suc n) 0x80)) (bitAnd h (repeated n 0x80)) (bitAnd l 0x80)
-    → Lane (repeated (suc n) 0x80 - bitAnd a (repeated (suc n) 0x80)) (repeated n 0x80 - bitAnd h (repeated n 0x80)) (0x80 - bitAnd l 0x80)
-rest-lane n a h l p = record { parts = omega (arith, p .parts, and-le-r h (repeated n 0x80), and-le-r l 0x80); small = omega arith }
-
--- the mask works on each lane apart
-module _ (n w q x y : ℕ) (hx : x < 256) (hy : y < 128) (hw : w ≤ repeated n 0xFF) where
-  mask-step : Lane (mask (suc n) (w * 256 + x) (q * 256 + y)) (mask n w q) (mask 1 x y)
-  unfolding mask
-  mask-step =
-      let lx : Lane (w * 256 + x) w x = record { parts = refl; small = hx } in
-      let ly : Lane (q * 256 + y) q y = record { parts = refl; small = omega arith } in
-      let low = and-lane (w * 256 + x) (repeated (suc n) 0x7F) w (repeated n 0x7F) x 0x7F lx (repeated-lane n 0x7F (omega arith)) in
-      let u : bitAnd x 0x7F < 128 = omega (arith, and-le-r x 0x7F) in
-      let o : (c : ℕ) → c < 128 → Lane (other (suc n) (bitAnd (w * 256 + x) (repeated (suc n) 0x7F)) (repeated (suc n) c)) (other n (bitAnd w (repeated n 0x7F)) (repeated n c)) (other 1 (bitAnd x 0x7F) c)
-      = λ c h. other-lane n _ _ _ _ _ _ low (repeated-lane n c (omega arith)) u h in
-      let a : Lane (bitAnd (w * 256 + x) (repeated (suc n) 0x7F) + repeated (suc n) 0x60) (bitAnd w (repeated n 0x7F) + repeated n 0x60) (bitAnd x 0x7F + 0x60)
-      = record { parts = omega (arith, low .parts); small = omega arith } in
-      let f : Lane (repeated (suc n) 0xFF - (w * 256 + x)) (repeated n 0xFF - w) (0xFF - x) = record { parts = omega arith; small = omega arith } in
-      let b = and-lane _ _ _ _ _ _ a (other-lane n _ _ _ _ _ _ low ly u hy) in
-      let c = and-lane _ _ _ _ _ _ b (o 0x26 (omega arith)) in
-      let d = and-lane _ _ _ _ _ _ c (o 0x3C (omega arith)) in
-      let e = and-lane _ _ _ _ _ _ d (o 0x5D (omega arith)) in
-      let g = and-lane _ _ _ _ _ _ e f in
-      let k = and-lane _ _ _ _ _ _ g (repeated-lane n 0x80 (omega arith)) in
-      rest-lane n (plains (suc n) (w * 256 + x) (q * 256 + y)) (plains n w q) (plains 1 x y) k
-
--- ---- a lane of 0: the byte is plain
-
-differs : (x c : ℕ) → x < 128 → 128 ≤ other 1 (bitAnd x 0x7F) c → x ≡ c → ⊥
-differs x c h k e =
-    let z : bitAnd x 0x7F ≡ x = and-mask x 7 ∙ mod-eq-of-lt h in
-    let v : bitXor (bitAnd x 0x7F) c ≡ 0 = rw (z, e) (xor-self c) in
+no-high : (x : ℕ) → x < 256 → bitAnd x 0x80 ≡ 0 → x < 128
+no-high x h e =
+    let m : x / 128 % 2 ≡ x / 128 = mod-eq-of-lt (omega arith) in
+    let q : bitAnd x 0x80 ≡ x / 128 * 128 = and-high x 1 7 ∙ ap (λ (y : ℕ). y * 128) m in
     omega arith
 
-high-bit : (a : ℕ) → 0x80 - bitAnd a 0x80 ≡ 0 → 128 ≤ a
-high-bit a e = omega (arith, and-le-l a 0x80)
+high-step : (n m : ℕ) → (highs (suc n) m % 256 ≡ 0 → m % 256 < 128) × (highs (suc n) m / 256 ≡ highs n (m / 256))
+high-step n m =
+    let h = repeated (suc n) 0x80 in
+    let low : h % 256 ≡ 0x80 = omega arith in
+    let rest : h / 256 ≡ repeated n 0x80 = omega arith in
+    let e : bitAnd m h % 256 ≡ bitAnd (m % 256) 0x80 = and-mod m h 8 ∙ ap (bitAnd (m % 256)) low in
+    let d : bitAnd m h / 256 ≡ bitAnd (m / 256) (repeated n 0x80) = and-shr m h 8 ∙ ap (bitAnd (m / 256)) rest in
+    (λ z. no-high (m % 256) (omega arith) (sym e ∙ z), d)
 
-both : (a b : ℕ) → 128 ≤ bitAnd a b → (128 ≤ a) × (128 ≤ b)
-both a b h = (omega (arith, and-le-l a b), omega (arith, and-le-r a b))
+-- each of two numbers whose lane has no high bit in common
+either : (a b : ℕ) → bitOr a b % 256 < 128 → (a % 256 < 128) × (b % 256 < 128)
+either a b h =
+    let e = or-mod a b 8 in
+    let s = or-add-and (a % 256) (b % 256) in
+    let l = and-le-l (a % 256) (b % 256) in
+    let r = and-le-r (a % 256) (b % 256) in
+    (omega (arith, e, s, r), omega (arith, e, s, l))
 
--- of the quote the mask sees the seven low bits
-plain-lane : (x quote : ℕ) → x < 256 → mask 1 x (quote % 128) ≡ 0 → isPlain quote x ≡ true
-unfolding mask isPlain
-plain-lane x quote h e =
-    let y = quote % 128 in
-    let low = bitAnd x 0x7F in
-    let o : ℕ → ℕ = λ c. other 1 low c in
-    let w₁ = bitAnd (low + 0x60) (o y) in
-    let w₂ = bitAnd w₁ (o 0x26) in
-    let w₃ = bitAnd w₂ (o 0x3C) in
-    let w₄ = bitAnd w₃ (o 0x5D) in
-    let g = both w₄ (0xFF - x) (high-bit (plains 1 x y) e) in
-    let f = both w₃ (o 0x5D) (g .0) in
-    let d = both w₂ (o 0x3C) (f .0) in
-    let c = both w₁ (o 0x26) (d .0) in
-    let a = both (low + 0x60) (o y) (c .0) in
-    let k : x < 128 = omega (arith, g .1) in
-    let n : x ≡ quote → ⊥ = λ q. differs x y k (a .1) (rw (← q) (sym (mod-eq-of-lt k))) in
-    simp (
-      le-leb 0x20 x (omega (arith, a .0, and-le-l x 0x7F)),
-      lt-ltb x 0x80 k,
-      ne-eqb x quote n,
-      ne-eqb x 0x26 (differs x 0x26 k (c .1)),
-      ne-eqb x 0x3C (differs x 0x3C k (d .1)),
-      ne-eqb x 0x5D (differs x 0x5D k (f .1)),
+-- the six numbers of a mask: w less 20, and less 1 what w has not in common with the quote, &, < and ]; and w
+record Tested (n quote w a b c d e : ℕ) : Type 0 where
+  above : Less n a (repeated n 0x20) w
+  quotes : Less n b (repeated n 1) (bitXor w (repeated n quote))
+  ampersands : Less n c (repeated n 1) (bitXor w (repeated n 0x26))
+  starts : Less n d (repeated n 1) (bitXor w (repeated n 0x3C))
+  brackets : Less n e (repeated n 1) (bitXor w (repeated n 0x5D))
+
+abbrev joined : ℕ → ℕ → ℕ → ℕ → ℕ → ℕ → ℕ
+joined w a b c d e = bitOr (bitOr (bitOr (bitOr (bitOr a b) c) d) e) w
+
+joined-rest : (w a b c d e : ℕ) → joined w a b c d e / 256 ≡ joined (w / 256) (a / 256) (b / 256) (c / 256) (d / 256) (e / 256)
+joined-rest w a b c d e =
+    rw (
+      or-shr (bitOr (bitOr (bitOr (bitOr a b) c) d) e) w 8,
+      or-shr (bitOr (bitOr (bitOr a b) c) d) e 8,
+      or-shr (bitOr (bitOr a b) c) d 8,
+      or-shr (bitOr a b) c 8,
+      or-shr a b 8,
     )
 
-plain-lanes : (quote n k w : ℕ) → w ≤ repeated n 0xFF → Clear k (mask n w (repeated n (quote % 128))) → all (isPlain quote) (take k (digits n w)) ≡ true
+-- a lane of 0: the byte is plain, and the other lanes are those of the other bytes
+tested-step : (n quote w a b c d e : ℕ) → quote < 256 → Tested (suc n) quote w a b c d e → joined w a b c d e % 256 < 128
+    → (isPlain quote (w % 256) ≡ true) × Tested n quote (w / 256) (a / 256) (b / 256) (c / 256) (d / 256) (e / 256)
+unfolding isPlain
+tested-step n quote w a b c d e h t k =
+    let o₅ = either (bitOr (bitOr (bitOr (bitOr a b) c) d) e) w k in
+    let o₄ = either (bitOr (bitOr (bitOr a b) c) d) e (o₅ .0) in
+    let o₃ = either (bitOr (bitOr a b) c) d (o₄ .0) in
+    let o₂ = either (bitOr a b) c (o₃ .0) in
+    let o₁ = either a b (o₂ .0) in
+    let s = less-step n a (repeated (suc n) 0x20) w (t .above) (o₁ .0) (omega arith) in
+    let q = other-step n b w quote h (t .quotes) (o₁ .1) in
+    let m = other-step n c w 0x26 (omega arith) (t .ampersands) (o₂ .1) in
+    let l = other-step n d w 0x3C (omega arith) (t .starts) (o₃ .1) in
+    let r = other-step n e w 0x5D (omega arith) (t .brackets) (o₄ .1) in
+    let x = w % 256 in
+    let twenty : repeated (suc n) 0x20 / 256 ≡ repeated n 0x20 = omega arith in
+    (
+      simp (
+        le-leb 0x20 x (omega (arith, s .0)),
+        lt-ltb x 0x80 (o₅ .1),
+        ne-eqb x quote (q .0),
+        ne-eqb x 0x26 (m .0),
+        ne-eqb x 0x3C (l .0),
+        ne-eqb x 0x5D (r .0),
+      ),
+      record { above = rw twenty at (s .1); quotes = q .1; ampersands = m .1; starts = l .1; brackets = r .1 },
+    )
+
+plain-lanes : (n k quote w a b c d e : ℕ) → quote < 256 → Tested n quote w a b c d e → Clear k (highs n (joined w a b c d e)) → all (isPlain quote) (take k (digits n w)) ≡ true
 unfolding all digits Clear
-plain-lanes quote n zero w h c = refl
-plain-lanes quote zero (suc k) w h c = refl
-plain-lanes quote (suc n) (suc k) w h c =
-    let y = quote % 128 in
-    let u : w ≡ w / 256 * 256 + w % 256 = omega arith in
-    let f : w / 256 ≤ repeated n 0xFF = omega arith in
-    let m : Lane (mask (suc n) w (repeated (suc n) y)) (mask n (w / 256) (repeated n y)) (mask 1 (w % 256) y)
-    = subst (λ (v : ℕ). Lane (mask (suc n) v (repeated (suc n) y)) (mask n (w / 256) (repeated n y)) (mask 1 (w % 256) y)) (sym u) (mask-step n (w / 256) (repeated n y) (w % 256) y (omega arith) (omega arith) f) in
-    let z : mask 1 (w % 256) y ≡ 0 = omega (arith, m .parts, m .small, c .0) in
-    let q : mask (suc n) w (repeated (suc n) y) / 256 ≡ mask n (w / 256) (repeated n y) = omega (arith, m .parts, m .small) in
-    rw (plain-lane (w % 256) quote (omega arith) z) (plain-lanes quote n k (w / 256) f (subst (Clear k) q (c .1)))
+plain-lanes n zero quote w a b c d e h t z = refl
+plain-lanes zero (suc k) quote w a b c d e h t z = refl
+plain-lanes (suc n) (suc k) quote w a b c d e h t z =
+    let m = joined w a b c d e in
+    let s = tested-step n quote w a b c d e h t (high-step n m .0 (z .0)) in
+    let f : highs (suc n) m / 256 ≡ highs n (joined (w / 256) (a / 256) (b / 256) (c / 256) (d / 256) (e / 256)) = high-step n m .1 ∙ ap (highs n) (joined-rest w a b c d e) in
+    rw (s .0) (plain-lanes n k quote (w / 256) (a / 256) (b / 256) (c / 256) (d / 256) (e / 256) h (s .1) (subst (Clear k) f (z .1)))
+
+-- eight lanes, by the code's differences
+module _ (quote w a b c d e : ℕ) (h : quote < 256) (above : (a + repeated 8 0x20) % 2 ^ 64 ≡ w) (quotes : (b + repeated 8 1) % 2 ^ 64 ≡ bitXor w (quote * 0x0101010101010101))
+    (ampersands : (c + repeated 8 1) % 2 ^ 64 ≡ bitXor w (repeated 8 0x26)) (starts : (d + repeated 8 1) % 2 ^ 64 ≡ bitXor w (repeated 8 0x3C)) (brackets : (e + repeated 8 1) % 2 ^ 64 ≡ bitXor w (repeated 8 0x5D)) where
+  pub plain-eight : (k : ℕ) → Clear k (highs 8 (joined w a b c d e)) → all (isPlain quote) (take k (digits 8 w)) ≡ true
+  plain-eight k z =
+      let q : quote * 0x0101010101010101 ≡ repeated 8 quote = omega arith in
+      plain-lanes 8 k quote w a b c d e h
+      record {
+        above = wrapped a (repeated 8 0x20) w above;
+        quotes = wrapped b (repeated 8 1) (bitXor w (repeated 8 quote)) (quotes ∙ ap (bitXor w) q);
+        ampersands = wrapped c (repeated 8 1) (bitXor w (repeated 8 0x26)) ampersands;
+        starts = wrapped d (repeated 8 1) (bitXor w (repeated 8 0x3C)) starts;
+        brackets = wrapped e (repeated 8 1) (bitXor w (repeated 8 0x5D)) brackets;
+      } z
 
 -- ---- the zeros at a number's end
 
@@ -176,29 +193,5 @@ unfolding Clear
 clear-none zero = tt
 clear-none (suc k) = (refl, clear-none k)
 
--- ---- the code's sums and counts
-
 pub counted : (m : ℕ) → (trailingZeros 64 m / 8 ≤ 8) × Clear (trailingZeros 64 m / 8) m
 counted m = (omega (arith, trailing-le 64 m), clear-below (trailingZeros 64 m / 8) 64 m (omega arith))
-
--- 0x7F eight times
-abbrev pub lows : ℕ
-lows = repeated 8 0x7F
-
-pub xor-low : (w c : ℕ) → c < 2 ^ 63 → bitXor (bitAnd w lows) c < 2 ^ 63
-xor-low w c h = xor-lt 63 (bitAnd w lows) c (omega (arith, and-le-r w lows)) h
-
--- eight times the quote's seven low bits
-pub quotes-fit : (quote : ℕ) → bitAnd quote 0x7F * 0x0101010101010101 < 2 ^ 63
-quotes-fit quote = omega (arith, and-le-r quote 0x7F)
-
-pub quotes-of : (quote : ℕ) → bitAnd quote 0x7F * 0x0101010101010101 ≡ repeated 8 (quote % 128)
-quotes-of quote = let m : bitAnd quote 0x7F ≡ quote % 128 = and-mask quote 7 in omega arith
-
-module _ (quote w bits : ℕ) (h : w ≤ repeated 8 0xFF) (e : bits ≡ bitAnd (plains 8 w (repeated 8 (quote % 128))) (repeated 8 0x80)) where
-  pub bits-fit : bits ≤ repeated 8 0x80
-  bits-fit = omega (arith, and-le-r (plains 8 w (repeated 8 (quote % 128))) (repeated 8 0x80))
-
-  pub bits-plain : (k : ℕ) → Clear k (repeated 8 0x80 - bits) → all (isPlain quote) (take k (digits 8 w)) ≡ true
-  unfolding mask
-  bits-plain k c = plain-lanes quote 8 k w h (rw (← e) c)

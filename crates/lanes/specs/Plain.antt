@@ -1,5 +1,5 @@
 -- Bytes that are passed over eight at a time. Definitions.
-use Prim.Native.Nat.{ℕ, zero, suc, _+_, _-_, _*_, _/_, _%_}
+use Prim.Native.Nat.{ℕ, zero, suc, _-_, _/_, _%_}
 use mathlib.Core.Path.{_≡_}
 use mathlib.Core.List.{List}
 use mathlib.Core.Bool.{Bool, not, _&&_}
@@ -15,11 +15,6 @@ isPlain quote b = leb 0x20 b && ltb b 0x80 && not (eqb b quote) && not (eqb b 0x
 -- the bytes of s from at up to end are plain
 unfoldable pub plainBytes : List ℕ → ℕ → ℕ → ℕ → Bool
 plainBytes s quote at end = all (isPlain quote) (take (end - at) (drop at s))
-
--- a number of n bytes, each of them c
-abbrev pub repeated : ℕ → ℕ → ℕ
-repeated zero c = 0
-repeated (suc n) c = repeated n c * 256 + c
 
 -- the k least significant bytes of a number are 0
 unfoldable pub Clear : ℕ → ℕ → Type 0

@@ -1,34 +1,33 @@
 // Plain bytes passed over, eight at a time.
 use crate::word_at;
+use std::num::wrapping_sub_u64;
 ghost use mathlib.Core.Path.{_≡_};
 ghost use mathlib.Core.Bool.{true};
-ghost use Prim.Native.Nat.{ℕ, _-_, _≤_};
+ghost use Prim.Native.Nat.{ℕ, _≤_};
 ghost use lib.ListN.{take};
 ghost use Rattle.laws.specs.Lists.{all};
 ghost use Rattle.lanes.specs.Words.{digits};
-ghost use Rattle.lanes.specs.Plain.{isPlain, plainBytes, repeated, Clear};
+ghost use Rattle.lanes.specs.Plain.{isPlain, plainBytes, Clear};
 
-// The high bit of each byte of w that is plain. A byte of a quote from 80 on is never plain, nor are its seven low bits.
-fn plain_bits(w: u64, quote: u8) -> u64
-    ensures within { λ r. ⌜ r ≤ repeated 8 0x80 ⌝ }
-    ensures plain { λ r. ⌜ ((k : ℕ) → Clear k (repeated 8 0x80 - r) → all (isPlain quote) (take k (digits 8 w)) ≡ true) ⌝ }
+// The high bit of the first byte of w that is not plain, and of no byte before it; of those behind it any. A byte less 20, or what it has not in
+// common with another byte less 1, has its high bit where the byte is below 20, or is that other byte. It borrows from the bytes behind it then.
+fn special_bits(w: u64, quote: u8) -> u64
+    ensures { λ r. ⌜ ((k : ℕ) → Clear k r → all (isPlain quote) (take k (digits 8 w)) ≡ true) ⌝ }
 {
-    let quotes = (quote as u64 & 0x7F) * 0x0101010101010101;
-    let low = w & 0x7F7F7F7F7F7F7F7F;
-    let a = low + 0x6060606060606060;
-    let b = (low ^ quotes) + 0x7F7F7F7F7F7F7F7F;
-    let c = (low ^ 0x2626262626262626) + 0x7F7F7F7F7F7F7F7F;
-    let d = (low ^ 0x3C3C3C3C3C3C3C3C) + 0x7F7F7F7F7F7F7F7F;
-    let e = (low ^ 0x5D5D5D5D5D5D5D5D) + 0x7F7F7F7F7F7F7F7F;
-    a & b & c & d & e & !w & 0x8080808080808080
+    let quotes = (quote as u64) * 0x0101010101010101;
+    let a = wrapping_sub_u64(w, 0x2020202020202020);
+    let b = wrapping_sub_u64(w ^ quotes, 0x0101010101010101);
+    let c = wrapping_sub_u64(w ^ 0x2626262626262626, 0x0101010101010101);
+    let d = wrapping_sub_u64(w ^ 0x3C3C3C3C3C3C3C3C, 0x0101010101010101);
+    let e = wrapping_sub_u64(w ^ 0x5D5D5D5D5D5D5D5D, 0x0101010101010101);
+    (a | b | c | d | e | w) & 0x8080808080808080
 }
 
-// How many of eight bytes stand before the first that is not plain.
-fn plain_count(bits: u64) -> usize
-    requires { ⌜ bits ≤ repeated 8 0x80 ⌝ }
-    ensures { λ r. ⌜ (r ≤ 8) × Clear r (repeated 8 0x80 - bits) ⌝ }
+// How many of eight bytes stand before the first that has a bit.
+fn bytes_before(bits: u64) -> usize
+    ensures { λ r. ⌜ (r ≤ 8) × Clear r bits ⌝ }
 {
-    (u64::trailing_zeros(0x8080808080808080 - bits) >> 3) as usize
+    (u64::trailing_zeros(bits) >> 3) as usize
 }
 
 // A place from at on: the bytes up to it are plain.
@@ -39,9 +38,9 @@ pub fn plain_end(s: &[u8], at: usize, quote: u8) -> usize
     if 8 <= s.len() {
         let last = s.len() - 8;
         while i <= last {
-            let bits = plain_bits(word_at(s, i), quote);
-            if bits != 0x8080808080808080 {
-                return i + plain_count(bits);
+            let bits = special_bits(word_at(s, i), quote);
+            if bits != 0 {
+                return i + bytes_before(bits);
             }
             i += 8;
         }

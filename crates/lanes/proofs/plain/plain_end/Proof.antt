@@ -26,11 +26,11 @@ loop-holds c = (le-refl _, none-passed _ _ _)
 word-at-requires : tie.Need-word-at-requires Inv-loop μ-loop
 word-at-requires c κs = search needs
 
-plain-bits-requires : tie.Need-plain-bits-requires Inv-loop μ-loop
-plain-bits-requires c κs = search needs
+special-bits-requires : tie.Need-special-bits-requires Inv-loop μ-loop
+special-bits-requires c κs = search needs
 
-plain-count-requires : tie.Need-plain-count-requires Inv-loop μ-loop
-plain-count-requires c κs = c .before .plain-bits .ensures .0
+bytes-before-requires : tie.Need-bytes-before-requires Inv-loop μ-loop
+bytes-before-requires c κs = search needs
 
 add-result : tie.Need-add-result Inv-loop μ-loop
 add-result c = search needs
@@ -38,8 +38,8 @@ add-result c = search needs
 returns : tie.Need-returns Inv-loop μ-loop
 returns c =
     let l = c .before .before .before .before .before .loop in
-    let n = c .plain-count .ensures in
-    (omega (arith, l .inv .0), some-passed _ _ _ (l .i) _ _ (l .inv .0) (l .inv .1) (c .before .before .before .word-at .ensures .1) (c .before .before .plain-bits .ensures .1) _ (n .0) (n .1))
+    let n = c .bytes-before .ensures in
+    (omega (arith, l .inv .0), some-passed _ _ _ (l .i) _ _ (l .inv .0) (l .inv .1) (c .before .before .before .word-at .ensures .1) (c .before .before .special-bits .ensures) _ (n .0) (n .1))
 
 add-i : tie.Need-add-i Inv-loop μ-loop
 add-i c = search needs
@@ -50,7 +50,7 @@ loop-less c = omega arith
 loop-again : tie.Need-loop-again Inv-loop μ-loop
 loop-again c =
     let l = c .before .before .before .before .loop in
-    (omega (arith, l .inv .0), all-passed _ _ _ (l .i) _ _ (l .inv .0) (l .inv .1) (c .before .before .word-at .ensures .1) (c .before .plain-bits .ensures .1) (c .if2 .left))
+    (omega (arith, l .inv .0), all-passed _ _ _ (l .i) _ _ (l .inv .0) (l .inv .1) (c .before .before .word-at .ensures .1) (c .before .special-bits .ensures) (c .if2 .left))
 
 returns-2 : tie.Need-returns-2 Inv-loop μ-loop
 returns-2 c = c .before .loop .inv
@@ -67,8 +67,8 @@ plain-end-spec =
     sub-last
     loop-holds
     word-at-requires
-    plain-bits-requires
-    plain-count-requires
+    special-bits-requires
+    bytes-before-requires
     add-result
     returns
     add-i
