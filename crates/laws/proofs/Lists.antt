@@ -7,7 +7,7 @@ use native.Mathlib.Numerals.{add-one}
 use native.Mathlib.Nat.{add-zero}
 use native.Mathlib.Omega.{arith}
 use lib.ListN.{length, getD, List·getD-eq-default}
-use Rattle.laws.proofs.Flags.{differ, or-left, or-right}
+use Rattle.laws.proofs.Flags.{differ, and-left, and-right, or-left, or-right}
 use Rattle.laws.specs.Lists.{any, all, keep, anyPair, tabulate}
 
 module _ {ℓ} {A : Type ℓ} (f : ℕ → A) where
@@ -123,6 +123,11 @@ module _ {ℓ} {A : Type ℓ} where
       by : (t : Bool) → t ≡ p x → any p l ≡ false → (t || any p l) ≡ false
       by true f ih = absurd (differ (sym (h x (sym f)) ∙ or-left (q x) (any q l) e))
       by false f ih = ih
+
+  pub all-append : (p : A → Bool) (k l : List A) → all p k ≡ true → all p l ≡ true → all p (k ++ l) ≡ true
+  unfolding all
+  all-append p [] l h e = e
+  all-append p (x ∷ k) l h e = rw (and-left (p x) (all p k) h) (all-append p k l (and-right (p x) (all p k) h) e)
 
   pub all-kept : (p : A → Bool) (l : List A) → all p (keep p l) ≡ true
   unfolding all keep

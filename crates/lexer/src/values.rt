@@ -1,6 +1,7 @@
 // References, values and texts.
 use crate::Read;
 use crate::Stop;
+use words::plain::plain_end;
 ghost use mathlib.Core.Path.{_≡_};
 ghost use mathlib.Core.Bool.{cond};
 ghost use lib.Dec.{ltb};
@@ -89,8 +90,8 @@ fn is_text(b: u8) -> bool
     ((0x20 <= b) | (b == 0x0A) | (b == 0x09) | (b == 0x0D)) & (b != 0x3C)
 }
 
-// The place of the quote that ends a value, which begins at a place.
-pub fn value_end(s: &[u8], at: usize, quote: u8) -> Read
+// The same as value_end, byte by byte where a byte is no plain one.
+fn value_rest(s: &[u8], at: usize, quote: u8) -> Read
     ensures { λ r. ⌜ r ≡ valueEnd (now (s .entry)) at quote ⌝ }
 {
     let mut i = at;
@@ -102,7 +103,7 @@ pub fn value_end(s: &[u8], at: usize, quote: u8) -> Read
         if b == b'&' {
             match reference_end(s, i) {
                 Read::End(j) => {
-                    i = j;
+                    i = plain_end(s, j, quote);
                 }
                 Read::Stopped(x) => {
                     return Read::Stopped(x);
@@ -112,15 +113,50 @@ pub fn value_end(s: &[u8], at: usize, quote: u8) -> Read
             if !is_text(b) {
                 return Read::Stopped(Stop::Bad(i));
             }
-            i += 1;
+            if b < 0x80 {
+                i = plain_end(s, i + 1, quote);
+            } else {
+                i += 1;
+            }
         }
     }
     Read::Stopped(Stop::Cut)
+}
+
+// The place of the quote that ends a value, which begins at a place.
+pub fn value_end(s: &[u8], at: usize, quote: u8) -> Read
+    ensures { λ r. ⌜ r ≡ valueEnd (now (s .entry)) at quote ⌝ }
+{
+    let i = plain_end(s, at, quote);
+    if i < s.len() {
+        if s[i] == quote {
+            return Read::End(i);
+        }
+    }
+    value_rest(s, i, quote)
+}
+
+// Behind the line's end that a text may begin with.
+fn line_passed(s: &[u8], at: usize) -> usize
+    ensures { λ r. ⌜ textEnd (now (s .entry)) r ≡ textEnd (now (s .entry)) at ⌝ }
+{
+    if at < s.len() {
+        if s[at] == 0x0A {
+            return at + 1;
+        }
+    }
+    at
 }
 
 // The place of the < that ends a text, which begins at a place.
 pub fn text_end(s: &[u8], at: usize) -> Read
     ensures { λ r. ⌜ r ≡ textEnd (now (s .entry)) at ⌝ }
 {
-    value_end(s, at, b'<')
+    let i = plain_end(s, line_passed(s, at), b'<');
+    if i < s.len() {
+        if s[i] == b'<' {
+            return Read::End(i);
+        }
+    }
+    value_rest(s, i, b'<')
 }

@@ -1,0 +1,107 @@
+-- `lexer::values::value_rest` meets its contract: at each turn the answer is that of what is left.
+use mathlib.Core.Path.{_≡_, refl}
+use Prim.Native.Nat.{_-_}
+use native.Mathlib.Omega.{arith}
+use borrow.Author.Needs.{needs}
+use lib.ListN.{length, drop}
+use Rattle.laws.specs.Reading.{run, machine}
+use Rattle.lexer.specs.Values.{valueStep, valueEnd}
+use Rattle.lexer.specs.declared.Stop.the-variants.{Cut}
+use Rattle.lexer.specs.declared.Read.the-variants.{Stopped}
+use Rattle.lexer.proofs.Passing.{text-stops, text-passed, reference-in, reference-passed, reference-stops, passed-on}
+use Rattle.lexer.proofs.values.value_rest.Statement.{statement}
+use Rattle.lexer.proofs.values.value_rest.Tie as tie
+
+abbrev Inv-loop : tie.InvT-loop
+Inv-loop s at quote i₀ i = run (Stopped Cut) (valueStep s quote) 0 (drop i s) i ≡ valueEnd s at quote
+
+abbrev μ-loop : tie.MeasureT-loop
+μ-loop s at quote i₀ i = length s - i
+
+loop-holds : tie.Need-loop-holds Inv-loop μ-loop
+unfolding valueEnd
+loop-holds c = refl
+
+shared-slice-read-b : tie.Need-shared-slice-read-b Inv-loop μ-loop
+shared-slice-read-b c = search needs
+
+returns : tie.Need-returns Inv-loop μ-loop
+returns c = search machine
+
+reference-end-requires : tie.Need-reference-end-requires Inv-loop μ-loop
+reference-end-requires c κs = search needs
+
+enum-known-j : tie.Need-enum-known-j Inv-loop μ-loop
+enum-known-j c = search needs
+
+plain-end-requires : tie.Need-plain-end-requires Inv-loop μ-loop
+plain-end-requires c κs = search needs
+
+loop-less : tie.Need-loop-less Inv-loop μ-loop
+loop-less c = let a = c .before .before .before .before .before .before .before .before .before .before .before .args in omega (arith, reference-in (a .s .now) (c .before .before .before .before .before .before .before .before .before .loop .i) _ _ (c .before .before .before .before .reference-end .ensures) (c .before .before .j .given .1), c .plain-end .ensures .0)
+
+loop-again : tie.Need-loop-again Inv-loop μ-loop
+loop-again c = passed-on _ _ _ _ _ (c .plain-end .ensures) (search reference-passed)
+
+enum-known-x : tie.Need-enum-known-x Inv-loop μ-loop
+enum-known-x c = search needs
+
+returns-2 : tie.Need-returns-2 Inv-loop μ-loop
+returns-2 c = search reference-stops
+
+is-text-requires : tie.Need-is-text-requires Inv-loop μ-loop
+is-text-requires c κs = search needs
+
+returns-3 : tie.Need-returns-3 Inv-loop μ-loop
+returns-3 c = search text-stops
+
+add-plain-end : tie.Need-add-plain-end Inv-loop μ-loop
+add-plain-end c = search needs
+
+plain-end-requires-2 : tie.Need-plain-end-requires-2 Inv-loop μ-loop
+plain-end-requires-2 c κs = search needs
+
+loop-less-2 : tie.Need-loop-less-2 Inv-loop μ-loop
+loop-less-2 c = omega (arith, c .plain-end2 .ensures .0, c .before .before .before .before .before .before .before .loop-test .taken)
+
+loop-again-2 : tie.Need-loop-again-2 Inv-loop μ-loop
+loop-again-2 c = passed-on _ _ _ _ _ (c .plain-end2 .ensures) (search text-passed)
+
+add-i : tie.Need-add-i Inv-loop μ-loop
+add-i c = search needs
+
+loop-less-3 : tie.Need-loop-less-3 Inv-loop μ-loop
+loop-less-3 c = search needs
+
+loop-again-3 : tie.Need-loop-again-3 Inv-loop μ-loop
+loop-again-3 c = search text-passed
+
+returns-4 : tie.Need-returns-4 Inv-loop μ-loop
+returns-4 c = search machine
+
+pub value-rest-spec : {M : Type 1} → statement M
+value-rest-spec =
+    tie.close
+    (tie.spec
+    Inv-loop
+    μ-loop
+    loop-holds
+    shared-slice-read-b
+    returns
+    reference-end-requires
+    enum-known-j
+    plain-end-requires
+    loop-less
+    loop-again
+    enum-known-x
+    returns-2
+    is-text-requires
+    returns-3
+    add-plain-end
+    plain-end-requires-2
+    loop-less-2
+    loop-again-2
+    add-i
+    loop-less-3
+    loop-again-3
+    returns-4)

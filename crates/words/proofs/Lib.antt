@@ -1,0 +1,3 @@
+pub mod Words
+pub mod Lanes
+pub mod PlainLaws
