@@ -1,5 +1,8 @@
 // Bytes compared with bytes, and with the fixed byte strings that document 01 names.
+use words::word_at;
 ghost use mathlib.Core.Path.{_≡_};
+ghost use Prim.Native.Nat.{_≤_};
+ghost use lib.ListN.{length};
 ghost use Rattle.laws.specs.Lists.{sameList};
 ghost use Rattle.compare.specs.Compare.{spanOf, spanStart, placeIn, xmlUri, xmlnsUri};
 
@@ -19,14 +22,12 @@ pub fn part_of(s: &[u8], at: usize, n: usize) -> &[u8]
     &s[at..end]
 }
 
-// Are a and b the same bytes?
-pub fn same(a: &[u8], b: &[u8]) -> bool
+// The same bytes, of two slices of one length? Byte by byte.
+fn same_bytes(a: &[u8], b: &[u8]) -> bool
+    requires { ⌜ length (now a) ≡ length (now b) ⌝ }
     ensures { λ r. ⌜ r ≡ sameList (now (a .entry)) (now (b .entry)) ⌝ }
 {
     let n = a.len();
-    if n != b.len() {
-        return false;
-    }
     let mut k = 0;
     while k < n {
         if a[k] != b[k] {
@@ -35,6 +36,36 @@ pub fn same(a: &[u8], b: &[u8]) -> bool
         k += 1;
     }
     true
+}
+
+// The same, of eight bytes or more: by words, of which the last may overlap the one before.
+fn same_words(a: &[u8], b: &[u8]) -> bool
+    requires { ⌜ (8 ≤ length (now a)) × (length (now a) ≡ length (now b)) ⌝ }
+    ensures { λ r. ⌜ r ≡ sameList (now (a .entry)) (now (b .entry)) ⌝ }
+{
+    let last = a.len() - 8;
+    let mut k = 0;
+    while k < last {
+        if word_at(a, k) != word_at(b, k) {
+            return false;
+        }
+        k += 8;
+    }
+    word_at(a, last) == word_at(b, last)
+}
+
+// Are a and b the same bytes?
+pub fn same(a: &[u8], b: &[u8]) -> bool
+    ensures { λ r. ⌜ r ≡ sameList (now (a .entry)) (now (b .entry)) ⌝ }
+{
+    let n = a.len();
+    if n != b.len() {
+        return false;
+    }
+    if n < 8 {
+        return same_bytes(a, b);
+    }
+    same_words(a, b)
 }
 
 // Is it the URI of xml?
