@@ -2,12 +2,13 @@
 use Prim.Native.Nat.{ℕ, _+_, _*_, _-_, _%_, _^_, _≤_, _<_}
 use mathlib.Core.Path.{_≡_}
 use mathlib.Core.List.{List, _∷_, map}
-use mathlib.Core.Bool.{Bool, true, false, cond}
+use mathlib.Core.Bool.{Bool, true, false, cond, _&&_}
 use lib.ListN.{length, getD, take}
 use lib.Dec.{eqb, ltb}
-use Rattle.laws.specs.Lists.{keep, tabulate}
+use Rattle.laws.specs.Lists.{sameList, keep, tabulate}
 use Rattle.laws.specs.Gather.{gather}
 use Rattle.laws.specs.Members.{All}
+use Rattle.laws.specs.Reading.{peek}
 use Rattle.table.specs.Table.{Table, decode, headerOf}
 use Rattle.table.specs.Index.{indexOf}
 use Rattle.table.specs.Judge.{Accepted}
@@ -15,9 +16,10 @@ use Rattle.table.specs.declared.Header.{Header}
 use Rattle.reader.specs.declared.Span.{Span}
 use Rattle.lexer.specs.declared.Tag.{Tag}
 use Rattle.lexer.specs.Attrs.{attrsIn}
+use Rattle.lexer.specs.Whole.{isWholeName}
 use Rattle.reader.specs.declared.Binding.{Binding}
 use Rattle.reader.specs.declared.Found.{Found}
-use Rattle.reader.specs.Spans.{wholeSpan, partSpan}
+use Rattle.reader.specs.Spans.{span, bytesOf, wholeSpan, partSpan}
 use Rattle.reader.specs.Namespaces.{ReadAttribute, attribute}
 use Rattle.reader.specs.Events.{Start}
 use Rattle.reader.specs.Stored.{narrowed, bindingNumbers, Coded, coded, storedSpace}
@@ -84,6 +86,11 @@ pub record Innermost (s : List ℕ) (head : Head) (levels spaces : List ℕ) : T
   pub few-strands : getD spaces (4 * (head .depth - 1) + 3) 0 ≤ 16
   pub class : getD spaces (4 * (head .depth - 1)) 0 < 256
   pub name : SpanHeld s (nameIn levels (head .depth - 1))
+  pub whole : isWholeName (bytesOf s (nameIn levels (head .depth - 1))) ≡ true
+
+-- the bytes of a name and a > stand at a place
+abbrev pub closesAt : List ℕ → ℕ → Span → Bool
+closesAt s at name = peek false s (at + name .len) (λ (b : ℕ). eqb b 0x3E && sameList (bytesOf s (span at (name .len))) (bytesOf s name))
 
 -- the record of an end of a level, its unit left out
 abbrev pub endRow : Span → List ℕ → ℕ → Row

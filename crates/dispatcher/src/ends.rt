@@ -2,6 +2,7 @@
 use crate::Head;
 use crate::Session;
 use crate::Turn;
+use compare::same;
 use crate::steps::stop;
 use crate::steps::stopped;
 use lexer::EndTag;
@@ -28,6 +29,7 @@ ghost use Rattle.laws.specs.Gather.{total};
 ghost use Rattle.table.specs.Table.{Table};
 ghost use Rattle.reader.specs.Spans.{between};
 ghost use Rattle.reader.specs.Scope.{opensOf};
+ghost use Rattle.reader.specs.Held.{SpanHeld};
 ghost use Rattle.reader.specs.Events.{textRead, endRead};
 ghost use Rattle.lexer.specs.Values.{textEnd};
 ghost use Rattle.lexer.specs.Tags.{endTagAt};
@@ -40,7 +42,7 @@ ghost use Rattle.strands.specs.Packed.{wordsAt};
 ghost use Rattle.strands.specs.Writing.{rowFor, eventCount};
 ghost use Rattle.dispatcher.specs.Sessions.{sessionOf, readerOf, stateOf, withPlace, withEnd};
 ghost use Rattle.dispatcher.specs.Stepping.{planBy, planOf, planned, eventStep};
-ghost use Rattle.dispatcher.specs.Turns.{Innermost, endRow, closedHead, stepBy};
+ghost use Rattle.dispatcher.specs.Turns.{Innermost, closesAt, endRow, closedHead, stepBy};
 
 // A number of a level's space: 0 its class, 1 and 2 its URI's place and length, 3 how many strands it has.
 pub fn space_at(spaces: &[u32; 4 * Session::DEPTH], level: usize, k: usize) -> u32
@@ -283,7 +285,24 @@ fn named_end(
     end_event(part, at, tag.next, head, levels, spaces, strands, out)
 }
 
-// The end tag whose < stands at a place.
+// Do the bytes of a name of the scene and a > stand at a place?
+fn closes(scene: &[u8], at: usize, name: Span) -> bool
+    requires { ⌜ (length (now scene) ≤ 16777215) × (at ≤ length (now scene)) × SpanHeld (now scene) name ⌝ }
+    ensures { λ r. ⌜ r ≡ closesAt (now (scene .entry)) at name ⌝ }
+{
+    let from = name.at;
+    let end = at + name.len;
+    if scene.len() <= end {
+        return false;
+    }
+    if scene[end] != b'>' {
+        return false;
+    }
+    let to = from + name.len;
+    same(&scene[at..end], &scene[from..to])
+}
+
+// The end tag whose < stands at a place: the innermost open name and a >, or what is read there.
 pub fn end_turn(
     scene: &[u8],
     at: usize,
@@ -301,6 +320,23 @@ pub fn end_turn(
         ≡ planned (planBy t s z (endRead s at (opensOf (z .scope)) (endTagAt s (at + 2)))) z (now (out .entry))
         )) ⌝ }
 {
+    let open = name_in(levels, head.depth - 1);
+    if closes(scene, at + 2, open) {
+        let name = Span {
+            at: at + 2,
+            len: open.len,
+        };
+        return end_event(
+            part_in(scene, name),
+            at,
+            at + 3 + open.len,
+            head,
+            levels,
+            spaces,
+            strands,
+            out,
+        );
+    }
     match end_tag(scene, at + 2) {
         Ended::Got(tag) => named_end(scene, at, tag, head, levels, spaces, strands, out),
         Ended::Stopped(x) => stopped(scene, x, head),
