@@ -105,6 +105,27 @@ stepOf table s z out =
     (cond (not (coherent (decode table) s z)) (refusedStep 20 0 z out)
     (planned (planOf (decode table) s z) z out)))
 
+-- "lends the rest of the output, from the records written so far, to each step"
+abbrev pub restOf : Step → List ℕ
+restOf r = drop (16 * r .answer .records) (r .output)
+
+-- two calls as one, the second on the session that the first handed back and lent the rest of its output: "events (steps that gave 0), records (those
+-- written)", "records joined"
+abbrev pub joined : Step → Step → Step
+joined first later =
+    record {
+      answer = answered (later .answer .number) (later .answer .place) (first .answer .events + later .answer .events) (first .answer .records + later .answer .records);
+      session = later .session;
+      output = take (16 * first .answer .records) (first .output) ++ later .output;
+    }
+
+-- Advance: steps from a session, "records joined, until a step's number is not 0" or so many were taken; "if 0 the new session's place"
+unfoldable pub advanceOf : ℕ → List ℕ → List ℕ → Session → List ℕ → Step
+advanceOf zero table s z out = record { answer = answered 0 (z .place) 0 0; session = z; output = out }
+advanceOf (suc n) table s z out =
+    let r = stepOf table s z out in
+    cond (eqb (r .answer .number) 0) (joined r (advanceOf n table s (r .session) (restOf r))) r
+
 -- What a run hands back: the answer and the output
 pub record Run : Type 0 where
   pub answer : Answer
