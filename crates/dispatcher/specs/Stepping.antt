@@ -1,4 +1,4 @@
--- 'Calls' and 'From the input', 'From the state': what step and run hand back, for all arguments. Definitions.
+-- 'Calls' and 'From the input', 'From the state': what step, advance and run hand back, for all arguments. Definitions.
 use Prim.Native.Nat.{ℕ, zero, suc, _+_, _*_}
 use mathlib.Core.List.{List, [], _∷_, _++_, map}
 use mathlib.Core.Bool.{Bool, true, false, cond, not}
@@ -131,20 +131,12 @@ pub record Run : Type 0 where
   pub answer : Answer
   pub output : List ℕ
 
--- "Run: steps from fresh, records joined, until a step's number is not 0": at most so many steps, each lent the output from the used bytes on
-unfoldable pub runFrom : ℕ → List ℕ → List ℕ → Session → List ℕ → ℕ → ℕ → ℕ → Run
-runFrom zero table s z out used events records = record { answer = answered 0 (z .place) events records; output = out }
-runFrom (suc n) table s z out used events records =
-    let r = stepOf table s z (drop used out) in
-    let whole = take used out ++ r .output in
-    let more =
-    runFrom n table s (r .session) whole (used + 16 * r .answer .records) (events + 1) (records + r .answer .records) in
-    cond (eqb (r .answer .number) 0) more
-    (record { answer = answered (r .answer .number) (r .answer .place) events records; output = whole })
+abbrev pub runBy : Step → Run
+runBy r = record { answer = r .answer; output = r .output }
 
--- each event reads a byte or ends an awaited end, so that many steps suffice
+-- "Run: steps from fresh, records joined, until a step's number is not 0": each event reads a byte or ends an awaited end, so that many steps suffice
 unfoldable pub runOf : List ℕ → List ℕ → List ℕ → Run
-runOf table s out = runFrom (2 * length s + 2) table s freshOf out 0 0 0
+runOf table s out = runBy (advanceOf (2 * length s + 2) table s freshOf out)
 
 -- what the calls hand back, with the output that they were lent
 abbrev pub handed : Stepped → List ℕ → Step
