@@ -44,6 +44,7 @@ use Rattle.dispatcher.specs.Stepping.{Step, answered}
 use Rattle.dispatcher.specs.declared.Session.{Session}
 use Rattle.dispatcher.specs.declared.Head.{Head}
 use Rattle.dispatcher.specs.declared.Turn.{Turn}
+use Rattle.dispatcher.specs.declared.Advanced.{Advanced}
 use Rattle.dispatcher.specs.declared.Decided.{Decided}
 
 -- a refusal: the numbers stay
@@ -59,6 +60,18 @@ abbrev pub stepBy : Turn → List ℕ → List ℕ → List ℕ → List ℕ →
 stepBy r levels bindings spaces strands out =
     record {
       answer = turnAnswer r;
+      session = sessionOf (r .head) levels bindings spaces strands;
+      output = out;
+    }
+
+-- some steps and the arrays behind them, as what an advance hands back
+abbrev pub advancedAnswer : Advanced → Answer
+advancedAnswer r = answered (r .number) (r .place) (r .events) (r .records)
+
+abbrev pub advancedBy : Advanced → List ℕ → List ℕ → List ℕ → List ℕ → List ℕ → Step
+advancedBy r levels bindings spaces strands out =
+    record {
+      answer = advancedAnswer r;
       session = sessionOf (r .head) levels bindings spaces strands;
       output = out;
     }
@@ -104,6 +117,13 @@ pub record TurnReady (table : List ℕ) (header : Header) (index s : List ℕ) (
   pub index-is : index ≡ indexOf table header
   pub short : length s ≤ 16777215
   pub coherent′ : coherent (decode table) s z ≡ true
+
+-- the session's arrays have the lengths of their types
+pub record Sized (levels bindings spaces strands : List ℕ) : Type 0 where
+  pub levels-long : length levels ≡ 192
+  pub bindings-long : length bindings ≡ 256
+  pub spaces-long : length spaces ≡ 256
+  pub strands-long : length strands ≡ 1024
 
 -- ---- a start
 -- the start that a tag makes, with its own declarations, the open ones and the codes of its attributes as the arrays have them

@@ -2,8 +2,8 @@
 use crate::Head;
 use crate::Session;
 use crate::Turn;
-use crate::turns::stop;
-use crate::turns::stopped;
+use crate::steps::stop;
+use crate::steps::stopped;
 use lexer::EndTag;
 use lexer::Ended;
 use lexer::Read;

@@ -1,4 +1,4 @@
--- `turns::one_turn` meets its contract: an end that is awaited, or what begins at the place.
+-- `steps::judged_step` meets its contract: an end that is awaited, or what begins at the place.
 use mathlib.Core.Path.{ap, _∙_}
 use Rattle.table.specs.Table.{decode}
 use Rattle.lexer.specs.declared.Begin.the-variants as begin
@@ -7,8 +7,8 @@ use Rattle.dispatcher.specs.declared.Turn.{Turn}
 use Rattle.dispatcher.proofs.EventTurns.{stopped-step}
 use Rattle.dispatcher.proofs.StartTurns.{innermost, awaited-innermost, begun-step, start-begins, end-begins, text-begins}
 use borrow.Author.Needs.{needs}
-use Rattle.dispatcher.proofs.turns.one_turn.Statement.{statement}
-use Rattle.dispatcher.proofs.turns.one_turn.Tie as tie
+use Rattle.dispatcher.proofs.steps.judged_step.Statement.{statement}
+use Rattle.dispatcher.proofs.steps.judged_step.Tie as tie
 
 awaited-turn-requires : tie.Need-awaited-turn-requires
 awaited-turn-requires c κs =
@@ -115,8 +115,8 @@ returns-6 c =
     (ap (λ (y : Turn). stepBy y (a .levels .now) (a .bindings .now) (a .spaces .now) (a .strands .now) (a .out .now)) (c .stopped .ensures)
     ∙ stopped-step (a .scene .now) (x .0 .0) (a .head) (a .levels .now) (a .bindings .now) (a .spaces .now) (a .strands .now) (a .out .now))
 
-pub one-turn-spec : {M : Type 1} → statement M
-one-turn-spec =
+pub judged-step-spec : {M : Type 1} → statement M
+judged-step-spec =
     tie.close
     (tie.spec
     awaited-turn-requires

@@ -1,10 +1,10 @@
--- `turns::stopped` meets its contract.
+-- `steps::stopped` meets its contract.
 use mathlib.Core.Path.{ap₂, _∙_}
 use Prim.Native.Nat.{ℕ}
 use borrow.Author.Needs.{needs}
 use Rattle.dispatcher.specs.Turns.{stopTurn}
-use Rattle.dispatcher.proofs.turns.stopped.Statement.{statement}
-use Rattle.dispatcher.proofs.turns.stopped.Tie as tie
+use Rattle.dispatcher.proofs.steps.stopped.Statement.{statement}
+use Rattle.dispatcher.proofs.steps.stopped.Tie as tie
 
 number-of-requires : tie.Need-number-of-requires
 number-of-requires c κs = search needs
