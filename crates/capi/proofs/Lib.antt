@@ -1,4 +1,5 @@
 pub mod Filled
+pub mod Tested
 pub mod Stored
 pub mod Packs
 pub mod Holding
