@@ -2,9 +2,9 @@
 use crate::Head;
 use crate::Session;
 use crate::Turn;
-use compare::same;
 use crate::steps::stop;
 use crate::steps::stopped;
+use compare::same;
 use lexer::EndTag;
 use lexer::Ended;
 use lexer::Read;
