@@ -119,8 +119,7 @@ tested-step n quote w a b c d e h t k =
     let l = other-step n d w 0x3C (omega arith) (t .starts) (o₃ .1) in
     let r = other-step n e w 0x5D (omega arith) (t .brackets) (o₄ .1) in
     let x = w % 256 in
-    let twenty : repeated (suc n) 0x20 / 256 ≡ repeated n 0x20 = omega arith in
-    (
+    let twenty : repeated (suc n) 0x20 / 256 ≡ repeated n 0x20 = omega arith in (
       simp (
         le-leb 0x20 x (omega (arith, s .0)),
         lt-ltb x 0x80 (o₅ .1),
