@@ -8,6 +8,6 @@ pub mod Within
 pub mod RoundTrip
 pub mod Taken
 pub mod NextHeld
-pub mod NextStored
 pub mod Told
 pub mod ByteSteps
+pub mod NextStored
