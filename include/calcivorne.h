@@ -161,8 +161,8 @@ unsigned char calcivorne_step(
  *
  * With any other number the step behind the answer[2] events is refused, and would be again.
  *
- * A most of (calcivorne_number)-1 sets no bound. With a most of 0 no step is taken and nothing is judged: number 0, and the session's place as it stands.
- * Only bytes that hold no session are then answered as by a step, with 10 to 12, 7 or 20.
+ * A most of (calcivorne_number)-1 sets no bound. With a most of 0 no step is taken and nothing is judged: number 0, and the session's place as it
+ * stands. Only bytes that hold no session are then answered as by a step, with 10 to 12, 7 or 20.
  */
 unsigned char calcivorne_advance(
     const unsigned char *table, size_t table_len,
