@@ -288,21 +288,21 @@ module _ (s : List ℕ) (at : ℕ) (name : Span) where
       pub tagHere : EndTag
       tagHere = record { name = record { at = at; part = name-here s at (name .len) closes-inside whole-here closes-byte .0; end = at + name .len }; next = at + name .len + 1 }
 
-      pub next-is : tagHere .next ≡ at + name .len + 1
+      pub next-here : tagHere .next ≡ at + name .len + 1
       unfolding tagHere
-      next-is = refl
+      next-here = refl
 
       pub tag-here : endTagAt s at ≡ ended.Got tagHere
       unfolding tagHere
       tag-here = end-tag-here s at (name .len) closes-inside whole-here closes-byte
 
-      pub whole-is : wholeSpan (tagHere .name) ≡ span at (name .len)
+      pub span-here : wholeSpan (tagHere .name) ≡ span at (name .len)
       unfolding tagHere
-      whole-is = ap (span at) (add-sub-cancel-left at (name .len))
+      span-here = ap (span at) (add-sub-cancel-left at (name .len))
 
-      pub part-is : partOf s (span at (name .len)) ≡ partSpan (tagHere .name)
+      pub part-here : partOf s (span at (name .len)) ≡ partSpan (tagHere .name)
       unfolding tagHere
-      part-is = ap (partOf s) (sym whole-is) ∙ part-again s at (tagHere .name) (name-here s at (name .len) closes-inside whole-here closes-byte .1)
+      part-here = ap (partOf s) (sym span-here) ∙ part-again s at (tagHere .name) (name-here s at (name .len) closes-inside whole-here closes-byte .1)
 
 -- ---- the turns, by what the code's parts gave
 module _ (t : Table) (s : List ℕ) (z : Session) (out : List ℕ) (r : Step) where
@@ -334,9 +334,9 @@ module _ (t : Table) (s : List ℕ) (z : Session) (out : List ℕ) (r : Step) wh
         let v : isWholeName (bytesOf s name) ≡ true = rw n w in
         let tag = tagHere s (at + 2) name k v in
         let alike : sameList (bytesOf s (wholeSpan (tag .name))) (bytesOf s (nameIn (z .scope .levels) (z .scope .depth - 1))) ≡ true =
-        ap₂ (λ (x y : Span). sameList (bytesOf s x) (bytesOf s y)) (whole-is s (at + 2) name k v) (sym n) ∙ closes-bytes s (at + 2) name k in
+        ap₂ (λ (x y : Span). sameList (bytesOf s x) (bytesOf s y)) (span-here s (at + 2) name k v) (sym n) ∙ closes-bytes s (at + 2) name k in
         e
-        ∙ ap₂ (λ (x : Span) (i : ℕ). endStep x at i) (p ∙ part-is s (at + 2) name k v) (omega (arith, next-is s (at + 2) name k v))
+        ∙ ap₂ (λ (x : Span) (i : ℕ). endStep x at i) (p ∙ part-here s (at + 2) name k v) (omega (arith, next-here s (at + 2) name k v))
         ∙ sym (ap (λ (y : Plan). planned y z out) (ap (λ (x : Ended). planBy t s z (endRead s at (opensOf (z .scope)) x)) (tag-here s (at + 2) name k v) ∙ end-plan t s z h at tag alike))
 
     pub stopped-end : (at : ℕ) (x : Stop) → r ≡ refusedStep (numberOf x) (stopPlace s x) z out → r ≡ planned (planBy t s z (endRead s at (opensOf (z .scope)) (ended.Stopped x))) z out

@@ -290,7 +290,6 @@ fn closes(scene: &[u8], at: usize, name: Span) -> bool
     requires { ⌜ (length (now scene) ≤ 16777215) × (at ≤ length (now scene)) × SpanHeld (now scene) name ⌝ }
     ensures { λ r. ⌜ r ≡ closesAt (now (scene .entry)) at name ⌝ }
 {
-    let from = name.at;
     let end = at + name.len;
     if scene.len() <= end {
         return false;
@@ -298,6 +297,7 @@ fn closes(scene: &[u8], at: usize, name: Span) -> bool
     if scene[end] != b'>' {
         return false;
     }
+    let from = name.at;
     let to = from + name.len;
     same(&scene[at..end], &scene[from..to])
 }

@@ -15,7 +15,7 @@ shared-slice-read-if2 : tie.Need-shared-slice-read-if2
 shared-slice-read-if2 c = search needs
 
 returns-2 : tie.Need-returns-2
-returns-2 c = let a = c .before .before .before .before .before .args in closes-other (a .scene .now) (a .at) (a .name) (omega arith) (c .if2 .taken)
+returns-2 c = let a = c .before .before .before .before .before .args in closes-other (a .scene .now) (a .at) (a .name) (omega arith) (λ e. omega arith)
 
 add-to : tie.Need-add-to
 add-to c = search needs
@@ -42,7 +42,7 @@ same-requires : tie.Need-same-requires
 same-requires c κs = search needs
 
 returns-3 : tie.Need-returns-3
-returns-3 c = let a = c .before .before .before .before .before .before .before .before .before .args in closes-same (a .scene .now) (a .at) (a .name) (omega arith) (c .before .before .before .before .if2 .left) _ (c .same .ensures)
+returns-3 c = let a = c .before .before .before .before .before .before .before .before .before .args in closes-same (a .scene .now) (a .at) (a .name) (omega arith) (omega arith) _ (c .same .ensures)
 
 pub closes-spec : {M : Type 1} → statement M
 closes-spec =

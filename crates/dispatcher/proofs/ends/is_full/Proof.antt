@@ -1,7 +1,8 @@
 -- `ends::is_full` meets its contract: where two records for each strand fit, all do.
-use mathlib.Core.Path.{ap}
-use borrow.Author.Needs.{needs}
 use Prim.Native.Nat.{_/_}
+use mathlib.Core.Path.{ap}
+use native.Mathlib.Omega.{arith}
+use borrow.Author.Needs.{needs}
 use lib.Dec.{ltb}
 use Rattle.dispatcher.proofs.EventTurns.{not-full}
 use Rattle.dispatcher.proofs.ends.is_full.Statement.{statement}
@@ -11,7 +12,7 @@ mul-if1 : tie.Need-mul-if1
 mul-if1 c = search needs
 
 returns : tie.Need-returns
-returns c = let a = c .before .args in not-full (a .len) (a .strands .now) (a .level) (a .n) (a .closes) (c .if1 .taken)
+returns c = let a = c .before .args in not-full (a .len) (a .strands .now) (a .level) (a .n) (a .closes) (omega arith)
 
 event-count-requires : tie.Need-event-count-requires
 event-count-requires c κs = search needs
