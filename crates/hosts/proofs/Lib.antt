@@ -1,5 +1,5 @@
 pub mod Contracts
-pub mod Refused
+pub mod Answers
 pub mod Told
 pub mod HostCalls
 pub mod HostSteps

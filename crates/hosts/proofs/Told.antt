@@ -25,7 +25,7 @@ use Rattle.capi.specs.Calls.{answerNumbers, byteStep, byteAdvance, bytesBehind,
 use Rattle.capi.proofs.RoundTrip.{Storable, AllPack, size, fresh-held}
 use Rattle.capi.proofs.NextStored.{stored-read, stored-held}
 use Rattle.hosts.specs.Calls.{HostStep, HostCall, hostFresh, hostStep, hostSteps, callsOf, gaveZero, acceptedBy, recordsBy, joinedBy, hostAdvance, AnyHostCall, anyCallsOf, hostBack, hostCalls, eventsBy, allRecordsBy}
-use Rattle.hosts.proofs.Refused.{Answers, answers}
+use Rattle.hosts.proofs.Answers.{Answers, answers}
 
 -- b holds the session z
 pub record Holding (b : List ℕ) (z : Session) : Type 0 where
