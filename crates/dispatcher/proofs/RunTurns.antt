@@ -6,7 +6,8 @@ use mathlib.Core.Bool.{Bool, true, false, not}
 use native.Mathlib.Omega.{arith}
 use borrow.Author.Tests.{lt-ltb, le-ltb, ltb-true, ltb-false, eq-eqb, ne-eqb, eqb-false, not-true, not-false}
 use lib.Dec.{eqb, ltb}
-use lib.ListN.{length, take, drop, length-drop}
+use lib.ListN.{length, take, drop, length-drop, length-append}
+use lib.Seq.{length-take-le}
 use Rattle.laws.proofs.Holds.{holds-cond}
 use Rattle.table.specs.Table.{headerOf, tableOf, decode}
 use Rattle.table.specs.Index.{indexOf}
@@ -73,6 +74,14 @@ going-last table s z₀ out₀ most z out used events records g h =
     let e : most - events ≡ 0 = omega arith in
     sym (g .asked ∙ ap (λ (n : ℕ). further n table s (soFar z events records out)) e ∙ further-none table s z events records out)
 
+-- what a turn makes of that: its records have room; where its number is not 0 it is what was asked; else it goes on
+pub record Turned (table s : List ℕ) (z₀ : Session) (out₀ : List ℕ) (most : ℕ) (out : List ℕ) (used events records : ℕ) (r : Step) : Type 0 where
+  pub room : used + 16 * r .answer .records ≤ length out
+  pub stops : (out′ : List ℕ) → out′ ≡ take used out ++ r .output → (r .answer .number ≡ 0 → ⊥)
+      → stepAs (r .answer .number) (r .answer .place) (r .session) events records out′ ≡ advanceOf most table s z₀ out₀
+  pub goes : (out′ : List ℕ) → out′ ≡ take used out ++ r .output → r .answer .number ≡ 0
+      → Going table s z₀ out₀ most (r .session) out′ (used + 16 * r .answer .records) (events + 1) (records + r .answer .records)
+
 module _ (table s : List ℕ) (z₀ : Session) (out₀ : List ℕ) (most : ℕ) (z : Session) (out : List ℕ) (used events records : ℕ) (g : Going table s z₀ out₀ most z out used events records)
     (more : events < most) (accepted : Accepted table ≡ true) (short : length s ≤ 16777215) (lent : List ℕ) (l : lent ≡ drop used out)
     (r : Step) (q : r ≡ planned (planOf (decode table) s z) z lent) where
@@ -89,32 +98,39 @@ module _ (table s : List ℕ) (z₀ : Session) (out₀ : List ℕ) (most : ℕ) 
   turn-inside : 16 * records ≤ length out
   turn-inside = omega (arith, g .counted, g .used-in)
 
-  pub going-room : used + 16 * r .answer .records ≤ length out
-  going-room = omega (arith, subst (Roomed lent) (sym q) (planned-roomed (planOf (decode table) s z) z lent) .room, ap length l, length-drop used out, g .used-in)
+  turn-roomed : Roomed lent r
+  turn-roomed = subst (Roomed lent) (sym q) (planned-roomed (planOf (decode table) s z) z lent)
+
+  turn-room : used + 16 * r .answer .records ≤ length out
+  turn-room = omega (arith, turn-roomed .room, ap length l, length-drop used out, g .used-in)
 
   turn-asked : advanceOf most table s z₀ out₀ ≡ further (suc left) table s (soFar z events records out)
   turn-asked = g .asked ∙ ap (λ (n : ℕ). further n table s (soFar z events records out)) turn-left
 
-  out-is : (out′ : List ℕ) → out′ ≡ take used out ++ r .output → out′ ≡ take (16 * records) out ++ r .output
-  out-is out′ e = e ∙ ap (λ (n : ℕ). take n out ++ r .output) (sym (g .counted))
+  module _ (out′ : List ℕ) (whole : out′ ≡ take used out ++ r .output) where
+    turn-out : out′ ≡ take (16 * records) out ++ r .output
+    turn-out = whole ∙ ap (λ (n : ℕ). take n out ++ r .output) (sym (g .counted))
 
-  pub going-stops : (number place : ℕ) (z′ : Session) (out′ : List ℕ) → number ≡ r .answer .number → place ≡ r .answer .place → z′ ≡ r .session → out′ ≡ take used out ++ r .output
-      → (number ≡ 0 → ⊥) → stepAs number place z′ events records out′ ≡ advanceOf most table s z₀ out₀
-  going-stops number place z′ out′ en ep ez eo n =
-      rw (en, ep, ez, out-is out′ eo)
-      (sym (turn-asked ∙ further-stops left table s z events records out turn-inside r turn-step (λ e. n (en ∙ e))))
+    turn-length : length out′ ≡ length out
+    turn-length =
+        omega (arith, ap length whole, length-append (take used out) (r .output), length-take-le used out (g .used-in), turn-roomed .same, ap length l, length-drop used out, g .used-in)
 
-  pub going-on : (z′ : Session) (more′ : ℕ) (out′ : List ℕ) → r .answer .number ≡ 0 → z′ ≡ r .session → more′ ≡ r .answer .records → out′ ≡ take used out ++ r .output → length out′ ≡ length out
-      → Going table s z₀ out₀ most z′ out′ (used + 16 * more′) (events + 1) (records + more′)
-  going-on z′ more′ out′ e ez em eo el =
-      record {
-        used-in = omega (arith, going-room);
-        same-length = el ∙ g .same-length;
-        counted = omega (arith, g .counted);
-        few = omega arith;
-        sound = subst (Sound (decode table) s) (sym ez) (subst (λ (x : Step). Sound (decode table) s (x .session)) turn-step (step-kept table accepted s z (g .sound) (drop (16 * records) out) .sound));
-        asked = rw (ez, em, out-is out′ eo) (turn-asked ∙ further-goes left table s z events records out turn-inside r turn-step e);
-      }
+    turn-stops : (r .answer .number ≡ 0 → ⊥) → stepAs (r .answer .number) (r .answer .place) (r .session) events records out′ ≡ advanceOf most table s z₀ out₀
+    turn-stops n = rw turn-out (sym (turn-asked ∙ further-stops left table s z events records out turn-inside r turn-step n))
+
+    turn-goes : r .answer .number ≡ 0 → Going table s z₀ out₀ most (r .session) out′ (used + 16 * r .answer .records) (events + 1) (records + r .answer .records)
+    turn-goes e =
+        record {
+          used-in = omega (arith, turn-room, turn-length);
+          same-length = turn-length ∙ g .same-length;
+          counted = omega (arith, g .counted);
+          few = omega arith;
+          sound = subst (λ (x : Step). Sound (decode table) s (x .session)) turn-step (step-kept table accepted s z (g .sound) (drop (16 * records) out) .sound);
+          asked = rw turn-out (turn-asked ∙ further-goes left table s z events records out turn-inside r turn-step e);
+        }
+
+  pub going-turned : Turned table s z₀ out₀ most out used events records r
+  going-turned = record { room = turn-room; stops = turn-stops; goes = turn-goes }
 
 -- ---- before the first turn
 pub sized-sound : (table : List ℕ) (header : Header) (index s : List ℕ) (z : Session) → TurnReady table header index s z → Sized (z .scope .levels) (z .scope .bindings) (z .spaces) (z .strands) → Sound (decode table) s z
@@ -166,19 +182,16 @@ module _ (table s : List ℕ) (a : Answer) (q : a ≡ judged table) where
   pub then-accepted : a .number ≡ 0 → Accepted table ≡ true
   then-accepted e = eq-eqb (judged table .number) 0 (number-zero e)
 
-  module _ (most : ℕ) (m : most ≡ 0 → ⊥) (z : Session) (out : List ℕ) (b : Answer) where
+  module _ (most : ℕ) (some : 1 ≤ most) (z : Session) (out : List ℕ) (b : Answer) where
     pub advance-refused : (a .number ≡ 0 → ⊥) → b ≡ answered (a .number) (a .place) 0 0 → handed (record { answer = b; session = z }) out ≡ advanceOf most table s z out
     advance-refused n e =
         ap (λ (x : Answer). handed (record { answer = x; session = z }) out) (e ∙ ap (λ (x : Answer). answered (x .number) (x .place) 0 0) q)
-        ∙ first-refused most (omega arith) table s z out (judged table .number) (judged table .place) (judged-zero n) (step-judged table s z out (judged-zero n))
+        ∙ first-refused most some table s z out (judged table .number) (judged table .place) (judged-zero n) (step-judged table s z out (judged-zero n))
 
     pub advance-too-long : a .number ≡ 0 → 16777215 < length s → b ≡ answered 7 0 0 0 → handed (record { answer = b; session = z }) out ≡ advanceOf most table s z out
     advance-too-long e h f =
         ap (λ (x : Answer). handed (record { answer = x; session = z }) out) f
-        ∙ first-refused most (omega arith) table s z out 7 0 (λ e. absurd (omega arith)) (step-long table s z out (number-zero e) h)
-
-pub some-step : (most : ℕ) → (most ≡ 0 → ⊥) → 1 ≤ most
-some-step most n = omega arith
+        ∙ first-refused most some table s z out 7 0 (λ e. absurd (omega arith)) (step-long table s z out (number-zero e) h)
 
 pub advance-none : (table s : List ℕ) (z : Session) (out : List ℕ) (most : ℕ) (b : Answer) → most ≡ 0 → b ≡ answered 0 (z .place) 0 0 → handed (record { answer = b; session = z }) out ≡ advanceOf most table s z out
 unfolding advanceOf
