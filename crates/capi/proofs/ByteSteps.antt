@@ -9,7 +9,7 @@ use lib.ListN.{length}
 use Rattle.laws.specs.Over.{overwrite}
 use Rattle.table.specs.Judge.{judged}
 use Rattle.table.specs.declared.Answer.{Answer}
-use Rattle.dispatcher.specs.Stepping.{Step, answered, refusedStep, longest, stepOf, advanceOf, handed}
+use Rattle.dispatcher.specs.Stepping.{Step, answered, refusedStep, longest, advanceOf, handed}
 use Rattle.dispatcher.specs.declared.Session.{Session}
 use Rattle.dispatcher.specs.declared.Stepped.{Stepped}
 use Rattle.dispatcher.proofs.Advancing.{advance-one}

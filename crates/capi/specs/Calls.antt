@@ -8,7 +8,7 @@ use Rattle.laws.specs.Over.{overwrite}
 use Rattle.table.specs.Judge.{judged}
 use Rattle.table.specs.declared.Answer.{Answer}
 use Rattle.dispatcher.specs.Stepping.{Step, refusedStep, longest, stepOf, advanceOf}
-use Rattle.capi.specs.Layout.{sessionSize, sessionIn, holdsSession, sessionBytes}
+use Rattle.capi.specs.Layout.{sessionIn, holdsSession, sessionBytes}
 
 -- number, place, events, records
 abbrev pub answerNumbers : Answer → List ℕ

@@ -165,7 +165,7 @@ pub extern "C" fn calcivorne_step(
     a.number
 }
 
-// At most so many steps, until one does not give 0: their records joined, from the output's first byte on. Or 255, as a step.
+// An advance: at most so many steps, until one's number is not 0, their records joined; or 255 and nothing written where the session has no room.
 #[no_mangle]
 pub extern "C" fn calcivorne_advance(
     table: &[u8],
