@@ -59,7 +59,7 @@ call-advanced : (table : List ℕ) (c : AnyCall) (z : Session) (k : ℕ) (out : 
 call-advanced table (ofStep c) z k out h = rw (← advance-one table (c .scene) z (c .output)) (advanced table (c .scene) 1 z k out h (c .output))
 call-advanced table (ofAdvance most c) z k out h = advanced table (c .scene) most z k out h (c .output)
 
-pub called : (table : List ℕ) (calls : List AnyCall) (s : List ℕ) (z : Session) (k : ℕ) (out : List (Record Body ℕ)) → Reached (decode table) s z k out → GrowingFrom s (map callOf calls) → Called table s z (lastSceneFrom s (map callOf calls)) k out (callsFrom table z calls) (sessionAfter table z calls)
+called : (table : List ℕ) (calls : List AnyCall) (s : List ℕ) (z : Session) (k : ℕ) (out : List (Record Body ℕ)) → Reached (decode table) s z k out → GrowingFrom s (map callOf calls) → Called table s z (lastSceneFrom s (map callOf calls)) k out (callsFrom table z calls) (sessionAfter table z calls)
 unfolding callsFrom eventsIn allRecords total gather
 called table [] s z k out h g =
     record { numbers = tt; records = []; reached = rw (add-zero k, append-nil) h; joined = refl; finishes = λ n f q. f q }
