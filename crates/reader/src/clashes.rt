@@ -14,7 +14,7 @@ use lexer::Name;
 use lexer::tags::attr_in;
 ghost use mathlib.Core.Path.{_≡_};
 ghost use Prim.Native.Nat.{_+_, _≤_, _<_};
-ghost use lib.ListN.{getD, drop};
+ghost use lib.ListN.{length, getD, drop};
 ghost use Rattle.laws.specs.Lists.{sameList, any};
 ghost use Rattle.lexer.specs.Attrs.{attrsIn};
 ghost use Rattle.reader.specs.Spans.{bytesOf, wholeSpan, partSpan, kindOf};
@@ -151,22 +151,21 @@ fn last_of(s: &[u8], name: Name) -> u8
 }
 
 // A key for each of the first `most` attributes: its name's last byte. Where a name has none, all keys are 0.
-fn keys_of(s: &[u8], attrs: &[usize; 80], most: usize) -> [u8; 16]
-    requires { ⌜ most ≤ 16 ⌝ }
-    ensures { λ r. ⌜ Keys (now (s .entry)) (now (attrs .entry)) most r ⌝ }
+fn lay_keys(s: &[u8], attrs: &[usize; 80], most: usize, keys: &mut [u8; 16])
+    requires { ⌜ (most ≤ 16) × (length (now keys) ≡ 16) ⌝ }
+    ensures { λ _. ⌜ Keys (now (s .entry)) (now (attrs .entry)) most (now (keys .exit)) ⌝ }
 {
-    let mut keys: [u8; 16] = [0; 16];
     let mut i = 0;
     while i < most {
         let a = attr_in(attrs, i);
         let last = last_of(s, a.name);
         if last == 0 {
-            return [0; 16];
+            *keys = [0; 16];
+            return;
         }
         keys[i] = last;
         i += 1;
     }
-    keys
 }
 
 // Does an attribute behind the i-th clash with it? Only those of the same key are looked at.
@@ -216,7 +215,8 @@ pub fn twice(
     if most < 2 {
         return false;
     }
-    let keys = keys_of(s, attrs, most);
+    let mut keys: [u8; 16] = [0; 16];
+    lay_keys(s, attrs, most, &mut keys);
     let mut i = 0;
     while i + 1 < most {
         if clash_behind(s, attrs, count, own, outer, spaces, &keys, i) {

@@ -6,8 +6,7 @@ use borrow.Author.Needs.{needs}
 use lib.ListN.{drop}
 use Rattle.laws.specs.Lists.{anyPair}
 use Rattle.lexer.specs.Attrs.{attrsIn}
-use Rattle.reader.specs.Stored.{atMost, coded, clashes, twiceIn}
-use Rattle.reader.specs.Keys.{Keys}
+use Rattle.reader.specs.Stored.{coded, clashes, twiceIn}
 use Rattle.reader.proofs.Any.{or-hit, or-miss}
 use Rattle.reader.proofs.Indexed.{at-most-le}
 use Rattle.reader.proofs.Clashing.{twice-turn, twice-out}
@@ -29,12 +28,12 @@ returns c =
     let a = c .before .before .before .args in
     twice-out (a .attrs .now) (a .spaces .now) (a .count) _ (c .before .at-most .ensures) (a .s .now) (a .own .now) (a .outer .now) 0 _ refl (omega arith)
 
-keys-of-requires : tie.Need-keys-of-requires Inv-loop μ-loop
-keys-of-requires c κs = at-most-le 16 (c .before .before .before .args .count) (c .before .at-most .result) (c .before .at-most .ensures)
+lay-keys-requires : tie.Need-lay-keys-requires Inv-loop μ-loop
+lay-keys-requires c κs = (at-most-le 16 (c .before .before .before .before .args .count) _ (c .before .before .at-most .ensures), refl)
 
 loop-holds : tie.Need-loop-holds Inv-loop μ-loop
 unfolding twiceIn
-loop-holds c = (at-most-le 16 (c .before .before .before .before .args .count) _ (c .before .before .at-most .ensures), omega arith, refl)
+loop-holds c = (at-most-le 16 (c .before .before .before .before .before .args .count) _ (c .before .before .before .at-most .ensures), omega arith, refl)
 
 add-loop : tie.Need-add-loop Inv-loop μ-loop
 add-loop c = search needs
@@ -42,13 +41,13 @@ add-loop c = search needs
 clash-behind-requires : tie.Need-clash-behind-requires Inv-loop μ-loop
 clash-behind-requires c κs =
     let l = c .before .before in
-    (omega arith, λ i j hi hj. l .before .keys-of .ensures i j (omega (arith, l .before .before .before .at-most .ensures)) (omega (arith, l .before .before .before .at-most .ensures)))
+    (omega arith, λ i j hi hj. l .before .lay-keys .ensures i j (omega (arith, l .before .before .before .before .at-most .ensures)) (omega (arith, l .before .before .before .before .at-most .ensures)))
 
 returns-2 : tie.Need-returns-2 Inv-loop μ-loop
 returns-2 c =
     let l = c .before .before .before .before in
     or-hit _ _ _
-    (twice-turn _ _ _ _ (l .before .before .before .at-most .ensures) _ _ _ (l .loop .i) _ (l .loop .inv .2) (omega arith) _ (c .before .clash-behind .ensures))
+    (twice-turn _ _ _ _ (l .before .before .before .before .at-most .ensures) _ _ _ (l .loop .i) _ (l .loop .inv .2) (omega arith) _ (c .before .clash-behind .ensures))
     (c .if2 .taken)
 
 add-i : tie.Need-add-i Inv-loop μ-loop
@@ -60,13 +59,13 @@ loop-less c = search needs
 loop-again : tie.Need-loop-again Inv-loop μ-loop
 loop-again c =
     let l = c .before .before .before .before in
-    let t = twice-turn _ _ _ _ (l .before .before .before .at-most .ensures) _ _ _ (l .loop .i) _ (l .loop .inv .2) (omega arith) _ (c .before .clash-behind .ensures) in
+    let t = twice-turn _ _ _ _ (l .before .before .before .before .at-most .ensures) _ _ _ (l .loop .i) _ (l .loop .inv .2) (omega arith) _ (c .before .clash-behind .ensures) in
     (l .loop .inv .0, omega arith, or-miss _ _ _ t (c .if2 .left))
 
 returns-3 : tie.Need-returns-3 Inv-loop μ-loop
 returns-3 c =
     let l = c .before in
-    twice-out _ _ _ _ (l .before .before .before .at-most .ensures) _ _ _ (l .loop .i) _ (l .loop .inv .2) (c .loop-test .left)
+    twice-out _ _ _ _ (l .before .before .before .before .at-most .ensures) _ _ _ (l .loop .i) _ (l .loop .inv .2) (c .loop-test .left)
 
 pub twice-spec : {M : Type 1} → statement M
 twice-spec =
@@ -76,7 +75,7 @@ twice-spec =
     μ-loop
     at-most-requires
     returns
-    keys-of-requires
+    lay-keys-requires
     loop-holds
     add-loop
     clash-behind-requires

@@ -1,4 +1,4 @@
--- `reader::clashes::keys_of` meets its contract: the keys that are stored are the last bytes of names that have one.
+-- `reader::clashes::lay_keys` meets its contract: the keys that are stored are the last bytes of names that have one.
 use Prim.Native.Nat.{ℕ, _-_, _<_}
 use mathlib.Core.Path.{_≡_, refl}
 use native.Mathlib.Omega.{arith}
@@ -9,8 +9,8 @@ use Rattle.laws.proofs.Filled.{filled-more}
 use Rattle.lexer.specs.Attrs.{attrIn}
 use Rattle.reader.specs.Keys.{EndsWith}
 use Rattle.reader.proofs.Keys.{keys-last, keys-none}
-use Rattle.reader.proofs.clashes.keys_of.Statement.{statement}
-use Rattle.reader.proofs.clashes.keys_of.Tie as tie
+use Rattle.reader.proofs.clashes.lay_keys.Statement.{statement}
+use Rattle.reader.proofs.clashes.lay_keys.Tie as tie
 
 abbrev Inv-loop : tie.InvT-loop
 Inv-loop s attrs most keys₀ i₀ keys i = (length keys ≡ 16) × ((k : ℕ) → k < i → EndsWith s (attrIn attrs k .name) (getD keys k 0))
@@ -19,7 +19,7 @@ abbrev μ-loop : tie.MeasureT-loop
 μ-loop s attrs most keys₀ i₀ keys i = most - i
 
 loop-holds : tie.Need-loop-holds Inv-loop μ-loop
-loop-holds c = (refl, below-none _)
+loop-holds c = (c .before .pre .1, below-none _)
 
 attr-in-requires : tie.Need-attr-in-requires Inv-loop μ-loop
 attr-in-requires c κs = search needs
@@ -29,11 +29,11 @@ last-of-requires c κs = search needs
 
 returns : tie.Need-returns Inv-loop μ-loop
 returns c =
-    let b = c .before .before .before .before .before .before in
-    keys-none (b .args .s .now) (b .args .attrs .now) (b .args .most) (b .pre)
+    let b = c .before .before .before .before .before .before .before in
+    keys-none (b .args .s .now) (b .args .attrs .now) (b .args .most) (b .pre .0)
 
-array-write-keys : tie.Need-array-write-keys Inv-loop μ-loop
-array-write-keys c = search needs
+element-write-keys : tie.Need-element-write-keys Inv-loop μ-loop
+element-write-keys c = search needs
 
 add-i : tie.Need-add-i Inv-loop μ-loop
 add-i c = search needs
@@ -56,8 +56,8 @@ returns-2 c =
     let a = l .before .before .args in
     keys-last (a .s .now) (a .attrs .now) (a .most) (l .loop .keys) (λ k h. l .loop .inv .1 k (omega (arith, c .loop-test .left)))
 
-pub keys-of-spec : {M : Type 1} → statement M
-keys-of-spec =
+pub lay-keys-spec : {M : Type 1} → statement M
+lay-keys-spec =
     tie.close
     (tie.spec
     Inv-loop
@@ -66,7 +66,7 @@ keys-of-spec =
     attr-in-requires
     last-of-requires
     returns
-    array-write-keys
+    element-write-keys
     add-i
     loop-less
     loop-again
