@@ -1,5 +1,5 @@
--- Lanes: the bytes of a number, the least significant first. One direction is all that is needed: where the lanes of the mask are 0 up to one, the
--- bytes up to there are plain.
+-- Lanes: the bytes of a number, the least significant first. One direction is all that is needed: as many lanes of the mask as are 0, so many bytes
+-- are plain.
 --     less-step, other-step       a lane of a difference without its high bit: nothing was borrowed from the lanes behind it
 --     plain-lanes                 lanes of 0 in the mask: the bytes are plain
 --     counted                     the zeros at a number's end, by eight: lanes of 0
@@ -21,8 +21,9 @@ abbrev pub repeated : ℕ → ℕ → ℕ
 repeated zero c = 0
 repeated (suc n) c = repeated n c * 256 + c
 
--- ---- differences of n lanes that wrap
+-- ---- differences that wrap
 
+-- r is a less b, but for what n lanes cannot hold
 record Less (n r b a : ℕ) : Type 0 where
   over : ℕ
   is : r + b ≡ a + over * 256 ^ n
@@ -38,7 +39,7 @@ less-step n r b a l h k =
     let e : r + b ≡ a + x * 256 = l .is ∙ ap (λ (m : ℕ). a + m) p in
     (omega arith, record { over = l .over; is = omega arith })
 
--- the same of what w has not in common with c, less 1: the lane of w is not c
+-- the same of w ^ c less 1: the lane of w is not c
 other-step : (n r w c : ℕ) → c < 256 → Less (suc n) r (repeated (suc n) 1) (bitXor w (repeated (suc n) c)) → r % 256 < 128
     → (w % 256 ≡ c → ⊥) × Less n (r / 256) (repeated n 1) (bitXor (w / 256) (repeated n c))
 other-step n r w c h l k =
@@ -73,7 +74,7 @@ high-step n m =
     let d : bitAnd m h / 256 ≡ bitAnd (m / 256) (repeated n 0x80) = and-shr m h 8 ∙ ap (bitAnd (m / 256)) rest in
     (λ z. no-high (m % 256) (omega arith) (sym e ∙ z), d)
 
--- each of two numbers whose lane has no high bit in common
+-- no high bit in the least lane of a | b: none in a's and in b's
 either : (a b : ℕ) → bitOr a b % 256 < 128 → (a % 256 < 128) × (b % 256 < 128)
 either a b h =
     let e = or-mod a b 8 in
@@ -82,7 +83,7 @@ either a b h =
     let r = and-le-r (a % 256) (b % 256) in
     (omega (arith, e, s, r), omega (arith, e, s, l))
 
--- the six numbers of a mask: w less 20, and less 1 what w has not in common with the quote, &, < and ]; and w
+-- five of the mask's six numbers, by the sixth, w: w less 20, and w ^ c less 1 for the quote, &, < and ]
 record Tested (n quote w a b c d e : ℕ) : Type 0 where
   above : Less n a (repeated n 0x20) w
   quotes : Less n b (repeated n 1) (bitXor w (repeated n quote))
@@ -194,3 +195,5 @@ clear-none (suc k) = (refl, clear-none k)
 
 pub counted : (m : ℕ) → (trailingZeros 64 m / 8 ≤ 8) × Clear (trailingZeros 64 m / 8) m
 counted m = (omega (arith, trailing-le 64 m), clear-below (trailingZeros 64 m / 8) 64 m (omega arith))
+
+-- x

@@ -9,8 +9,8 @@ ghost use Rattle.laws.specs.Lists.{all};
 ghost use Rattle.lanes.specs.Words.{digits};
 ghost use Rattle.lanes.specs.Plain.{isPlain, plainBytes, Clear};
 
-// The high bit of the first byte of w that is not plain, and of no byte before it; of those behind it any. A byte less 20, or what it has not in
-// common with another byte less 1, has its high bit where the byte is below 20, or is that other byte. It borrows from the bytes behind it then.
+// The high bit of the first byte of w that is not plain, and of no byte before it; behind it any. Of a byte x, x - 20 has the high bit where x is
+// below 20, (x ^ c) - 1 where x is c, and x from 80 on. Only a byte that is not plain borrows, and only from those behind it.
 fn special_bits(w: u64, quote: u8) -> u64
     ensures { λ r. ⌜ ((k : ℕ) → Clear k r → all (isPlain quote) (take k (digits 8 w)) ≡ true) ⌝ }
 {

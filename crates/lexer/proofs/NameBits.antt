@@ -1,7 +1,7 @@
 -- The test of a name byte by the bits of two numbers, tried at every byte below 128.
 --     low-bits, high-bits, no-bits     a byte below 64, below 128, any other
-use Prim.Native.Nat.{ℕ, _/_, _%_, _^_, _+_, _-_, _≤_, _<_}
-use mathlib.Core.Path.{_≡_, refl, sym, ap, _∙_}
+use Prim.Native.Nat.{ℕ, _+_, _-_, _/_, _%_, _^_, _≤_, _<_}
+use mathlib.Core.Path.{_≡_, refl, sym, _∙_}
 use mathlib.Core.Bool.{Bool, true, false, not, and-false}
 use native.Mathlib.Nat.{mod-eq-of-lt}
 use native.Mathlib.Omega.{arith}

@@ -1,19 +1,19 @@
 -- A turn of the loop over a value. The machine passes over a reference and over plain bytes one by one, the code at once.
---     plain-passed                passing over plain bytes changes no answer
---     text-.., reference-..       a turn at one byte, and at a reference; passed-on: and over the plain bytes behind it
+--     plain-passed, high-passed   passing over plain bytes, or over one from 80 on, changes no answer
+--     text-.., reference-..       a turn at one byte, and at a reference; passed-on: and over bytes behind it
 --     quote-here, line-passed     the quote at once; a line's end before a text
 use Prim.Native.Nat.{ℕ, zero, suc, _+_, _-_, _≤_, _<_}
 use mathlib.Core.Path.{_≡_, refl, sym, _∙_}
 use mathlib.Core.List.{List, [], _∷_}
-use mathlib.Core.Bool.{Bool, true, false, cond, not, _&&_, _||_}
+use mathlib.Core.Bool.{Bool, true, false, not, _&&_}
 use native.Mathlib.Nat.{add-zero, not-suc-le-zero, le-of-suc-le-suc}
 use native.Mathlib.Omega.{arith}
-use borrow.Author.Tests.{eq-eqb, ne-eqb}
+use borrow.Author.Tests.{eq-eqb, ne-eqb, le-leb}
 use lib.ListN.{length, take, drop, getD, length-drop}
 use lib.Seq.{drop-drop}
 use lib.Dec.{leb, ltb, eqb}
 use Rattle.laws.specs.Lists.{all}
-use Rattle.laws.specs.Reading.{RunNext, go, stop, run, run-stop, run-go}
+use Rattle.laws.specs.Reading.{go, run, run-stop, run-go}
 use Rattle.laws.specs.Tests.{untold, tests}
 use Rattle.laws.proofs.Flags.{and-left, and-right}
 use Rattle.lanes.specs.Plain.{isPlain, plainBytes}
@@ -94,11 +94,20 @@ module _ (p : Read) (s : List ℕ) (quote i : ℕ) (inv : run (Stopped Cut) (val
         let m : j - (i + 1) ≤ length (drop (i + 1) s) = simp length-drop (omega arith) in
         (rw (skipped s quote (j - (i + 1)) (drop (i + 1) s) (i + 1) m, drop-drop, k) at (run-go (Stopped Cut) (valueStep s quote) p 0 s i inv h (j - (i + 1)) (step (End j) q)))
 
--- a turn that passes over plain bytes too
-pub passed-on : (s : List ℕ) (quote i j : ℕ) (p : Read) → (i ≤ j) × (plainBytes s quote i j ≡ true)
+-- a turn that passes over more bytes
+pub passed-on : (s : List ℕ) (quote i j : ℕ) (p : Read) → valueEnd s j quote ≡ valueEnd s i quote
     → run (Stopped Cut) (valueStep s quote) 0 (drop i s) i ≡ p → run (Stopped Cut) (valueStep s quote) 0 (drop j s) j ≡ p
 unfolding valueEnd
-passed-on s quote i j p h inv = plain-passed s quote i j h ∙ inv
+passed-on s quote i j p e inv = e ∙ inv
+
+-- a byte from 80 on
+pub high-passed : (s : List ℕ) (quote at i : ℕ) → valueEnd s i quote ≡ valueEnd s at quote → i < length s → 0x80 ≤ getD s i 0 → (getD s i 0 ≡ quote → ⊥)
+    → valueEnd s (i + 1) quote ≡ valueEnd s at quote
+unfolding valueEnd
+high-passed s quote at i e h k n =
+    let b = getD s i 0 in
+    run-go (Stopped Cut) (valueStep s quote) (valueEnd s at quote) 0 s i e h 0
+    (simp (ne-eqb b quote n, ne-eqb b 0x26 (λ q. omega arith), ne-eqb b 0x3C (λ q. omega arith), le-leb 0x20 b (omega arith)))
 
 -- the quote at once
 pub quote-here : (s : List ℕ) (quote at i : ℕ) → valueEnd s i quote ≡ valueEnd s at quote → i < length s → getD s i 0 ≡ quote → End i ≡ valueEnd s at quote

@@ -4,6 +4,7 @@ use crate::Stop;
 use lanes::plain::plain_end;
 ghost use mathlib.Core.Path.{_≡_};
 ghost use mathlib.Core.Bool.{cond};
+ghost use Prim.Native.Nat.{_≤_};
 ghost use lib.Dec.{ltb};
 ghost use lib.ListN.{drop};
 ghost use Rattle.lexer.specs.Values.{references, common, furthest, noReference, referenceEnd, isText, valueEnd, textEnd};
@@ -90,7 +91,25 @@ fn is_text(b: u8) -> bool
     ((0x20 <= b) | (b == 0x0A) | (b == 0x09) | (b == 0x0D)) & (b != 0x3C)
 }
 
-// The same as value_end, byte by byte where a byte is no plain one.
+// Behind the bytes from 80 on that stand at a place, up to the quote.
+fn high_end(s: &[u8], at: usize, quote: u8) -> usize
+    ensures { λ r. ⌜ (at ≤ r) × (valueEnd (now (s .entry)) r quote ≡ valueEnd (now (s .entry)) at quote) ⌝ }
+{
+    let mut i = at;
+    while i < s.len() {
+        let b = s[i];
+        if b < 0x80 {
+            return i;
+        }
+        if b == quote {
+            return i;
+        }
+        i += 1;
+    }
+    i
+}
+
+// The same as value_end, byte by byte where a byte is not plain.
 fn value_rest(s: &[u8], at: usize, quote: u8) -> Read
     ensures { λ r. ⌜ r ≡ valueEnd (now (s .entry)) at quote ⌝ }
 {
@@ -113,11 +132,7 @@ fn value_rest(s: &[u8], at: usize, quote: u8) -> Read
             if !is_text(b) {
                 return Read::Stopped(Stop::Bad(i));
             }
-            if b < 0x80 {
-                i = plain_end(s, i + 1, quote);
-            } else {
-                i += 1;
-            }
+            i = plain_end(s, high_end(s, i + 1, quote), quote);
         }
     }
     Read::Stopped(Stop::Cut)

@@ -1,8 +1,6 @@
 -- `words::word_at` meets its contract: the eight bytes one by one.
-use mathlib.Core.Path.{sym, ap, _∙_}
 use native.Mathlib.Omega.{arith}
 use borrow.Author.Needs.{needs}
-use Rattle.lanes.specs.Words.{littleEndian}
 use Rattle.lanes.proofs.Words.{eight-at}
 use Rattle.lanes.proofs.word_at.Statement.{statement}
 use Rattle.lanes.proofs.word_at.Tie as tie

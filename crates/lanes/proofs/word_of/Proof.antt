@@ -1,6 +1,6 @@
 -- `words::word_of` meets its contract.
-use Rattle.lanes.proofs.Words.{le64, le64-digits}
 use native.Mathlib.Omega.{arith}
+use Rattle.lanes.proofs.Words.{le64, le64-digits}
 use Rattle.lanes.proofs.word_of.Statement.{statement}
 use Rattle.lanes.proofs.word_of.Tie as tie
 

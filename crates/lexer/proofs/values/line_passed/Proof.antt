@@ -1,6 +1,6 @@
 -- `lexer::values::line_passed` meets its contract: 0A is a byte of a text.
-use Rattle.lexer.proofs.Passing.{line-passed}
 use borrow.Author.Needs.{needs}
+use Rattle.lexer.proofs.Passing.{line-passed}
 use Rattle.lexer.proofs.values.line_passed.Statement.{statement}
 use Rattle.lexer.proofs.values.line_passed.Tie as tie
 

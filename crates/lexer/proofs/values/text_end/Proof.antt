@@ -1,7 +1,7 @@
 -- `lexer::values::text_end` meets its contract: what is passed over at once changes no answer.
 use mathlib.Core.Path.{_∙_}
-use Rattle.lexer.proofs.Passing.{plain-passed, quote-here}
 use borrow.Author.Needs.{needs}
+use Rattle.lexer.proofs.Passing.{plain-passed, quote-here}
 use Rattle.lexer.proofs.values.text_end.Statement.{statement}
 use Rattle.lexer.proofs.values.text_end.Tie as tie
 

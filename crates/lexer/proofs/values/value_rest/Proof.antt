@@ -1,5 +1,5 @@
 -- `lexer::values::value_rest` meets its contract: at each turn the answer is that of what is left.
-use mathlib.Core.Path.{_≡_, refl}
+use mathlib.Core.Path.{_≡_, refl, _∙_}
 use Prim.Native.Nat.{_-_}
 use native.Mathlib.Omega.{arith}
 use borrow.Author.Needs.{needs}
@@ -8,7 +8,7 @@ use Rattle.laws.specs.Reading.{run, machine}
 use Rattle.lexer.specs.Values.{valueStep, valueEnd}
 use Rattle.lexer.specs.declared.Stop.the-variants.{Cut}
 use Rattle.lexer.specs.declared.Read.the-variants.{Stopped}
-use Rattle.lexer.proofs.Passing.{text-stops, text-passed, reference-in, reference-passed, reference-stops, passed-on}
+use Rattle.lexer.proofs.Passing.{plain-passed, text-stops, text-passed, reference-in, reference-passed, reference-stops, passed-on}
 use Rattle.lexer.proofs.values.value_rest.Statement.{statement}
 use Rattle.lexer.proofs.values.value_rest.Tie as tie
 
@@ -41,7 +41,7 @@ loop-less : tie.Need-loop-less Inv-loop μ-loop
 loop-less c = let a = c .before .before .before .before .before .before .before .before .before .before .before .args in omega (arith, reference-in (a .s .now) (c .before .before .before .before .before .before .before .before .before .loop .i) _ _ (c .before .before .before .before .reference-end .ensures) (c .before .before .j .given .1), c .plain-end .ensures .0)
 
 loop-again : tie.Need-loop-again Inv-loop μ-loop
-loop-again c = passed-on _ _ _ _ _ (c .plain-end .ensures) (search reference-passed)
+loop-again c = passed-on _ _ _ _ _ (plain-passed _ _ _ _ (c .plain-end .ensures)) (search reference-passed)
 
 enum-known-x : tie.Need-enum-known-x Inv-loop μ-loop
 enum-known-x c = search needs
@@ -55,26 +55,20 @@ is-text-requires c κs = search needs
 returns-3 : tie.Need-returns-3 Inv-loop μ-loop
 returns-3 c = search text-stops
 
-add-plain-end : tie.Need-add-plain-end Inv-loop μ-loop
-add-plain-end c = search needs
+add-high-end : tie.Need-add-high-end Inv-loop μ-loop
+add-high-end c = search needs
+
+high-end-requires : tie.Need-high-end-requires Inv-loop μ-loop
+high-end-requires c κs = search needs
 
 plain-end-requires-2 : tie.Need-plain-end-requires-2 Inv-loop μ-loop
 plain-end-requires-2 c κs = search needs
 
 loop-less-2 : tie.Need-loop-less-2 Inv-loop μ-loop
-loop-less-2 c = omega (arith, c .plain-end2 .ensures .0, c .before .before .before .before .before .before .before .loop-test .taken)
+loop-less-2 c = omega (arith, c .plain-end2 .ensures .0, c .before .high-end .ensures .0, c .before .before .before .before .before .before .before .loop-test .taken)
 
 loop-again-2 : tie.Need-loop-again-2 Inv-loop μ-loop
-loop-again-2 c = passed-on _ _ _ _ _ (c .plain-end2 .ensures) (search text-passed)
-
-add-i : tie.Need-add-i Inv-loop μ-loop
-add-i c = search needs
-
-loop-less-3 : tie.Need-loop-less-3 Inv-loop μ-loop
-loop-less-3 c = search needs
-
-loop-again-3 : tie.Need-loop-again-3 Inv-loop μ-loop
-loop-again-3 c = search text-passed
+loop-again-2 c = passed-on _ _ _ _ _ (plain-passed _ _ _ _ (c .plain-end2 .ensures) ∙ c .before .high-end .ensures .1) (search text-passed)
 
 returns-4 : tie.Need-returns-4 Inv-loop μ-loop
 returns-4 c = search machine
@@ -97,11 +91,9 @@ value-rest-spec =
     returns-2
     is-text-requires
     returns-3
-    add-plain-end
+    add-high-end
+    high-end-requires
     plain-end-requires-2
     loop-less-2
     loop-again-2
-    add-i
-    loop-less-3
-    loop-again-3
     returns-4)
