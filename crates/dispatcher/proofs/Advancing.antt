@@ -11,7 +11,7 @@ use mathlib.Core.Bool.{Bool, true, false, cond, not}
 use native.Mathlib.Omega.{arith}
 use borrow.Author.Tests.{eqb-true, eqb-false, eq-eqb, ne-eqb, not-true, not-false}
 use lib.Dec.{eqb, ltb}
-use lib.ListN.{length, take, drop, length-drop, length-append, take-append-drop}
+use lib.ListN.{length, take, drop, take-append-drop}
 use lib.Seq.{length-take-le, take-append-add, drop-append-add}
 use Rattle.laws.proofs.Holds.{holds-cond}
 use Rattle.table.specs.Table.{decode}
@@ -45,7 +45,7 @@ module _ (a b : Step) (h : 16 * a .answer .records ≤ length (a .output)) where
   behind : 16 * (a .answer .records + b .answer .records) ≡ length (take (16 * a .answer .records) (a .output)) + 16 * b .answer .records
   behind = omega (arith, front)
 
-  pub rest-joined : restOf (joined a b) ≡ restOf b
+  rest-joined : restOf (joined a b) ≡ restOf b
   rest-joined =
       ap (λ (m : ℕ). drop m (take (16 * a .answer .records) (a .output) ++ b .output)) behind
       ∙ drop-append-add (take (16 * a .answer .records) (a .output)) (b .output) (16 * b .answer .records)
@@ -55,7 +55,7 @@ module _ (a b : Step) (h : 16 * a .answer .records ≤ length (a .output)) where
       ap (λ (m : ℕ). take m (take (16 * a .answer .records) (a .output) ++ b .output)) behind
       ∙ take-append-add (take (16 * a .answer .records) (a .output)) (b .output) (16 * b .answer .records)
 
-  pub joined-assoc : (c : Step) → joined a (joined b c) ≡ joined (joined a b) c
+  joined-assoc : (c : Step) → joined a (joined b c) ≡ joined (joined a b) c
   joined-assoc c =
       same-step (c .answer .number) (c .answer .place) (c .session)
       (a .answer .events + (b .answer .events + c .answer .events)) (a .answer .events + b .answer .events + c .answer .events)
@@ -96,7 +96,7 @@ module _ (n : ℕ) (table s : List ℕ) (z : Session) (out : List ℕ) (r : Step
   unfolding advanceOf
   advance-stops k = rw (q, ne-eqb (r .answer .number) 0 k)
 
-  pub advance-goes : r .answer .number ≡ 0 → advanceOf (suc n) table s z out ≡ further n table s r
+  advance-goes : r .answer .number ≡ 0 → advanceOf (suc n) table s z out ≡ further n table s r
   unfolding advanceOf
   advance-goes e = rw (q, eq-eqb (r .answer .number) 0 e)
 
@@ -126,10 +126,6 @@ module _ (n : ℕ) (table s : List ℕ) (z : Session) (events records : ℕ) (ou
       ∙ joined-assoc (soFar z events records out) r h (advanceOf n table s (r .session) (restOf r))
       ∙ ap (λ (l : List ℕ). joined (joined (soFar z events records out) r) (advanceOf n table s (r .session) l)) (sym (rest-joined (soFar z events records out) r h))
       ∙ ap (λ (k : ℕ). further n table s (stepAs 0 (r .session .place) (r .session) (events + k) (records + r .answer .records) (take (16 * records) out ++ r .output))) (subst OneEvent q (step-one-event table s z (drop (16 * records) out)) .one e .0)
-
-  pub further-in : 16 * (records + r .answer .records) ≤ length (take (16 * records) out ++ r .output)
-  further-in =
-      omega (arith, length-append (take (16 * records) out) (r .output), length-take-le (16 * records) out h, roomed .room, roomed .same, length-drop (16 * records) out)
 
 -- ---- one step is a step
 pub advance-one : (table s : List ℕ) (z : Session) (out : List ℕ) → advanceOf 1 table s z out ≡ stepOf table s z out

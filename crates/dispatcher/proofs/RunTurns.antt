@@ -16,7 +16,7 @@ use Rattle.table.specs.declared.Header.{Header}
 use Rattle.table.specs.Judge.{judged, Accepted}
 use Rattle.dispatcher.specs.Sessions.{freshOf, headOf, sessionOf}
 use Rattle.dispatcher.specs.Coherence.{coherent}
-use Rattle.dispatcher.specs.Stepping.{refused, planOf, planned, Step, answered, refusedStep, longest, stepOf, advanceOf, handed, runBy, runOf, ran}
+use Rattle.dispatcher.specs.Stepping.{planOf, planned, Step, answered, refusedStep, stepOf, advanceOf, handed, runBy, runOf, ran}
 use Rattle.dispatcher.specs.Turns.{TurnReady, Sized, advancedAnswer, advancedBy}
 use Rattle.dispatcher.specs.declared.Session.{Session}
 use Rattle.dispatcher.specs.declared.Head.{Head}
@@ -31,19 +31,19 @@ use Rattle.dispatcher.proofs.Advancing.{stepAs, soFar, further, joined-
 
 -- ---- the ways out of a step
 module _ (table s : List ℕ) (z : Session) (out : List ℕ) where
-  pub step-judged : (judged table .number ≡ 0 → ⊥) → refusedStep (judged table .number) (judged table .place) z out ≡ stepOf table s z out
+  step-judged : (judged table .number ≡ 0 → ⊥) → refusedStep (judged table .number) (judged table .place) z out ≡ stepOf table s z out
   unfolding stepOf
   step-judged n = rw (ne-eqb (judged table .number) 0 n)
 
-  pub step-long : judged table .number ≡ 0 → 16777215 < length s → refusedStep 7 0 z out ≡ stepOf table s z out
+  step-long : judged table .number ≡ 0 → 16777215 < length s → refusedStep 7 0 z out ≡ stepOf table s z out
   unfolding stepOf
   step-long e h = rw (eq-eqb (judged table .number) 0 e, lt-ltb 16777215 (length s) h)
 
-  pub step-incoherent : Accepted table ≡ true → length s ≤ 16777215 → coherent (decode table) s z ≡ false → refusedStep 20 0 z out ≡ stepOf table s z out
+  step-incoherent : Accepted table ≡ true → length s ≤ 16777215 → coherent (decode table) s z ≡ false → refusedStep 20 0 z out ≡ stepOf table s z out
   unfolding stepOf
   step-incoherent a h c = rw (a, le-ltb 16777215 (length s) h, c)
 
-  pub step-planned : Accepted table ≡ true → length s ≤ 16777215 → coherent (decode table) s z ≡ true → planned (planOf (decode table) s z) z out ≡ stepOf table s z out
+  step-planned : Accepted table ≡ true → length s ≤ 16777215 → coherent (decode table) s z ≡ true → planned (planOf (decode table) s z) z out ≡ stepOf table s z out
   unfolding stepOf
   step-planned a h c = rw (a, le-ltb 16777215 (length s) h, c)
 
@@ -139,12 +139,12 @@ sized-sound table header index s z r l = coherent-sound (decode table) s z (l .l
 -- ---- a first step that is refused
 -- any advance by some step is it
 module _ (most : ℕ) (some : 1 ≤ most) (table s : List ℕ) (z : Session) (out : List ℕ) where
-  pub first-stops : (stepOf table s z out .answer .number ≡ 0 → ⊥) → advanceOf most table s z out ≡ stepOf table s z out
+  first-stops : (stepOf table s z out .answer .number ≡ 0 → ⊥) → advanceOf most table s z out ≡ stepOf table s z out
   first-stops k =
       let one : most ≡ suc (most - 1) = omega arith in
       ap (λ (i : ℕ). advanceOf i table s z out) one ∙ advance-stops (most - 1) table s z out (stepOf table s z out) refl k
 
-  pub first-refused : (n p : ℕ) → (n ≡ 0 → ⊥) → refusedStep n p z out ≡ stepOf table s z out → refusedStep n p z out ≡ advanceOf most table s z out
+  first-refused : (n p : ℕ) → (n ≡ 0 → ⊥) → refusedStep n p z out ≡ stepOf table s z out → refusedStep n p z out ≡ advanceOf most table s z out
   first-refused n p k e = e ∙ sym (first-stops (λ i. k (ap (λ (x : Step). x .answer .number) e ∙ i)))
 
 -- ---- behind judge and 7
