@@ -2,9 +2,11 @@
 
        bench table LABEL SCENE RULES     every contender on one scene, with peak memory
        bench lines WORD (LABEL SCENE RULES)..  run beside expat on each of these scenes, a line each; the scenes take turns too
-       bench once WHO SCENE RULES [ROOM] one pass of one contender, with its peak memory; WHO is run, step, expat, pieces, libxml2, memchr or load
+       bench once WHO SCENE RULES [ROOM] one pass of one contender: its peak memory, events, records, calls, and a sum over the records' bytes; WHO is run,
+                                         expat, libxml2, advance64, pieces64, advance4, pieces4, step, memchr or load
 
-   Before the command: -r ROUNDS (5), -t SECONDS of a contender in a round (0.25), -m (no memory), -p SECONDS after which stepping stops (8 times -t).
+   Before the command: -r ROUNDS (5), -t SECONDS of a contender in a round (0.25), -m (no memory), -p SECONDS after which stepping stops (8 times -t),
+   -n CALLS after which it stops.
    Contenders take turns in each round; the best round of each counts ('by rounds': the median of the ratios within a round).
    Time is processor time of this process.
    Events are the scene's own (starts, texts, ends) for all; records are those that run writes. MB is 1,000,000 bytes.
@@ -23,6 +25,9 @@
 
 #include "calcivorne.h"
 
+/* A library from before this call is timed without it. */
+#pragma weak calcivorne_advance
+
 static void die(const char *why, const char *what) {
     fprintf(stderr, "bench: %s%s\n", why, what);
     exit(1);
@@ -38,7 +43,7 @@ static double now(void) {
 struct bytes { uint8_t *at; size_t length; };
 
 static struct bytes scene, rules, out;    /* of the pass at hand */
-enum { STEP_ROOM = 65536 };
+static uint8_t room[65536];               /* what a step and an advance write to */
 
 static struct bytes load(const char *path) {
     FILE *f = fopen(path, "rb");
@@ -53,47 +58,91 @@ static struct bytes load(const char *path) {
     return b;
 }
 
-/* What a pass saw. done is how many bytes it went over: fewer than the scene's where it was stopped for time. */
-struct seen { uint64_t events, records; size_t done; };
+/* What a pass saw. done is how many bytes it went over: fewer than the scene's where it was stopped. */
+struct seen { uint64_t events, records, calls, sum; size_t done; };
 
-static double patience;    /* seconds after which stepping stops; 0 never */
+static double patience;       /* seconds after which stepping stops; 0 never */
+static uint64_t most_calls;   /* calls after which it stops; 0 never */
+static int summing;           /* whether the pass at hand sums the records' bytes, which tells of their order too */
+
+/* One more call of a pass, whose records stand at an output's first byte. */
+static void tally(struct seen *s, const uint64_t *answer, const uint8_t *records) {
+    s->calls++;
+    s->events += answer[2];
+    s->records += answer[3];
+    s->done = (size_t)answer[1];
+    for (uint64_t k = 0; summing && k < 16 * answer[3]; k++) s->sum = (s->sum ^ records[k]) * 0x100000001B3u;
+}
+
+static void ends_with_9(const char *who, const uint64_t *answer) {
+    if (answer[0] == 9) return;
+    fprintf(stderr, "bench: %s gives %u at %llu\n", who, (unsigned)answer[0], (unsigned long long)answer[1]);
+    exit(1);
+}
 
 static struct seen pass_run(void) {
     uint64_t answer[4];
-    if (calcivorne_run(rules.at, rules.length, scene.at, scene.length, out.at, out.length, answer) != 9) {
-        fprintf(stderr, "bench: run gives %u at %llu\n", (unsigned)answer[0], (unsigned long long)answer[1]);
-        exit(1);
-    }
-    return (struct seen){ answer[2], answer[3], (size_t)answer[1] };
+    struct seen s = { 0, 0, 0, 0, 0 };
+    calcivorne_run(rules.at, rules.length, scene.at, scene.length, out.at, out.length, answer);
+    ends_with_9("run", answer);
+    tally(&s, answer, out.at);
+    return s;
+}
+
+static uint8_t *fresh(size_t length) {
+    uint8_t *session = malloc(length);
+    if (!session || calcivorne_fresh(session, length)) die("no session", "");
+    return session;
 }
 
 static struct seen pass_step(void) {
-    static uint8_t room[STEP_ROOM];
     size_t length = (size_t)calcivorne_session_size();
-    uint8_t *session = malloc(length), number;
-    uint64_t answer[4];
-    struct seen s = { 0, 0, 0 };
+    uint8_t *session = fresh(length);
+    uint64_t answer[4] = { 0, 0, 0, 0 };
+    struct seen s = { 0, 0, 0, 0, 0 };
     double begin = now();
-    calcivorne_fresh(session, length);
-    while (!(number = calcivorne_step(rules.at, rules.length, scene.at, scene.length, session, length, room, sizeof room, answer))) {
-        s.events += answer[2];
-        s.records += answer[3];
-        if (s.events % 256 == 0 && patience > 0 && now() - begin > patience) break;
+    while (!answer[0]) {
+        if (s.calls && s.calls == most_calls) break;
+        if (s.calls % 256 == 255 && patience > 0 && now() - begin > patience) break;
+        calcivorne_step(rules.at, rules.length, scene.at, scene.length, session, length, room, sizeof room, answer);
+        tally(&s, answer, room);
     }
-    if (number && number != 9) {
-        fprintf(stderr, "bench: a step gives %u at %llu\n", (unsigned)number, (unsigned long long)answer[1]);
-        exit(1);
-    }
-    s.done = (size_t)answer[1];
+    if (answer[0]) ends_with_9("a step", answer);
     free(session);
     return s;
+}
+
+/* The scene grows by a piece at a time; an output that is full is taken away. */
+static struct seen advance_by(size_t piece) {
+    size_t length = (size_t)calcivorne_session_size(), come = 0;
+    uint8_t *session = fresh(length);
+    uint64_t answer[4];
+    struct seen s = { 0, 0, 0, 0, 0 };
+    do {
+        come = scene.length - come < piece ? scene.length : come + piece;
+        do {
+            calcivorne_advance(rules.at, rules.length, scene.at, come, session, length, UINT64_MAX, room, sizeof room, answer);
+            tally(&s, answer, room);
+        } while (answer[0] == 25 && answer[2]);
+    } while ((answer[0] == 1 || answer[0] == 9) && come < scene.length);
+    ends_with_9("an advance", answer);
+    free(session);
+    return s;
+}
+
+static struct seen pass_advance64(void) {
+    return advance_by(65536);
+}
+
+static struct seen pass_advance4(void) {
+    return advance_by(4096);
 }
 
 /* Both libraries may hand a text over in pieces; a text is counted once. */
 struct count { uint64_t starts, ends, texts, attributes; int in_text; };
 
 static struct seen seen_by(const struct count *c) {
-    return (struct seen){ c->starts + c->ends + c->texts, 0, scene.length };
+    return (struct seen){ c->starts + c->ends + c->texts, 0, 0, 0, scene.length };
 }
 
 static void XMLCALL expat_start(void *user, const XML_Char *name, const XML_Char **more) {
@@ -137,9 +186,13 @@ static struct seen pass_expat(void) {
     return expat_by(scene.length);
 }
 
-/* In pieces of 64 KB: how much memory expat needs of its own. */
-static struct seen pass_pieces(void) {
+/* In the pieces of an advance; and so it shows how much memory expat needs of its own. */
+static struct seen pass_pieces64(void) {
     return expat_by(65536);
+}
+
+static struct seen pass_pieces4(void) {
+    return expat_by(4096);
 }
 
 static void sax_start(void *user, const xmlChar *name, const xmlChar *prefix, const xmlChar *uri, int spaces, const xmlChar **space, int attributes, int defaulted, const xmlChar **attribute) {
@@ -185,32 +238,40 @@ static struct seen pass_libxml2(void) {
 }
 
 static struct seen pass_memchr(void) {
-    struct seen s = { 0, 0, scene.length };
+    struct seen s = { 0, 0, 0, 0, scene.length };
     const uint8_t *at = scene.at, *end = at + scene.length;
     while ((at = memchr(at, '<', (size_t)(end - at)))) s.events++, at++;
     return s;
 }
 
 static struct seen pass_load(void) {
-    return (struct seen){ 0, 0, 0 };
+    return (struct seen){ 0, 0, 0, 0, 0 };
 }
 
-enum { RUN, STEP, EXPAT, PIECES, LIBXML2, MEMCHR, CONTENDERS, LOAD = CONTENDERS };
+/* Neighbours take turns next to each other: each of ours stands before the one that it is held against. */
+enum { RUN, EXPAT, LIBXML2, ADVANCE64, PIECES64, ADVANCE4, PIECES4, STEP, MEMCHR, CONTENDERS, LOAD = CONTENDERS };
 
-static const struct { const char *word, *title; struct seen (*pass)(void); } contender[] = {
-    { "run", "`run`", pass_run },
-    { "step", "`step`, one call an event", pass_step },
-    { "expat", "expat, namespaces", pass_expat },
-    { "pieces", "expat, in pieces of 64 KB", pass_pieces },
-    { "libxml2", "libxml2 SAX2, namespaces", pass_libxml2 },
-    { "memchr", "memchr for `<`", pass_memchr },
-    { "load", "the scene loaded, nothing done", pass_load },
+static const struct { const char *word, *title; struct seen (*pass)(void); int writes; } contender[] = {
+    { "run", "`run`", pass_run, 1 },
+    { "expat", "expat, namespaces", pass_expat, 0 },
+    { "libxml2", "libxml2 SAX2, namespaces", pass_libxml2, 0 },
+    { "advance64", "`advance`, in pieces of 64 KB", pass_advance64, 1 },
+    { "pieces64", "expat, in pieces of 64 KB", pass_pieces64, 0 },
+    { "advance4", "`advance`, in pieces of 4 KB", pass_advance4, 1 },
+    { "pieces4", "expat, in pieces of 4 KB", pass_pieces4, 0 },
+    { "step", "`step`, one call an event", pass_step, 1 },
+    { "memchr", "memchr for `<`", pass_memchr, 0 },
+    { "load", "the scene loaded, nothing done", pass_load, 0 },
 };
+
+static int takes_part(int who) {
+    return calcivorne_advance || (who != ADVANCE64 && who != ADVANCE4);
+}
 
 /* Grows the output until run ends with another number than 25. */
 static void make_room(void) {
     uint64_t answer[4];
-    for (out.length = 2 * scene.length + STEP_ROOM;; out.length *= 2) {
+    for (out.length = 2 * scene.length + sizeof room;; out.length *= 2) {
         out.at = malloc(out.length);
         if (!out.at) die("no memory for the output", "");
         if (calcivorne_run(rules.at, rules.length, scene.at, scene.length, out.at, out.length, answer) != 25) return;
@@ -230,9 +291,9 @@ static long peak_kb(void) {
 
 /* Peak memory of one pass in a process of its own, in KB. */
 static long peak_of(int who, const char *scene_path, const char *rules_path) {
-    char room[32], patient[32], kb[128] = "";
+    char length[32], patient[32], kb[128] = "";
     int ends[2];
-    snprintf(room, sizeof room, "%zu", out.length);
+    snprintf(length, sizeof length, "%zu", out.length);
     snprintf(patient, sizeof patient, "%g", patience);
     if (pipe(ends)) return 0;
     pid_t child = fork();
@@ -240,7 +301,7 @@ static long peak_of(int who, const char *scene_path, const char *rules_path) {
     if (!child) {
         dup2(ends[1], 1);
         close(ends[0]);
-        execl("/proc/self/exe", "bench", "-p", patient, "once", contender[who].word, scene_path, rules_path, room, (char *)0);
+        execl("/proc/self/exe", "bench", "-p", patient, "once", contender[who].word, scene_path, rules_path, length, (char *)0);
         _exit(1);
     }
     close(ends[1]);
@@ -270,16 +331,20 @@ static double middle(const double *of) {
     return rounds % 2 ? sorted[rounds / 2] : (sorted[rounds / 2 - 1] + sorted[rounds / 2]) / 2;
 }
 
-/* The best and the middle round, and the middle one of the ratios to expat within a round. */
-static void sum_up(struct times *t, const struct times *expat) {
+/* The middle one of the ratios within a round. */
+static double by_rounds(const struct times *t, const struct times *base) {
     double ratios[MOST_ROUNDS] = { 0 };
+    for (int r = 0; r < rounds; r++) ratios[r] = base->round[r] / t->round[r];
+    return middle(ratios);
+}
+
+/* The best and the middle round, and the ratio to expat by rounds. */
+static void sum_up(struct times *t, const struct times *expat) {
     t->best = t->round[0];
-    for (int r = 0; r < rounds; r++) {
+    for (int r = 0; r < rounds; r++)
         if (t->round[r] < t->best) t->best = t->round[r];
-        ratios[r] = expat->round[r] / t->round[r];
-    }
     t->median = middle(t->round);
-    t->ratio = middle(ratios);
+    t->ratio = by_rounds(t, expat);
 }
 
 static void turn(int who, struct times *t, int round) {
@@ -294,41 +359,64 @@ static void turn(int who, struct times *t, int round) {
 
 /* Every second round goes the other way, so that nobody always comes behind the same one. */
 static void compete(struct times *times) {
-    for (int k = 0; k < CONTENDERS; k++) contender[k].pass();
     for (int r = 0; r < rounds; r++)
         for (int k = 0; k < CONTENDERS; k++) {
             int who = r % 2 ? CONTENDERS - 1 - k : k;
-            turn(who, &times[who], r);
+            if (takes_part(who)) turn(who, &times[who], r);
         }
+    for (int k = 0; k < CONTENDERS; k++)
+        if (takes_part(k)) sum_up(&times[k], &times[EXPAT]);
 }
 
-static int disagree(const char *who, struct seen a, struct seen b, int records) {
-    if (a.events == b.events && (!records || a.records == b.records)) return 0;
-    fprintf(stderr, "bench: %s sees %llu events and %llu records, run %llu and %llu\n", who, (unsigned long long)a.events, (unsigned long long)a.records, (unsigned long long)b.events, (unsigned long long)b.records);
+static int disagree(const char *who, struct seen a, struct seen b, int writes) {
+    if (a.events == b.events && (!writes || (a.records == b.records && a.sum == b.sum))) return 0;
+    fprintf(stderr, "bench: %s sees %llu events and %llu records (sum %016llx), run %llu and %llu (%016llx)\n", who, (unsigned long long)a.events, (unsigned long long)a.records,
+            (unsigned long long)a.sum, (unsigned long long)b.events, (unsigned long long)b.records, (unsigned long long)b.sum);
     return 1;
+}
+
+/* A pass of each, before the rounds: all must see what run sees, and write the same records. */
+static int check(struct seen *first) {
+    int wrong = 0;
+    summing = 1;
+    for (int k = 0; k < CONTENDERS; k++) {
+        if (!takes_part(k)) continue;
+        first[k] = contender[k].pass();
+        if (k != MEMCHR && first[k].done == scene.length) wrong += disagree(contender[k].title, first[k], first[RUN], contender[k].writes);
+    }
+    summing = 0;
+    return wrong;
+}
+
+/* The lines of advance, each beside expat in the same pieces. */
+static void in_pieces(const struct times *times) {
+    if (!calcivorne_advance) return;
+    printf("| | times expat in the same pieces | by rounds | times `run` | by rounds |\n|---|---:|---:|---:|---:|\n");
+    for (int k = ADVANCE64; k <= ADVANCE4; k += ADVANCE4 - ADVANCE64) {
+        const struct times *own = &times[k], *expat = &times[k + 1], *run = &times[RUN];
+        printf("| %s | %.3g | %.3g | %.3g | %.3g |\n", contender[k].title, expat->best / own->best, by_rounds(own, expat), run->best / own->best, by_rounds(own, run));
+    }
+    printf("\n");
 }
 
 static int table(const char *label, const char *scene_path, const char *rules_path, int with_memory) {
     static struct times times[CONTENDERS];
+    static struct seen first[CONTENDERS];
     if (patience == 0) patience = 8 * share;
+    int wrong = check(first), cut = first[STEP].done < scene.length;
+    struct seen all = first[RUN];
     compete(times);
-    struct seen all = times[RUN].seen;
-    int wrong = 0, cut = times[STEP].seen.done < scene.length;
-    if (!cut) wrong += disagree("step", times[STEP].seen, all, 1);
-    wrong += disagree("expat", times[EXPAT].seen, all, 0);
-    wrong += disagree("expat in pieces", times[PIECES].seen, all, 0);
-    wrong += disagree("libxml2", times[LIBXML2].seen, all, 0);
-    for (int k = 0; k < CONTENDERS; k++) sum_up(&times[k], &times[EXPAT]);
     double base = times[EXPAT].best, megabytes = (double)scene.length / 1e6;
     printf("### %s: %zu bytes, %llu events, %llu records\n\n", label, scene.length, (unsigned long long)all.events, (unsigned long long)all.records);
     printf("| | MB/s | times expat | by rounds | events/s | records/s | median over best | peak memory | over the scene loaded |\n|---|---:|---:|---:|---:|---:|---:|---:|---:|\n");
     long loaded = with_memory ? peak_of(LOAD, scene_path, rules_path) : 0;
     for (int k = 0; k < CONTENDERS; k++) {
+        if (!takes_part(k)) continue;
         double best = times[k].best;
         printf("| %s%s | %.1f | %.3g | %.3g | ", contender[k].title, k == STEP && cut ? " (the first part)" : "", megabytes / best, base / best, times[k].ratio);
         if (k == MEMCHR) printf("| ");
         else printf("%.3g M | ", (double)all.events / best / 1e6);
-        if (k == RUN || k == STEP) printf("%.3g M | ", (double)all.records / best / 1e6);
+        if (contender[k].writes) printf("%.3g M | ", (double)all.records / best / 1e6);
         else printf("| ");
         printf("+%.0f %% | ", 100 * (times[k].median / best - 1));
         long peak = with_memory ? peak_of(k, scene_path, rules_path) : 0;
@@ -338,6 +426,7 @@ static int table(const char *label, const char *scene_path, const char *rules_pa
     }
     if (with_memory) printf("\nThe records of `run` are %llu KB of its memory.\n", (unsigned long long)(all.records * 16 + 1023) / 1024);
     printf("\n");
+    in_pieces(times);
     return wrong > 0;
 }
 
@@ -382,10 +471,11 @@ static int lines(const char *word, char **words, int count) {
 }
 
 static int once(const char *word) {
+    summing = 1;
     for (int k = 0; k <= LOAD; k++)
-        if (!strcmp(word, contender[k].word)) {
+        if (!strcmp(word, contender[k].word) && takes_part(k)) {
             struct seen s = contender[k].pass();
-            printf("%ld KB, %llu events, %llu records\n", peak_kb(), (unsigned long long)s.events, (unsigned long long)s.records);
+            printf("%ld KB, %llu events, %llu records, %llu calls, sum %016llx\n", peak_kb(), (unsigned long long)s.events, (unsigned long long)s.records, (unsigned long long)s.calls, (unsigned long long)s.sum);
             return 0;
         }
     die("no contender ", word);
@@ -394,10 +484,11 @@ static int once(const char *word) {
 
 int main(int argc, char **argv) {
     int letter, with_memory = 1;
-    while ((letter = getopt(argc, argv, "+r:t:p:m")) != -1) {
+    while ((letter = getopt(argc, argv, "+r:t:p:n:m")) != -1) {
         if (letter == 'r') rounds = atoi(optarg);
         else if (letter == 't') share = atof(optarg);
         else if (letter == 'p') patience = atof(optarg);
+        else if (letter == 'n') most_calls = strtoull(optarg, 0, 10);
         else if (letter == 'm') with_memory = 0;
         else return 2;
     }

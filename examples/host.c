@@ -1,9 +1,10 @@
-/* A host in C: sample A by one run, then the same scene as it comes in, five bytes at a time. */
+/* A host in C: sample A by one run, then event by event, then as it comes in, five bytes at a time. */
 #include <stdio.h>
 #include <stdlib.h>
 #include "calcivorne.h"
 
 #define CHUNK 5
+#define ROOM 32
 
 static const unsigned char table[] = {0x01, 0x02, 0x01, 0x01, 0x00, 0x06, 0x00, 0x08, 0x01, 0x75};
 static const char text[] = "<r xmlns=\"u\">a<x/></r>";
@@ -36,39 +37,51 @@ static void whole(const unsigned char *scene, size_t len)
     printf("%lu %lu %lu %lu\n", answer[0], answer[1], answer[2], answer[3]);
 }
 
-/* The scene grows: on 1, or on 9 while bytes are still to come, the next ones are appended and the same session goes on. */
-static int in_chunks(const unsigned char *scene, size_t len)
+/* For a host that does something at each event: where it ends, and its records alone. */
+static void event_by_event(const unsigned char *scene, size_t len, unsigned char *session, size_t size)
 {
-    size_t size = (size_t)calcivorne_session_size();
-    unsigned char *session = malloc(size);
+    calcivorne_number answer[4];
+    calcivorne_fresh(session, size);
+    while (calcivorne_step(table, sizeof table, scene, len, session, size, out, sizeof out, answer) == 0)
+        printf("event up to %lu: %lu records\n", answer[1], answer[3]);
+    printf("event by event: %lu\n", answer[0]);
+}
+
+/*
+ * The scene grows: on 1, or on 9 while bytes are still to come, the next ones are appended and the same session goes on.
+ * The output is kept short here: on 25 the records so far are taken, and the session goes on with all of the output.
+ */
+static void in_chunks(const unsigned char *scene, size_t len, unsigned char *session, size_t size)
+{
     calcivorne_number answer[4];
     calcivorne_number events = 0;
     calcivorne_number records = 0;
     size_t come = 0;
-    unsigned char number;
-    if (session == NULL)
-        return 1;
     calcivorne_fresh(session, size);
     for (;;) {
-        number = calcivorne_step(table, sizeof table, scene, come, session, size, out, sizeof out, answer);
-        if (number == 0) {
-            events += answer[2];
-            records += answer[3];
-        } else if ((number == 1 || number == 9) && come < len) {
-            come = len - come < CHUNK ? len : come + CHUNK;
-        } else {
+        calcivorne_advance(table, sizeof table, scene, come, session, size, (calcivorne_number)-1, out, ROOM, answer);
+        events += answer[2];
+        records += answer[3];
+        if (answer[0] == 25 && answer[2] > 0)
+            continue;
+        if ((answer[0] != 1 && answer[0] != 9) || come == len)
             break;
-        }
+        come = len - come < CHUNK ? len : come + CHUNK;
     }
-    free(session);
-    printf("in chunks: %u, %lu events, %lu records\n", (unsigned)number, events, records);
-    return 0;
+    printf("in chunks: %lu, %lu events, %lu records\n", answer[0], events, records);
 }
 
 int main(void)
 {
     const unsigned char *scene = (const unsigned char *)text;
     size_t len = sizeof text - 1;
+    size_t size = (size_t)calcivorne_session_size();
+    unsigned char *session = malloc(size);
+    if (session == NULL)
+        return 1;
     whole(scene, len);
-    return in_chunks(scene, len);
+    event_by_event(scene, len, session, size);
+    in_chunks(scene, len, session, size);
+    free(session);
+    return 0;
 }

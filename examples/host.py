@@ -1,4 +1,4 @@
-"""A host in Python: sample A by one run, then the same scene as it comes in, five bytes at a time.
+"""A host in Python: sample A by one run, then event by event, then as it comes in, five bytes at a time.
 
     python3 host.py SHARED_LIBRARY
 """
@@ -8,6 +8,8 @@ import sys
 TABLE = bytes.fromhex("01020101000600080175")
 SCENE = b'<r xmlns="u">a<x/></r>'
 CHUNK = 5
+ROOM = 32
+NO_BOUND = 2**64 - 1
 
 Bytes, Size, Number = ctypes.c_char_p, ctypes.c_size_t, ctypes.c_uint64
 Answer = Number * 4
@@ -24,6 +26,8 @@ def load(path):
     lib.calcivorne_fresh.restype = ctypes.c_uint8
     lib.calcivorne_step.argtypes = read + read + write + write + [ctypes.POINTER(Number)]
     lib.calcivorne_step.restype = ctypes.c_uint8
+    lib.calcivorne_advance.argtypes = read + read + write + [Number] + write + [ctypes.POINTER(Number)]
+    lib.calcivorne_advance.restype = ctypes.c_uint8
     return lib
 
 
@@ -41,21 +45,35 @@ def whole(lib, out):
     print(*answer)
 
 
-def in_chunks(lib, out):
-    """The scene grows: on 1, or on 9 while bytes are still to come, the next ones are appended and the same session goes on."""
+def fresh(lib):
     session = ctypes.create_string_buffer(lib.calcivorne_session_size())
     lib.calcivorne_fresh(session, len(session))
-    answer = Answer()
+    return session
+
+
+def event_by_event(lib, out):
+    """For a host that does something at each event: where it ends, and its records alone."""
+    session, answer = fresh(lib), Answer()
+    while lib.calcivorne_step(TABLE, len(TABLE), SCENE, len(SCENE), session, len(session), out, len(out), answer) == 0:
+        print(f"event up to {answer[1]}: {answer[3]} records")
+    print(f"event by event: {answer[0]}")
+
+
+def in_chunks(lib, out):
+    """The scene grows: on 1, or on 9 while bytes are still to come, the next ones are appended and the same session goes on.
+
+    The output is kept short here: on 25 the records so far are taken, and the session goes on with all of the output.
+    """
+    session, answer = fresh(lib), Answer()
     come = events = records = 0
     while True:
         scene = SCENE[:come]
-        number = lib.calcivorne_step(TABLE, len(TABLE), scene, len(scene), session, len(session), out, len(out), answer)
-        if number == 0:
-            events += answer[2]
-            records += answer[3]
-        elif number in (1, 9) and come < len(SCENE):
+        number = lib.calcivorne_advance(TABLE, len(TABLE), scene, len(scene), session, len(session), NO_BOUND, out, ROOM, answer)
+        events += answer[2]
+        records += answer[3]
+        if number in (1, 9) and come < len(SCENE):
             come += CHUNK
-        else:
+        elif number != 25 or answer[2] == 0:
             break
     print(f"in chunks: {number}, {events} events, {records} records")
 
@@ -64,4 +82,5 @@ if __name__ == "__main__":
     library = load(sys.argv[1])
     output = ctypes.create_string_buffer(65536)
     whole(library, output)
+    event_by_event(library, output)
     in_chunks(library, output)

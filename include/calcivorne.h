@@ -10,15 +10,15 @@
  * A call reads its slices and writes what is said of it here, and nothing else: it keeps no pointer, has no memory of earlier calls, allocates
  * nothing and prints nothing. Calls on different buffers may run at the same time.
  *
- * THE ANSWER. judge, run and step write four numbers:
+ * THE ANSWER. judge, run, step and advance write four numbers:
  *
  *     answer[0]  number    see below; the call returns it too
  *     answer[1]  place     where in the scene, or for judge in the table
- *     answer[2]  events    judge: 0. step: 1 with number 0, else 0. run: the steps that gave 0
+ *     answer[2]  events    judge: 0. step: 1 with number 0, else 0. run and advance: the steps that gave 0
  *     answer[3]  records   how many records stand in the output, 16 bytes each, from its first byte on
  *
  *     number                                                                              place
- *       0  step: an event. judge: the table is accepted                                   step: behind the event. judge: the table's length
+ *       0  step: an event. advance: so many steps. judge: the table is accepted           step, advance: the new session's. judge: the table's length
  *       1  the scene ends, and nothing else is wrong so far: go on with a longer one      the scene's length
  *       2  a byte that cannot stand there                                                 that byte
  *       3  the 65th byte of a name's part, or the first of a 17th attribute               that byte
@@ -35,11 +35,12 @@
  *      22  a 65th open declaration                                                        the tag's <
  *      23  a 17th strand                                                                  the tag's <
  *      24  a unit past 65,535                                                             the tag's <
- *      25  the event's records exceed the output                                          the tag's <, or the text's first byte
+ *      25  the event's records exceed the output; run, advance: what is left of it        the tag's <, or the text's first byte
  *     255  the session's slice is shorter than calcivorne_session_size()                  the answer is not written
  *
  * 8 and 13 to 19 are not used. Where several hold, the first of this order is given: 255; 10 under 4 bytes, 11 of the first four, 10, 11, 12; 7; 20;
- * 1, 2, 3 or 9; 4; 5, 6, 21, 22, 23, 24; 25. run never gives 0, 20 or 255, judge only 0 and 10 to 12.
+ * 1, 2, 3 or 9; 4; 5, 6, 21, 22, 23, 24; 25. run never gives 0, 20 or 255, judge only 0 and 10 to 12. With another number than 0 run and advance tell
+ * of their last step, behind the events that they count.
  *
  * A RECORD. 16 bytes, the most significant byte of a field first; a field that a kind does not use is zero:
  *
@@ -77,7 +78,7 @@
  *     bytes  7208 on     of a longer slice: never read, never written
  *
  * What stands in declarations past their count, in levels past the depth and in strands past theirs is no part of the session, but its zero bytes
- * and the form of its strands are asked for there too: bytes that calcivorne_fresh and calcivorne_step wrote always have them.
+ * and the form of its strands are asked for there too: bytes that calcivorne_fresh, calcivorne_step and calcivorne_advance wrote always have them.
  */
 #ifndef CALCIVORNE_H
 #define CALCIVORNE_H
@@ -137,6 +138,37 @@ unsigned char calcivorne_step(
     const unsigned char *table, size_t table_len,
     const unsigned char *scene, size_t scene_len,
     unsigned char *session, size_t session_len,
+    unsigned char *out, size_t out_len,
+    calcivorne_number answer[4]);
+
+/*
+ * Many steps in one call: steps from where the session is, until one does not give 0 or most steps were taken. Returns the number of the last step: 0
+ * where most steps were taken. It is what as many calls of calcivorne_step would give, each with the rest of the output; but the table is judged, and
+ * the session read, judged and written, once a call and not once an event.
+ *
+ * It writes the records of the steps that gave 0 to out, joined, from its first byte on; the session behind these steps over the one that was there,
+ * whatever the number is; and the four numbers of the answer: number and place of the last step, how many gave 0, how many records they wrote. Where
+ * none gave 0 session and out are as they were. The bytes of out behind the records, and those of session behind the session, keep their values. With
+ * 255 nothing is written.
+ *
+ * The scene is the whole scene so far, as for calcivorne_step. In every case first use the answer[3] records; then, with the same session:
+ *
+ *       0  most steps were taken: call again for more
+ *       1  the scene ends inside an event: append what comes next and call again
+ *      25  the next event's records exceed what is left of out: call again, with out free from its first byte on. Where answer[2] is 0 this one event
+ *          needs a longer out
+ *       9  the scene is whole as it stands; more space may still follow
+ *
+ * With any other number the step behind the answer[2] events is refused, and would be again.
+ *
+ * A most of (calcivorne_number)-1 sets no bound. With a most of 0 no step is taken and nothing is judged: number 0, and the session's place as it
+ * stands. Only bytes that hold no session are then answered as by a step, with 10 to 12, 7 or 20.
+ */
+unsigned char calcivorne_advance(
+    const unsigned char *table, size_t table_len,
+    const unsigned char *scene, size_t scene_len,
+    unsigned char *session, size_t session_len,
+    calcivorne_number most,
     unsigned char *out, size_t out_len,
     calcivorne_number answer[4]);
 

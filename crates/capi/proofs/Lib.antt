@@ -1,4 +1,5 @@
 pub mod Filled
+pub mod Tested
 pub mod Stored
 pub mod Packs
 pub mod Holding
@@ -7,6 +8,6 @@ pub mod Within
 pub mod RoundTrip
 pub mod Taken
 pub mod NextHeld
-pub mod NextStored
 pub mod Told
 pub mod ByteSteps
+pub mod NextStored

@@ -1,9 +1,9 @@
--- A session that can be stored: so can the one that a step hands back; and bytes that hold a session hold one behind a step.
---     next-storable     the session behind a step
---     stored-read       a session's bytes laid over others, read back
---     step-held         the bytes behind a step
-use Prim.Native.Nat.{ℕ, _+_, _*_, _^_, _≤_, _<_}
-use mathlib.Core.Path.{_≡_, refl, ap, _∙_}
+-- A session that can be stored: so can the one that a step hands back; and bytes that hold a session hold one behind steps.
+--     next-storable              the session behind a step
+--     stored-read                a session's bytes laid over others, read back
+--     advance-held, step-held    the bytes behind so many steps, and behind one
+use Prim.Native.Nat.{ℕ, zero, suc, _+_, _*_, _^_, _≤_, _<_}
+use mathlib.Core.Path.{_≡_, refl, sym, ap, _∙_}
 use mathlib.Core.List.{List, [], _∷_, _++_, map}
 use mathlib.Core.Bool.{true, not}
 use native.Mathlib.Omega.{arith}
@@ -30,15 +30,16 @@ use Rattle.strands.proofs.Packing.{packed-all-small}
 use Rattle.dispatcher.specs.declared.Session.{Session}
 use Rattle.dispatcher.specs.Sessions.{readerOf, stateOf}
 use Rattle.dispatcher.specs.Coherence.{coherent}
-use Rattle.dispatcher.specs.Stepping.{Plan, refused, finished, event, startPlan, ownDeclarations, planBy, planOf, Step, planned, longest, stepOf}
+use Rattle.dispatcher.specs.Stepping.{Plan, refused, finished, event, startPlan, ownDeclarations, planBy, planOf, Step, planned, longest, stepOf, restOf, advanceOf}
 use Rattle.dispatcher.proofs.Sound.{Sound}
 use Rattle.dispatcher.proofs.CoherentSound.{coherent-sound}
 use Rattle.dispatcher.proofs.NewStrands.{newStrands, new-length}
 use Rattle.dispatcher.proofs.SoundStep.{sound-step}
 use Rattle.capi.specs.Layout.{sessionIn, holdsSession, sessionBytes}
-use Rattle.capi.specs.Calls.{byteStep, bytesBehind}
+use Rattle.capi.specs.Calls.{byteStep, byteAdvance, bytesBehind}
 use Rattle.capi.proofs.RoundTrip.{Storable, AllPack, read-back, held-back, in-packs, in-storable}
 use Rattle.capi.proofs.NextHeld.{each-take, each-over, new-packable, next-held}
+use Rattle.capi.proofs.ByteSteps.{byte-one}
 
 abbrev Few : List ℕ → Type 0
 Few l = All (λ (w : ℕ). w < 2 ^ 32) l
@@ -157,10 +158,26 @@ stored-read b z h = ap sessionIn (over-first b (sessionBytes z)) ∙ read-back z
 pub stored-held : (b : List ℕ) (z : Session) → Storable z → AllPack z → holdsSession (overwrite b 0 (sessionBytes z)) ≡ true
 stored-held b z h k = ap holdsSession (over-first b (sessionBytes z)) ∙ held-back z (drop (0 + length (sessionBytes z)) b) h k
 
-pub step-held : (table s b out : List ℕ) → All (λ (x : ℕ). x < 256) b → 7208 ≤ length b → holdsSession b ≡ true → holdsSession (bytesBehind b (byteStep table s b out)) ≡ true
-unfolding byteStep
-step-held table s b out few long e =
+-- ---- many steps
+-- what each step keeps of a session, so many steps keep
+advance-keeps : (P : Session → Type 0) (table s : List ℕ) → ((z : Session) (out : List ℕ) → P z → P (stepOf table s z out .session)) → (most : ℕ) (z : Session) (out : List ℕ) → P z → P (advanceOf most table s z out .session)
+unfolding advanceOf
+advance-keeps P table s keeps zero z out h = h
+advance-keeps P table s keeps (suc n) z out h =
+    let r = stepOf table s z out in
+    holds-cond (λ (w : Step). P (w .session)) (eqb (r .answer .number) 0)
+    (λ e. advance-keeps P table s keeps n (r .session) (restOf r) (keeps z out h))
+    (λ e. keeps z out h)
+
+pub advance-held : (most : ℕ) (table s b out : List ℕ) → All (λ (x : ℕ). x < 256) b → 7208 ≤ length b → holdsSession b ≡ true → holdsSession (bytesBehind b (byteAdvance most table s b out)) ≡ true
+unfolding byteAdvance
+advance-held most table s b out few long e =
+    let z = sessionIn b in
+    let r = advanceOf most table s z out in
     rw e
-    (holds-cond (λ (l : List ℕ). holdsSession l ≡ true) (eqb (stepOf table s (sessionIn b) out .answer .number) 0)
-    (λ n. stored-held b (stepOf table s (sessionIn b) out .session) (next-storable table s (sessionIn b) out (in-storable b few long)) (next-held table s (sessionIn b) out (in-packs b e)))
-    (λ n. e))
+    (holds-cond (λ (l : List ℕ). holdsSession l ≡ true) (eqb (r .answer .events) 0)
+    (λ n. e)
+    (λ n. stored-held b (r .session) (advance-keeps Storable table s (next-storable table s) most z out (in-storable b few long)) (advance-keeps AllPack table s (next-held table s) most z out (in-packs b e))))
+
+pub step-held : (table s b out : List ℕ) → All (λ (x : ℕ). x < 256) b → 7208 ≤ length b → holdsSession b ≡ true → holdsSession (bytesBehind b (byteStep table s b out)) ≡ true
+step-held table s b out few long e = ap (λ (w : Step). holdsSession (bytesBehind b w)) (sym (byte-one table s b out)) ∙ advance-held 1 table s b out few long e

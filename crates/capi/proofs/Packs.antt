@@ -1,11 +1,11 @@
 -- Which numbers pack a strand.
 use Prim.Native.Nat.{ℕ, zero, suc, _+_, _*_, _/_, _%_, _^_, _<_}
 use mathlib.Core.Path.{_≡_, refl, sym, ap, _∙_}
-use mathlib.Core.Bool.{false, cond}
+use mathlib.Core.Bool.{Bool, true, false, cond, not, _&&_, _||_, or-false}
 use mathlib.Core.Option.{Option, none, some}
 use native.Mathlib.Nat.{mod-eq-of-lt}
 use native.Mathlib.Omega.{arith}
-use borrow.Author.Tests.{eq-eqb, ne-eqb, eqb-true, lt-ltb, ltb-true}
+use borrow.Author.Tests.{eq-eqb, ne-eqb, eqb-true, eqb-false, lt-ltb, le-ltb, ltb-true}
 use lib.Dec.{eqb, ltb}
 use Rattle.laws.proofs.Flags.{flag-same}
 use Rattle.table.specs.Table.{actionOf}
@@ -42,7 +42,7 @@ apart m h t x y e =
     omega arith
 
 module _ (w : ℕ) where
-  pub action-bad : w / 32 % 4 ≡ 3 → false ≡ packs w
+  action-bad : w / 32 % 4 ≡ 3 → false ≡ packs w
   unfolding packed strandIn
   action-bad h = sym (ne-eqb (packed (strandIn w)) w never)
     where
@@ -72,12 +72,23 @@ module _ (w : ℕ) where
         let r : w / 512 % 65536 ≡ w / 512 = mod-eq-of-lt q in
         omega arith
 
-    pub packs-aimed : w / 256 % 2 ≡ 1 → ltb w 33554432 ≡ packs w
+    packs-aimed : w / 256 % 2 ≡ 1 → ltb w 33554432 ≡ packs w
     packs-aimed e =
         let v = aimed-value e in
         flag-same (ltb w 33554432) (packs w) (λ l. eq-eqb (packed (strandIn w)) w (v ∙ whole (ltb-true w 33554432 l))) (λ l. let k : packed (strandIn w) ≡ w = eqb-true (packed (strandIn w)) w l in lt-ltb w 33554432 (omega arith))
 
-    pub packs-free : (w / 256 % 2 ≡ 1 → ⊥) → ltb w 256 ≡ packs w
+    packs-free : (w / 256 % 2 ≡ 1 → ⊥) → ltb w 256 ≡ packs w
     packs-free e =
         let v = free-value e in
         flag-same (ltb w 256) (packs w) (λ l. let k : w < 256 = ltb-true w 256 l in eq-eqb (packed (strandIn w)) w (omega arith)) (λ l. let k : packed (strandIn w) ≡ w = eqb-true (packed (strandIn w)) w l in lt-ltb w 256 (omega arith))
+
+-- the test of all three, without a branch
+pub packs-by : (w : ℕ) → (not (eqb (w / 32 % 4) 3) && ((eqb (w / 256 % 2) 1 && ltb w 33554432) || ltb w 256)) ≡ packs w
+packs-by w = by (eqb (w / 32 % 4) 3) (eqb (w / 256 % 2) 1) refl refl
+  where
+    by : (a t : Bool) → eqb (w / 32 % 4) 3 ≡ a → eqb (w / 256 % 2) 1 ≡ t → (not a && ((t && ltb w 33554432) || ltb w 256)) ≡ packs w
+    by true t e d = action-bad w (eqb-true (w / 32 % 4) 3 e)
+    by false true e d =
+        let k : w / 256 % 2 ≡ 1 = eqb-true (w / 256 % 2) 1 d in
+        ap (λ (u : Bool). ltb w 33554432 || u) (le-ltb w 256 (omega arith)) ∙ or-false (ltb w 33554432) ∙ packs-aimed w (eqb-false (w / 32 % 4) 3 e) k
+    by false false e d = packs-free w (eqb-false (w / 32 % 4) 3 e) (eqb-false (w / 256 % 2) 1 d)

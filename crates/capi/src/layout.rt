@@ -30,15 +30,27 @@ fn word8_at(b: &[u8], at: usize) -> usize
     (low as usize) + (high as usize) * 4294967296
 }
 
+// The n numbers from `at` on, read into `words` from `from` on.
+fn words_in(b: &[u8], at: usize, words: &mut [u32], from: usize, n: usize)
+    requires { ⌜ (at + 4 * n ≤ length (now b)) × (from + n ≤ length (now words)) ⌝ }
+    ensures { λ _. ⌜ now (words .exit) ≡ overwrite (now (words .entry)) from (tabulate (λ (i : ℕ). word4 (now (b .entry)) (at + 4 * i)) 0 n) ⌝ }
+{
+    let mut i = 0;
+    while i < n {
+        words[from + i] = word4_at(b, at + 4 * i);
+        i += 1;
+    }
+}
+
 fn levels_in(b: &[u8]) -> [u32; 192]
     requires { ⌜ sessionSize ≤ length (now b) ⌝ }
     ensures { λ r. ⌜ r ≡ tabulate (λ (i : ℕ). word4 (now (b .entry)) (levelAt i)) 0 192 ⌝ }
 {
     let mut words: [u32; 192] = [0; 192];
-    let mut i = 0;
-    while i < 192 {
-        words[i] = word4_at(b, 1064 + 96 * (i / 3) + 4 * (i % 3));
-        i += 1;
+    let mut k = 0;
+    while k < 64 {
+        words_in(b, 1064 + 96 * k, &mut words, 3 * k, 3);
+        k += 1;
     }
     words
 }
@@ -48,11 +60,7 @@ fn bindings_in(b: &[u8]) -> [u32; 256]
     ensures { λ r. ⌜ r ≡ tabulate (λ (i : ℕ). word4 (now (b .entry)) (bindingAt i)) 0 256 ⌝ }
 {
     let mut words: [u32; 256] = [0; 256];
-    let mut i = 0;
-    while i < 256 {
-        words[i] = word4_at(b, 40 + 4 * i);
-        i += 1;
-    }
+    words_in(b, 40, &mut words, 0, 256);
     words
 }
 
@@ -61,10 +69,10 @@ fn spaces_in(b: &[u8]) -> [u32; 256]
     ensures { λ r. ⌜ r ≡ tabulate (λ (i : ℕ). word4 (now (b .entry)) (spaceAt i)) 0 256 ⌝ }
 {
     let mut words: [u32; 256] = [0; 256];
-    let mut i = 0;
-    while i < 256 {
-        words[i] = word4_at(b, 1064 + 96 * (i / 4) + 12 + 4 * (i % 4));
-        i += 1;
+    let mut k = 0;
+    while k < 64 {
+        words_in(b, 1064 + 96 * k + 12, &mut words, 4 * k, 4);
+        k += 1;
     }
     words
 }
@@ -74,10 +82,10 @@ fn strands_in(b: &[u8]) -> [u32; 1024]
     ensures { λ r. ⌜ r ≡ tabulate (λ (i : ℕ). word4 (now (b .entry)) (strandAt i)) 0 1024 ⌝ }
 {
     let mut words: [u32; 1024] = [0; 1024];
-    let mut i = 0;
-    while i < 1024 {
-        words[i] = word4_at(b, 1064 + 96 * (i / 16) + 32 + 4 * (i % 16));
-        i += 1;
+    let mut k = 0;
+    while k < 64 {
+        words_in(b, 1064 + 96 * k + 32, &mut words, 16 * k, 16);
+        k += 1;
     }
     words
 }
@@ -108,13 +116,8 @@ pub(crate) fn session_in(b: &[u8]) -> Session
 fn packs_strand(w: u32) -> bool
     ensures { λ r. ⌜ r ≡ packs w ⌝ }
 {
-    if w / 32 % 4 == 3 {
-        return false;
-    }
-    if w / 256 % 2 == 1 {
-        return w < 33554432;
-    }
-    w < 256
+    let aimed = (w / 256 % 2 == 1) & (w < 33554432);
+    (w / 32 % 4 != 3) & (aimed | (w < 256))
 }
 
 // Whether the five bytes that no session uses are 0.
@@ -137,26 +140,39 @@ fn no_level_padding(b: &[u8]) -> bool
     requires { ⌜ sessionSize ≤ length (now b) ⌝ }
     ensures { λ r. ⌜ r ≡ all (λ (k : ℕ). eqb (word4 (now (b .entry)) (1064 + 96 * k + 28)) 0) (tabulate (λ (k : ℕ). k) 0 64) ⌝ }
 {
+    let mut all = true;
     let mut k = 0;
     while k < 64 {
-        if word4_at(b, 1064 + 96 * k + 28) != 0 {
-            return false;
-        }
+        all = all & (word4_at(b, 1064 + 96 * k + 28) == 0);
         k += 1;
     }
-    true
+    all
+}
+
+// Whether each of the sixteen numbers from `at` on packs a strand.
+fn level_packs(b: &[u8], at: usize) -> bool
+    requires { ⌜ at + 64 ≤ length (now b) ⌝ }
+    ensures { λ r. ⌜ r ≡ all (λ (j : ℕ). packs (word4 (now (b .entry)) (at + 4 * j))) (tabulate (λ (j : ℕ). j) 0 16) ⌝ }
+{
+    let mut all = true;
+    let mut j = 0;
+    while j < 16 {
+        all = all & packs_strand(word4_at(b, at + 4 * j));
+        j += 1;
+    }
+    all
 }
 
 fn strands_pack(b: &[u8]) -> bool
     requires { ⌜ sessionSize ≤ length (now b) ⌝ }
     ensures { λ r. ⌜ r ≡ all (λ (i : ℕ). packs (word4 (now (b .entry)) (strandAt i))) (tabulate (λ (i : ℕ). i) 0 1024) ⌝ }
 {
-    let mut i = 0;
-    while i < 1024 {
-        if !packs_strand(word4_at(b, 1064 + 96 * (i / 16) + 32 + 4 * (i % 16))) {
+    let mut k = 0;
+    while k < 64 {
+        if !level_packs(b, 1064 + 96 * k + 32) {
             return false;
         }
-        i += 1;
+        k += 1;
     }
     true
 }

@@ -21,7 +21,7 @@ ghost use Rattle.dispatcher.specs.Sessions.{freshOf};
 ghost use Rattle.dispatcher.specs.Stepping.{answered, longest, runOf};
 ghost use Rattle.uris.specs.Uris.{uriSpanOf};
 ghost use Rattle.capi.specs.Layout.{sessionSize, sessionBytes};
-ghost use Rattle.capi.specs.Calls.{answerNumbers, byteStep, bytesBehind, tooShort};
+ghost use Rattle.capi.specs.Calls.{answerNumbers, byteStep, byteAdvance, bytesBehind, tooShort};
 ghost use Rattle.capi.specs.Sources.{sourceNumber, spanNumbers};
 
 // A session's bytes.
@@ -117,19 +117,25 @@ fn no_session(table: &[u8], scene: &[u8]) -> Answer
     refusal(20, 0)
 }
 
-// One event of the session in bytes, which are written where it gives 0.
-fn step_bytes(table: &[u8], scene: &[u8], session: &mut [u8], out: &mut [u8]) -> Answer
+// At most so many events of the session in bytes, which are written where a step gave 0.
+fn advance_bytes(
+    table: &[u8],
+    scene: &[u8],
+    session: &mut [u8],
+    most: usize,
+    out: &mut [u8],
+) -> Answer
     requires { ⌜ sessionSize ≤ length (now session) ⌝ }
-    ensures { λ r. ⌜ r ≡ byteStep (now (table .entry)) (now (scene .entry)) (now (session .entry)) (now (out .entry)) .answer ⌝ }
-    ensures { λ _. ⌜ now (out .exit) ≡ byteStep (now (table .entry)) (now (scene .entry)) (now (session .entry)) (now (out .entry)) .output ⌝ }
-    ensures { λ _. ⌜ now (session .exit) ≡ bytesBehind (now (session .entry)) (byteStep (now (table .entry)) (now (scene .entry)) (now (session .entry)) (now (out .entry))) ⌝ }
+    ensures { λ r. ⌜ r ≡ byteAdvance most (now (table .entry)) (now (scene .entry)) (now (session .entry)) (now (out .entry)) .answer ⌝ }
+    ensures { λ _. ⌜ now (out .exit) ≡ byteAdvance most (now (table .entry)) (now (scene .entry)) (now (session .entry)) (now (out .entry)) .output ⌝ }
+    ensures { λ _. ⌜ now (session .exit) ≡ bytesBehind (now (session .entry)) (byteAdvance most (now (table .entry)) (now (scene .entry)) (now (session .entry)) (now (out .entry))) ⌝ }
 {
     if !holds_session(session) {
         return no_session(table, scene);
     }
-    let stepped = session_in(session).step(table, scene, out);
+    let stepped = session_in(session).advance(table, scene, most, out);
     let a = stepped.answer;
-    if a.number != 0 {
+    if a.events == 0 {
         return a;
     }
     let behind = stepped.session;
@@ -154,7 +160,30 @@ pub extern "C" fn calcivorne_step(
     if session.len() < SESSION_SIZE {
         return TOO_SHORT;
     }
-    let a = step_bytes(table, scene, session, out);
+    let a = advance_bytes(table, scene, session, 1, out);
+    tell(a, answer);
+    a.number
+}
+
+// An advance: at most so many steps, until one's number is not 0, their records joined; or 255 and nothing written where the session has no room.
+#[no_mangle]
+pub extern "C" fn calcivorne_advance(
+    table: &[u8],
+    scene: &[u8],
+    session: &mut [u8],
+    most: u64,
+    out: &mut [u8],
+    answer: &mut [u64; 4],
+) -> u8
+    ensures { λ r. ⌜ r ≡ cond (ltb (length (now (session .entry))) sessionSize) tooShort (byteAdvance most (now (table .entry)) (now (scene .entry)) (now (session .entry)) (now (out .entry)) .answer .number) ⌝ }
+    ensures { λ _. ⌜ now (answer .exit) ≡ cond (ltb (length (now (session .entry))) sessionSize) (now (answer .entry)) (answerNumbers (byteAdvance most (now (table .entry)) (now (scene .entry)) (now (session .entry)) (now (out .entry)) .answer)) ⌝ }
+    ensures { λ _. ⌜ now (out .exit) ≡ cond (ltb (length (now (session .entry))) sessionSize) (now (out .entry)) (byteAdvance most (now (table .entry)) (now (scene .entry)) (now (session .entry)) (now (out .entry)) .output) ⌝ }
+    ensures { λ _. ⌜ now (session .exit) ≡ cond (ltb (length (now (session .entry))) sessionSize) (now (session .entry)) (bytesBehind (now (session .entry)) (byteAdvance most (now (table .entry)) (now (scene .entry)) (now (session .entry)) (now (out .entry)))) ⌝ }
+{
+    if session.len() < SESSION_SIZE {
+        return TOO_SHORT;
+    }
+    let a = advance_bytes(table, scene, session, most as usize, out);
     tell(a, answer);
     a.number
 }

@@ -1,5 +1,8 @@
 // Bytes compared with bytes, and with the fixed byte strings that document 01 names.
+use lanes::word_at;
 ghost use mathlib.Core.Path.{_≡_};
+ghost use Prim.Native.Nat.{_≤_};
+ghost use lib.ListN.{length};
 ghost use Rattle.laws.specs.Lists.{sameList};
 ghost use Rattle.compare.specs.Compare.{spanOf, spanStart, placeIn, xmlUri, xmlnsUri};
 
@@ -23,18 +26,44 @@ pub fn part_of(s: &[u8], at: usize, n: usize) -> &[u8]
 pub fn same(a: &[u8], b: &[u8]) -> bool
     ensures { λ r. ⌜ r ≡ sameList (now (a .entry)) (now (b .entry)) ⌝ }
 {
-    let n = a.len();
-    if n != b.len() {
+    if a.len() != b.len() {
         return false;
     }
+    if a.len() < 8 {
+        return same_bytes(a, b);
+    }
+    same_words(a, b)
+}
+
+// The same of as many bytes, one by one.
+fn same_bytes(a: &[u8], b: &[u8]) -> bool
+    requires { ⌜ length (now a) ≡ length (now b) ⌝ }
+    ensures { λ r. ⌜ r ≡ sameList (now (a .entry)) (now (b .entry)) ⌝ }
+{
     let mut k = 0;
-    while k < n {
+    while k < a.len() {
         if a[k] != b[k] {
             return false;
         }
         k += 1;
     }
     true
+}
+
+// The same of eight bytes or more, eight at a time; the last eight may overlap those before.
+fn same_words(a: &[u8], b: &[u8]) -> bool
+    requires { ⌜ (8 ≤ length (now a)) × (length (now a) ≡ length (now b)) ⌝ }
+    ensures { λ r. ⌜ r ≡ sameList (now (a .entry)) (now (b .entry)) ⌝ }
+{
+    let last = a.len() - 8;
+    let mut k = 0;
+    while k < last {
+        if word_at(a, k) != word_at(b, k) {
+            return false;
+        }
+        k += 8;
+    }
+    word_at(a, last) == word_at(b, last)
 }
 
 // Is it the URI of xml?

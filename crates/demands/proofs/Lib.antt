@@ -11,8 +11,10 @@ pub mod Expected
 pub mod Measures
 pub mod Reached
 pub mod Outcomes
+pub mod Advances
 pub mod Runs
 pub mod Limits
+pub mod Calls
 pub mod Steps
 pub mod Accepted
 pub mod Ends

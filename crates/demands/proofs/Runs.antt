@@ -1,42 +1,34 @@
 -- Demand 2: what run hands back for every table, scene and output.
 --     Ended, run-ended     where a run stops, and by which step
 --     scenes               its records are the model's of the events that it took; 1 to 6 and 9 are the reader's
-use Prim.Native.Nat.{ℕ, zero, suc, _+_, _*_, _≤_, _<_}
+use Prim.Native.Nat.{ℕ, _+_, _*_, _≤_}
 use mathlib.Core.Path.{_≡_, refl, sym, ap, subst, _∙_}
 use mathlib.Core.List.{List, [], _++_}
-use mathlib.Core.Bool.{cond}
+use mathlib.Core.Logic.{⊎-elim}
 use mathlib.Core.Option.{some}
 use native.Mathlib.Omega.{arith}
-use borrow.Author.Tests.{ne-eqb}
-use lib.ListN.{length, take, drop, length-append, length-drop, take-append-drop}
-use lib.Dec.{eqb}
+use lib.ListN.{length, take, drop}
 use Rattle.laws.specs.Over.{overwrite}
 use Rattle.laws.specs.Gather.{gather}
-use Rattle.laws.proofs.Over.{over-none, length-over, over-over, over-part, drop-over}
-use Rattle.laws.proofs.Gather.{gather-append, gather-none}
 use Rattle.table.specs.Table.{Table, decode}
 use Rattle.reader.specs.Events.{ReaderState, freshReader, Next, refusal, finished, next, eventThen, events, lastThen, lastOf}
 use Rattle.reader.proofs.Held.{finished-at}
-use Rattle.reader.proofs.Progress.{leftOf, less, onward, history, history-next, ending, last-is}
+use Rattle.reader.proofs.Progress.{history, history-next, ending, last-is}
 use Rattle.reader.proofs.EventsFirst.{stateAfter, state-rest, ending-is}
 use Rattle.model.specs.Theory.{Record}
 use Rattle.model.specs.Records.{Body}
 use Rattle.model.specs.Dispatch.{recordBytesOf, expected}
 use Rattle.dispatcher.specs.Sessions.{readerOf, freshOf}
-use Rattle.dispatcher.specs.Stepping.{Step, answered, refusedStep, stepOf, Run, runFrom, runOf}
+use Rattle.dispatcher.specs.Stepping.{answered, refusedStep, stepOf, Run, runBy, runOf}
 use Rattle.dispatcher.specs.declared.Session.{Session}
-use Rattle.dispatcher.proofs.Behind.{behind}
 use Rattle.demands.specs.Runs.{SceneRun}
 use Rattle.demands.proofs.Goes.{state-count}
 use Rattle.demands.proofs.Expected.{expected-whole}
 use Rattle.demands.proofs.Refusals.{records-length}
-use Rattle.demands.proofs.Bytes.{first-bytes}
-use Rattle.demands.proofs.Reached.{Reached, reached-fresh, few-events, reached-step, reached-expected, counted}
-use Rattle.demands.proofs.Outcomes.{Said, Outcome, refuses, accepts, outcome}
-
--- an output with records laid over it
-abbrev pub laid : List (Record Body ℕ) → List ℕ → List ℕ
-laid rs out = overwrite out 0 (gather recordBytesOf rs)
+use Rattle.demands.proofs.Bytes.{laid, first-bytes, behind-laid}
+use Rattle.demands.proofs.Reached.{Reached, reached-fresh, few-events, reached-expected, counted}
+use Rattle.demands.proofs.Outcomes.{Said}
+use Rattle.demands.proofs.Advances.{Refused, advanced}
 
 abbrev pub answer : ℕ → ℕ → ℕ → List (Record Body ℕ) → List ℕ → Run
 answer number place events rs out = record { answer = answered number place events (length rs); output = laid rs out }
@@ -54,24 +46,6 @@ pub record Ended (table s out : List ℕ) (r : Run) : Type 0 where
   pub last : stepOf table s session (drop (16 * length records) out) ≡ refusedStep number place session (drop (16 * length records) out)
   pub is : r ≡ answer number place events records out
 
--- ---- outputs
-module _ (rs : List (Record Body ℕ)) (out : List ℕ) (room : 16 * length rs ≤ length out) where
-  behind-laid : drop (16 * length rs) (laid rs out) ≡ drop (16 * length rs) out
-  behind-laid =
-      let n : 16 * length rs ≡ 0 + length (gather recordBytesOf rs) = omega (arith, records-length rs) in
-      rw n (drop-over out 0 (gather recordBytesOf rs) (omega arith))
-
-  laid-length : length (laid rs out) ≡ length out
-  laid-length = length-over out 0 (gather recordBytesOf rs) (omega (arith, records-length rs))
-
-  laid-on : (ps : List (Record Body ℕ)) → take (16 * length rs) (laid rs out) ++ overwrite (drop (16 * length rs) (laid rs out)) 0 (gather recordBytesOf ps) ≡ laid (rs ++ ps) out
-  laid-on ps =
-      let n : 16 * length rs + 0 ≡ 0 + length (gather recordBytesOf rs) = omega (arith, records-length rs) in
-      over-part (laid rs out) (16 * length rs) 0 (gather recordBytesOf ps) (omega (arith, laid-length))
-      ∙ ap (λ (i : ℕ). overwrite (laid rs out) i (gather recordBytesOf ps)) n
-      ∙ over-over out 0 (gather recordBytesOf rs) (gather recordBytesOf ps) (omega arith)
-      ∙ ap (overwrite out 0) (sym (gather-append recordBytesOf rs ps))
-
 pub laid-expected : (t : Table) (s : List ℕ) (z : Session) (k : ℕ) (rs : List (Record Body ℕ)) → Reached t s z k rs → (out : List ℕ) → laid rs out ≡ expected t s k ++ drop (16 * length rs) out
 unfolding overwrite
 laid-expected t s z k rs h out =
@@ -86,49 +60,24 @@ ends-here s k w x q n none same =
 
 -- ---- the run
 module _ (table s out : List ℕ) where
-  ended : (n : ℕ) (z : Session) (k : ℕ) (rs : List (Record Body ℕ)) → Reached (decode table) s z k rs → 16 * length rs ≤ length out → leftOf s (readerOf z) < n
-      → Ended table s out (runFrom n table s z (laid rs out) (16 * length rs) k (length rs))
-  unfolding runFrom
-  ended zero z k rs h room fuel = absurd (omega arith)
-  ended (suc n) z k rs h room fuel =
-      by (stepOf table s z (drop (16 * length rs) (laid rs out))) refl (outcome table s z (drop (16 * length rs) (laid rs out)) (h .sound)) (λ w more g r f. ended n w (k + 1) more g r f)
-    where
-      used : ℕ
-      used = 16 * length rs
-
-      by : (r : Step) → stepOf table s z (drop used (laid rs out)) ≡ r → Outcome table s z (drop used (laid rs out)) r
-          → ((w : Session) (more : List (Record Body ℕ)) → Reached (decode table) s w (k + 1) more → 16 * length more ≤ length out → leftOf s (readerOf w) < n → Ended table s out (runFrom n table s w (laid more out) (16 * length more) (k + 1) (length more)))
-          → Ended table s out (cond (eqb (r .answer .number) 0) (runFrom n table s (r .session) (take used (laid rs out) ++ r .output) (used + 16 * r .answer .records) (k + 1) (length rs + r .answer .records)) (record { answer = answered (r .answer .number) (r .answer .place) k (length rs); output = take used (laid rs out) ++ r .output }))
-      by r q (refuses number place said) ih =
-          rw (ne-eqb number 0 (said .not-event), take-append-drop used (laid rs out)) (record {
-            session = z;
-            events = k;
-            records = rs;
-            reached = h;
-            room = room;
-            number = number;
-            place = place;
-            said = said;
-            last = rw (behind-laid rs out room) at q;
-            is = refl;
-          })
-      by r q (accepts ok short p ps w plan fits) ih =
-          let b = behind table ok s short z (h .sound) p ps w plan in
-          let fewer : leftOf s (b .state) < leftOf s (readerOf z) = less s (readerOf z) (b .state) (onward s (readerOf z) (b .state) (b .happened) (b .read)) in
-          let fuel′ : leftOf s (readerOf w) < n = subst (λ (x : ReaderState). leftOf s x < n) (sym (b .reader)) (omega arith) in
-          let both : length (rs ++ ps) ≡ length rs + length ps = length-append rs ps in
-          let i = ih w (rs ++ ps) (reached-step table ok s short z k rs h p ps w plan) (omega (arith, laid-length rs out room, length-drop used (laid rs out))) fuel′ in
-          subst (Ended table s out)
-          (ap (λ (m : ℕ). runFrom n table s w (laid (rs ++ ps) out) (16 * m) (k + 1) m) both
-          ∙ ap (λ (m : ℕ). runFrom n table s w (laid (rs ++ ps) out) m (k + 1) (length rs + length ps)) (omega arith)
-          ∙ ap (λ (o : List ℕ). runFrom n table s w o (used + 16 * length ps) (k + 1) (length rs + length ps)) (sym (laid-on rs out room ps)))
-          i
-
   pub run-ended : Ended table s out (runOf table s out)
   unfolding runOf
   run-ended =
-      subst (λ (o : List ℕ). Ended table s out (runFrom (2 * length s + 2) table s freshOf o 0 0 0)) (ap (overwrite out 0) (gather-none recordBytesOf) ∙ over-none out 0)
-      (ended (2 * length s + 2) freshOf 0 [] (reached-fresh (decode table) s) (omega arith) (omega arith))
+      let a = advanced table s (2 * length s + 2) freshOf 0 [] (reached-fresh (decode table) s) out in
+      let few : a .events ≤ 2 * length s = omega (arith, a .left) in
+      let stop : Refused table s (a .session) (drop (16 * length (a .records)) out) (a .number) (a .place) = ⊎-elim (λ e. absurd (omega arith)) (λ e. e) (a .stop) in
+      record {
+        session = a .session;
+        events = a .events;
+        records = a .records;
+        reached = subst (λ (k : ℕ). Reached (decode table) s (a .session) k (a .records)) (omega arith) (a .reached);
+        room = a .room;
+        number = a .number;
+        place = a .place;
+        said = stop .said;
+        last = stop .step;
+        is = ap runBy (a .is);
+      }
 
 -- ---- where it stopped
 stops : (table s out : List ℕ) (r : Run) → Ended table s out r → SceneRun table s out r

@@ -1,15 +1,16 @@
--- A worked example of a list of steps, by computation: sample A cut, with refused steps between the accepted ones.
+-- Worked examples of lists of calls, by computation: sample A cut, with refused steps between the accepted ones; and by steps and advances.
 use Prim.Native.Nat.{ℕ}
 use mathlib.Core.Path.{_≡_, refl}
-use mathlib.Core.List.{List, [], _∷_, _++_}
+use mathlib.Core.List.{List, [], _∷_, _++_, map}
 use lib.ListN.{take, replicate}
 use Rattle.laws.specs.Text.{bytes}
 use Rattle.table.specs.Examples.{T}
 use Rattle.model.specs.Rows.{row}
 use Rattle.dispatcher.specs.Sessions.{freshOf}
+use Rattle.dispatcher.specs.Stepping.{Step}
 use Rattle.model.specs.Dispatch.{expected}
 use Rattle.table.specs.Table.{decode}
-use Rattle.demands.specs.Calls.{Call, stepsFrom, acceptedIn, joinedOf}
+use Rattle.demands.specs.Calls.{Call, stepsFrom, acceptedIn, joinedOf, AnyCall, ofStep, ofAdvance, callsFrom, eventsIn, allRecords}
 use Rattle.demands.specs.Computing.{computing}
 
 abbrev A : List ℕ
@@ -34,3 +35,19 @@ their-records = refl
 the-models : expected (decode T) A 4 ≡ row 0 0 0 0 0 0 0 ++ row 0 1 1 1 1 0 0 ++ row 0 4 0 13 1 0 0 ++ row 0 1 1 15 1 0 0 ++ row 0 5 1 15 1 0 0
 unfolding computing
 the-models = refl
+
+-- the start, and 1 behind it; none; the text; the start of x, and 25 at its end; its end and that of r
+abbrev mixed : List AnyCall
+mixed = ofAdvance 9 (cutAt 13 64) ∷ ofAdvance 0 (cutAt 14 64) ∷ ofStep (cutAt 15 64) ∷ ofAdvance 9 (cutAt 22 16) ∷ ofAdvance 2 (cutAt 22 64) ∷ ofStep (cutAt 22 64) ∷ []
+
+their-numbers : map (λ (r : Step). r .answer .number) (callsFrom T freshOf mixed) ≡ 1 ∷ 0 ∷ 0 ∷ 25 ∷ 0 ∷ 9 ∷ []
+unfolding computing
+their-numbers = refl
+
+all-five : eventsIn (callsFrom T freshOf mixed) ≡ 5
+unfolding computing
+all-five = refl
+
+all-seven : allRecords (callsFrom T freshOf mixed) ≡ row 0 0 0 0 0 0 0 ++ row 0 1 1 1 1 0 0 ++ row 0 4 0 13 1 0 0 ++ row 0 1 1 15 1 0 0 ++ row 0 5 1 15 1 0 0 ++ row 0 5 1 20 1 0 0 ++ row 0 6 0 0 0 0 0
+unfolding computing
+all-seven = refl

@@ -1,4 +1,5 @@
--- 'For demand 3': calls of step, each on the session that the one before handed back; their scenes, and the records that they hand out. Definitions.
+-- 'For demand 3': calls of step, each on the session that the one before handed back; their scenes, and the records that they hand out; the same for calls
+-- of step and of advance. Definitions.
 use Prim.Native.Nat.{ℕ, _*_}
 use mathlib.Core.Path.{_≡_}
 use mathlib.Core.List.{List, [], _∷_, _++_}
@@ -6,8 +7,8 @@ use mathlib.Core.Bool.{Bool}
 use lib.ListN.{length, take}
 use lib.Dec.{eqb}
 use Rattle.laws.specs.Lists.{keep}
-use Rattle.laws.specs.Gather.{gather}
-use Rattle.dispatcher.specs.Stepping.{Step, stepOf}
+use Rattle.laws.specs.Gather.{gather, total}
+use Rattle.dispatcher.specs.Stepping.{Step, stepOf, advanceOf}
 use Rattle.dispatcher.specs.declared.Session.{Session}
 
 -- A call: its scene and its output
@@ -64,3 +65,33 @@ numberFrom before (r ∷ rs) = numberFrom (r .answer .number) rs
 
 abbrev pub lastNumber : List Step → ℕ
 lastNumber rs = numberFrom 0 rs
+
+-- ---- step and advance
+-- A call of step, or of advance by at most so many steps
+pub data AnyCall : Type 0 where
+  ofStep : Call → AnyCall
+  ofAdvance : ℕ → Call → AnyCall
+
+abbrev pub callOf : AnyCall → Call
+callOf (ofStep c) = c
+callOf (ofAdvance most c) = c
+
+-- what it hands back of a session
+abbrev pub handedBack : List ℕ → Session → AnyCall → Step
+handedBack table z (ofStep c) = stepOf table (c .scene) z (c .output)
+handedBack table z (ofAdvance most c) = advanceOf most table (c .scene) z (c .output)
+
+-- what the calls hand back: each goes on from the session that the one before handed back
+unfoldable pub callsFrom : List ℕ → Session → List AnyCall → List Step
+callsFrom table z [] = []
+callsFrom table z (c ∷ cs) =
+    let r = handedBack table z c in
+    r ∷ callsFrom table (r .session) cs
+
+-- "events (steps that gave 0)": of all calls
+unfoldable pub eventsIn : List Step → ℕ
+eventsIn rs = total (λ (r : Step). r .answer .events) rs
+
+-- the records of all calls, "joined is in the list's order": an advance that ends with another number than 0 has those of its steps before
+unfoldable pub allRecords : List Step → List ℕ
+allRecords rs = gather recordsOf rs

@@ -1,7 +1,7 @@
 -- A coherent session is sound: what number 20 leaves is all that the proofs ask of a session.
 --     each-tested, each-tabulated, tested-at     tests of lists, read back
 --     levels-each, opens-each                    what holds of each open level
---     coherent-levels, coherent-sound
+--     coherent-levels, coherent-held, coherent-sound
 use Prim.Native.Nat.{ℕ, zero, suc, _+_, _-_, _*_, _≤_, _<_}
 use mathlib.Core.Path.{_≡_, refl, sym, ap, ap₂, subst, _∙_}
 use mathlib.Core.List.{List, [], _∷_}
@@ -30,12 +30,12 @@ use Rattle.reader.specs.Stored.{bindingIn}
 use Rattle.reader.specs.Events.{Open, isNil}
 use Rattle.reader.specs.Scope.{nameIn, countIn, opensIn, opensOf}
 use Rattle.reader.specs.Counted.{countOf, Counted}
-use Rattle.reader.specs.Held.{SpanHeld, BindingHeld, OpenHeld}
+use Rattle.reader.specs.Held.{Held, SpanHeld, BindingHeld, OpenHeld}
 use Rattle.reader.proofs.Opens.{CountedScope, opens-nil}
 use Rattle.model.specs.Stream.{Level, HeldStrand}
 use Rattle.model.specs.Dispatch.{dispatch}
 use Rattle.strands.proofs.Packing.{Below}
-use Rattle.dispatcher.specs.Sessions.{classIn, uriIn, strandCount, strandsIn, levelIn, levelsIn, stateOf}
+use Rattle.dispatcher.specs.Sessions.{classIn, uriIn, strandCount, strandsIn, levelIn, levelsIn, stateOf, readerOf}
 use Rattle.dispatcher.specs.Coherence.{openLevels, openBindings, spanInside, prefixFits, targetFits, aims, coherent}
 use Rattle.dispatcher.specs.declared.Session.{Session}
 use Rattle.dispatcher.proofs.Sound.{Aims, StrandSound, LevelSound, Sound}
@@ -185,6 +185,16 @@ module _ (t : Table) (s : List ℕ) (z : Session) (c : Clauses t s z) where
 pub coherent-levels : (t : Table) (s : List ℕ) (z : Session) → coherent t s z ≡ true → All (LevelSound t s (z .units)) (stateOf t s z .levels)
 coherent-levels t s z e = levels-each t s z (LevelSound t s (z .units)) (z .scope .depth) (level-sound t s z (clauses t s z e))
 
+pub coherent-held : (t : Table) (s : List ℕ) (z : Session) → coherent t s z ≡ true → Held s (readerOf z)
+coherent-held t s z e =
+    let c = clauses t s z e in
+    record {
+      place = leb-true (z .place) (length s) (c .place);
+      opened = opened t s z c;
+      awaited = awaited-open t s z c (z .awaited) (c .awaited);
+      closed = closed-none t s z c (z .closed) (c .closed);
+    }
+
 pub coherent-sound : (t : Table) (s : List ℕ) (z : Session) → length (z .scope .levels) ≡ 192 → length (z .scope .bindings) ≡ 256 → length (z .spaces) ≡ 256 → length (z .strands) ≡ 1024
     → coherent t s z ≡ true → Sound t s z
 coherent-sound t s z ll lb ls lt e =
@@ -200,13 +210,7 @@ coherent-sound t s z ll lb ls lt e =
             shallow = leb-true (z .scope .depth) 64 (c .depth);
             few = leb-true (z .scope .bound) 64 (c .bound);
           };
-      held =
-          record {
-            place = leb-true (z .place) (length s) (c .place);
-            opened = opened t s z c;
-            awaited = awaited-open t s z c (z .awaited) (c .awaited);
-            closed = closed-none t s z c (z .closed) (c .closed);
-          };
+      held = coherent-held t s z e;
       levels = coherent-levels t s z e;
       few-units = leb-true (z .units) 65536 (c .units);
     }

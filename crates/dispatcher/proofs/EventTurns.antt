@@ -1,27 +1,33 @@
 -- A text, an end and a refusal, as the code's parts make them: the records of the innermost level, 25 or the output with them, the session behind.
 --     inner-level, written-text, written-end     what the innermost level writes
---     full-turn, room-turn                       25, and the records laid
+--     full-turn, room-turn, not-full             25, and the records laid; room for two of each strand
 --     stop-step, closed-session                  a refusal; the numbers behind an end
 --     opens-inner, awaited-plan, ..              what the reader's rules plan
+--     closes-past, .., tag-here                  the open name and a > where an end tag's name begins
 use Prim.Native.Nat.{ℕ, zero, suc, _+_, _*_, _-_, _/_, _%_, _^_, _≤_, _<_}
 use mathlib.Core.Path.{_≡_, refl, sym, ap, ap₂, subst, _∙_}
 use mathlib.Core.Logic.{⊎-elim}
 use mathlib.Core.List.{List, _∷_, map}
-use mathlib.Core.Bool.{Bool, true, false, not}
+use mathlib.Core.Bool.{Bool, true, false, cond, not, _&&_}
 use native.Mathlib.Omega.{arith}
-use native.Mathlib.Nat.{add-zero, mod-eq-of-lt}
-use borrow.Author.Tests.{eq-eqb, ne-eqb, lt-ltb, le-ltb}
-use lib.ListN.{length, getD}
-use lib.Dec.{eqb}
+use native.Mathlib.Nat.{add-zero, add-sub-cancel-left, mod-eq-of-lt}
+use borrow.Author.Tests.{eq-eqb, ne-eqb, lt-ltb, le-ltb, eqb-true, ltb-true, ltb-false}
+use lib.ListN.{length, take, drop, getD}
+use lib.Dec.{eqb, ltb}
 use Rattle.laws.specs.Lists.{tabulate, sameList}
 use Rattle.laws.specs.Tests.{untold, untold′}
 use Rattle.laws.specs.Reading.{le-or-lt}
 use Rattle.laws.specs.Over.{overwrite}
 use Rattle.laws.specs.Gather.{gather, total}
+use Rattle.laws.proofs.Lists.{length-tabulate}
+use Rattle.laws.proofs.Flags.{and-left, and-right}
+use Rattle.compare.proofs.Equal.{same-eq}
+use Rattle.compare.proofs.Span.{within}
 use Rattle.table.specs.Table.{Table}
 use Rattle.lexer.specs.Stops.{numberOf, stopPlace}
 use Rattle.lexer.specs.Values.{textEnd}
 use Rattle.lexer.specs.Tags.{endTagAt}
+use Rattle.lexer.specs.Whole.{isWholeName}
 use Rattle.lexer.specs.declared.Stop.{Stop}
 use Rattle.lexer.specs.declared.Stop.the-variants.{Bad, Long, Cut}
 use Rattle.lexer.specs.declared.Read.{Read}
@@ -31,6 +37,7 @@ use Rattle.lexer.specs.declared.Ended.{Ended}
 use Rattle.lexer.specs.declared.Ended.the-variants as ended
 use Rattle.lexer.proofs.ValueLaws.{ValueTo, value-inside}
 use Rattle.lexer.proofs.Inside.{ReadInside, within-read, EndedInside, endTag-inside}
+use Rattle.lexer.proofs.WholeNames.{name-here, end-tag-here}
 use Rattle.reader.specs.declared.Span.{Span}
 use Rattle.reader.specs.declared.Scope.{Scope}
 use Rattle.reader.specs.Spans.{span, between, bytesOf, wholeSpan, partSpan}
@@ -39,6 +46,7 @@ use Rattle.reader.specs.Scope.{countIn, closedOf, nameIn, opensIn, opensOf}
 use Rattle.reader.specs.Held.{SpanHeld}
 use Rattle.reader.specs.Events.{Open, isNil, partOf, colonEnd, textRead, endRead, nextBy, next}
 use Rattle.reader.proofs.Colons.{part-fits}
+use Rattle.reader.proofs.ReadNames.{part-again}
 use Rattle.model.specs.Theory.{Record}
 use Rattle.model.specs.Tree.{text, end}
 use Rattle.model.specs.Stream.{Level, written}
@@ -50,10 +58,10 @@ use Rattle.records.specs.declared.Row.{Row}
 use Rattle.records.proofs.Laid.{rows-end}
 use Rattle.strands.specs.Packed.{wordsAt}
 use Rattle.strands.specs.Writing.{rowFor, rowOf, eventRecords, eventCount}
-use Rattle.strands.proofs.Delivered.{events-length, texts-records, ends-records, rows-bytes, rows-length}
+use Rattle.strands.proofs.Delivered.{events-length, events-most, texts-records, ends-records, rows-bytes, rows-length}
 use Rattle.dispatcher.specs.Sessions.{classIn, uriIn, strandCount, strandsIn, levelIn, levelsIn, sessionOf, readerOf, stateOf, withEnd}
 use Rattle.dispatcher.specs.Stepping.{Plan, event, refused, planBy, planOf, planned, Step, answered, refusedStep, eventStep}
-use Rattle.dispatcher.specs.Turns.{stopTurn, stepBy, closedHead, endRow}
+use Rattle.dispatcher.specs.Turns.{closesAt, stopTurn, stepBy, closedHead, endRow}
 use Rattle.dispatcher.specs.declared.Session.{Session}
 use Rattle.dispatcher.specs.declared.Head.{Head}
 
@@ -91,24 +99,36 @@ module _ (at n : ℕ) (rs : List (Record Body ℕ)) (next′ z : Session) (out :
       let o : out′ ≡ overwrite out 0 (gather model.recordBytesOf rs) = rows-end (map rowOf rs) out 0 out′ used m l .1 ∙ ap (overwrite out 0) (rows-bytes rs) in
       rw (le-ltb (length out) (16 * length rs) (omega arith), e, o)
 
--- an event of the innermost level by what was counted and laid
-module _ (b : Body) (closes : Bool) (strands : List ℕ) (level n count records : ℕ) (rs : List (Record Body ℕ)) (w : rs ≡ gather (eventRecords b closes) (wordsAt strands level count)) (e : n ≡ count) (c : records ≡ total (eventCount closes) (wordsAt strands level n)) where
-  all-counted : records ≡ length rs
+-- two records for each strand fit
+pub not-full : (len : ℕ) (strands : List ℕ) (level n : ℕ) (closes : Bool) → 32 * n ≤ len → false ≡ ltb (len / 16) (total (eventCount closes) (wordsAt strands level n))
+not-full len strands level n closes h =
+    let m = events-most closes (wordsAt strands level n) in
+    sym (le-ltb (len / 16) (total (eventCount closes) (wordsAt strands level n)) (omega (arith, m, length-tabulate (λ (i : ℕ). getD strands i 0) (16 * level) n)))
+
+-- an event of the innermost level by the test for room and what was laid
+module _ (b : Body) (closes : Bool) (strands : List ℕ) (level n count : ℕ) (rs : List (Record Body ℕ)) (w : rs ≡ gather (eventRecords b closes) (wordsAt strands level count)) (e : n ≡ count)
+    (at : ℕ) (next′ z : Session) (out : List ℕ) (full : Bool) (f : full ≡ ltb (length out / 16) (total (eventCount closes) (wordsAt strands level n))) where
+  all-counted : total (eventCount closes) (wordsAt strands level n) ≡ length rs
   all-counted =
-      c ∙ sym (events-length b closes (wordsAt strands level n)) ∙ ap (λ (k : ℕ). length (gather (eventRecords b closes) (wordsAt strands level k))) e ∙ sym (ap length w)
+      sym (events-length b closes (wordsAt strands level n)) ∙ ap (λ (k : ℕ). length (gather (eventRecords b closes) (wordsAt strands level k))) e ∙ sym (ap length w)
 
-  module _ (at : ℕ) (next′ z : Session) (out : List ℕ) where
-    pub event-full : length out / 16 < records → refusedStep 25 at z out ≡ eventStep at rs next′ z out
-    event-full h = full-turn at records rs next′ z out all-counted (omega arith)
+  full-is : full ≡ ltb (length out / 16) (length rs)
+  full-is = f ∙ ap (ltb (length out / 16)) all-counted
 
-    pub event-room : (row : Row) (used : ℕ) (out′ : List ℕ) → records ≤ length out / 16 → bodyOf row ≡ b
-        → laid out′ used ≡ laidRows (laid out 0) (map rowOf (gather (eventRecords (bodyOf row) closes) (wordsAt strands level n)))
-        → _≡_ {A = Step} (record { answer = answered 0 (next′ .place) 1 records; session = next′; output = out′ }) (eventStep at rs next′ z out)
-    event-room row used out′ h r l =
-        room-turn at records rs next′ z out all-counted used out′ (omega arith)
-        (l
-        ∙ ap (λ (rs′ : List (Record Body ℕ)). laidRows (laid out 0) (map rowOf rs′))
-        (ap₂ (λ (x : Body) (k : ℕ). gather (eventRecords x closes) (wordsAt strands level k)) r e ∙ sym w))
+  pub event-full : full ≡ true → refusedStep 25 at z out ≡ eventStep at rs next′ z out
+  event-full h = full-turn at (length rs) rs next′ z out refl (omega (arith, ltb-true (length out / 16) (length rs) (sym full-is ∙ h)))
+
+  pub event-room : (row : Row) (used : ℕ) (out′ : List ℕ) → full ≡ false → bodyOf row ≡ b
+      → laid out′ used ≡ laidRows (laid out 0) (map rowOf (gather (eventRecords (bodyOf row) closes) (wordsAt strands level n)))
+      → _≡_ {A = Step} (record { answer = answered 0 (next′ .place) 1 (used / 16); session = next′; output = out′ }) (eventStep at rs next′ z out)
+  event-room row used out′ h r l =
+      let m : 16 * length rs ≤ length out = omega (arith, ltb-false (length out / 16) (length rs) (sym full-is ∙ h)) in
+      let l′ : laid out′ used ≡ laidRows (laid out 0) (map rowOf rs) =
+      l
+      ∙ ap (λ (rs′ : List (Record Body ℕ)). laidRows (laid out 0) (map rowOf rs′))
+      (ap₂ (λ (x : Body) (k : ℕ). gather (eventRecords x closes) (wordsAt strands level k)) r e ∙ sym w) in
+      let u = rows-end (map rowOf rs) out 0 out′ used (omega (arith, rows-length rs)) l′ .0 in
+      room-turn at (used / 16) rs next′ z out (omega (arith, u, rows-length rs)) used out′ (omega (arith, u, rows-length rs)) l′
 
 -- the row of an end, for numbers that are small enough
 pub end-body : (part : Span) (spaces : List ℕ) (level : ℕ) → getD spaces (4 * level) 0 < 256 → part .at < 4294967296 → part .len < 4294967296
@@ -221,14 +241,68 @@ part-inside s name h =
     let f = part-fits s name (bytesOf s name) (colonEnd 0 (bytesOf s name)) refl refl in
     (omega (arith, f .0, f .1), omega (arith, f .0))
 
-pub part-small : (s levels : List ℕ) (k : ℕ) (name part : Span) → length s ≤ 16777215 → SpanHeld s (nameIn levels k) → name ≡ nameIn levels k → part ≡ partOf s name → (part .at < 4294967296) × (part .len < 4294967296)
-part-small s levels k name part l h e p =
-    let i = part-inside s (nameIn levels k) h in
-    let q : part ≡ partOf s (nameIn levels k) = p ∙ ap (partOf s) e in
-    (omega (arith, i .0, ap (λ (w : Span). w .at) q), omega (arith, i .1, ap (λ (w : Span). w .len) q))
+pub part-small : (s : List ℕ) (name part : Span) → length s ≤ 16777215 → SpanHeld s name → part ≡ partOf s name → (part .at < 4294967296) × (part .len < 4294967296)
+part-small s name part l h p =
+    let i = part-inside s name h in
+    (omega (arith, i .0, ap (λ (w : Span). w .at) p), omega (arith, i .1, ap (λ (w : Span). w .len) p))
 
 pub span-small : (from to : ℕ) (w : Span) → from < 4294967296 → to < 4294967296 → w ≡ between from to → (w .at < 4294967296) × (w .len < 4294967296)
 span-small from to w f t e = (omega (arith, ap (λ (v : Span). v .at) e), omega (arith, ap (λ (v : Span). v .len) e))
+
+-- ---- the open name and a > where an end tag's name begins
+module _ (s : List ℕ) (at : ℕ) (name : Span) where
+  pub closes-past : length s ≤ at + name .len → false ≡ closesAt s at name
+  closes-past h = rw (le-ltb (at + name .len) (length s) h)
+
+  pub closes-other : at + name .len < length s → (getD s (at + name .len) 0 ≡ 0x3E → ⊥) → false ≡ closesAt s at name
+  closes-other h n = rw (lt-ltb (at + name .len) (length s) h, ne-eqb (getD s (at + name .len) 0) 0x3E n)
+
+  pub closes-same : at + name .len < length s → getD s (at + name .len) 0 ≡ 0x3E → (r : Bool)
+      → r ≡ sameList (take (at + name .len - at) (drop at s)) (take (name .at + name .len - name .at) (drop (name .at) s)) → r ≡ closesAt s at name
+  closes-same h b r e =
+      rw (lt-ltb (at + name .len) (length s) h, eq-eqb (getD s (at + name .len) 0) 0x3E b)
+      (e ∙ ap₂ sameList (within s at (name .len)) (within s (name .at) (name .len)))
+
+  module _ (c : closesAt s at name ≡ true) where
+    pub closes-inside : at + name .len < length s
+    closes-inside = by (ltb (at + name .len) (length s)) refl c
+      where
+        by : (t : Bool) → t ≡ ltb (at + name .len) (length s) → cond t (eqb (getD s (at + name .len) 0) 0x3E && sameList (bytesOf s (span at (name .len))) (bytesOf s name)) false ≡ true → at + name .len < length s
+        by true e q = ltb-true (at + name .len) (length s) (sym e)
+        by false e q = let y : _≡_ {A = ℕ} 0 1 = cc in absurd (omega arith)
+
+    closes-both : (eqb (getD s (at + name .len) 0) 0x3E && sameList (bytesOf s (span at (name .len))) (bytesOf s name)) ≡ true
+    closes-both = rw (lt-ltb (at + name .len) (length s) closes-inside) at c
+
+    closes-byte : getD s (at + name .len) 0 ≡ 0x3E
+    closes-byte = eqb-true (getD s (at + name .len) 0) 0x3E (and-left (eqb (getD s (at + name .len) 0) 0x3E) _ closes-both)
+
+    pub closes-bytes : sameList (bytesOf s (span at (name .len))) (bytesOf s name) ≡ true
+    closes-bytes = and-right (eqb (getD s (at + name .len) 0) 0x3E) _ closes-both
+
+    module _ (w : isWholeName (bytesOf s name) ≡ true) where
+      whole-here : isWholeName (bytesOf s (span at (name .len))) ≡ true
+      whole-here = ap isWholeName (same-eq (bytesOf s (span at (name .len))) (bytesOf s name) closes-bytes) ∙ w
+
+      -- the tag that is read there
+      pub tagHere : EndTag
+      tagHere = record { name = record { at = at; part = name-here s at (name .len) closes-inside whole-here closes-byte .0; end = at + name .len }; next = at + name .len + 1 }
+
+      pub next-here : tagHere .next ≡ at + name .len + 1
+      unfolding tagHere
+      next-here = refl
+
+      pub tag-here : endTagAt s at ≡ ended.Got tagHere
+      unfolding tagHere
+      tag-here = end-tag-here s at (name .len) closes-inside whole-here closes-byte
+
+      pub span-here : wholeSpan (tagHere .name) ≡ span at (name .len)
+      unfolding tagHere
+      span-here = ap (span at) (add-sub-cancel-left at (name .len))
+
+      pub part-here : partOf s (span at (name .len)) ≡ partSpan (tagHere .name)
+      unfolding tagHere
+      part-here = ap (partOf s) (sym span-here) ∙ part-again s at (tagHere .name) (name-here s at (name .len) closes-inside whole-here closes-byte .1)
 
 -- ---- the turns, by what the code's parts gave
 module _ (t : Table) (s : List ℕ) (z : Session) (out : List ℕ) (r : Step) where
@@ -249,6 +323,21 @@ module _ (t : Table) (s : List ℕ) (z : Session) (out : List ℕ) (r : Step) wh
         e
         ∙ ap₂ (λ (w : Span) (i : ℕ). endStep w i (z .place)) (p ∙ ap (partOf s) n) (k ∙ ap (λ (w : Span). w .at - 1) n)
         ∙ sym (ap (λ (x : Plan). planned x z out) (awaited-plan t s z h a))
+
+    -- the open name and a > stand there
+    pub closing-step : (at : ℕ) (name part : Span) (closing : Bool) → name ≡ nameIn (z .scope .levels) (z .scope .depth - 1) → isWholeName (bytesOf s (nameIn (z .scope .levels) (z .scope .depth - 1))) ≡ true
+        → closing ≡ closesAt s (at + 2) name → closing ≡ true → part ≡ partOf s (span (at + 2) (name .len))
+        → r ≡ eventStep at (written (dispatch t) (stateOf t s z) (end part)) (withEnd z (at + 3 + name .len) (eqb (z .scope .depth) 1)) z out
+        → r ≡ planned (planBy t s z (endRead s at (opensOf (z .scope)) (endTagAt s (at + 2)))) z out
+    closing-step at name part closing n w c q p e =
+        let k : closesAt s (at + 2) name ≡ true = sym c ∙ q in
+        let v : isWholeName (bytesOf s name) ≡ true = rw n w in
+        let tag = tagHere s (at + 2) name k v in
+        let alike : sameList (bytesOf s (wholeSpan (tag .name))) (bytesOf s (nameIn (z .scope .levels) (z .scope .depth - 1))) ≡ true =
+        ap₂ (λ (x y : Span). sameList (bytesOf s x) (bytesOf s y)) (span-here s (at + 2) name k v) (sym n) ∙ closes-bytes s (at + 2) name k in
+        e
+        ∙ ap₂ (λ (x : Span) (i : ℕ). endStep x at i) (p ∙ part-here s (at + 2) name k v) (omega (arith, next-here s (at + 2) name k v))
+        ∙ sym (ap (λ (y : Plan). planned y z out) (ap (λ (x : Ended). planBy t s z (endRead s at (opensOf (z .scope)) x)) (tag-here s (at + 2) name k v) ∙ end-plan t s z h at tag alike))
 
     pub stopped-end : (at : ℕ) (x : Stop) → r ≡ refusedStep (numberOf x) (stopPlace s x) z out → r ≡ planned (planBy t s z (endRead s at (opensOf (z .scope)) (ended.Stopped x))) z out
     stopped-end at x e = e ∙ sym (ap (λ (y : Plan). planned y z out) (stopped-plan t s z h at x))

@@ -86,37 +86,37 @@ module _ (table : List ℕ) (accepted : Accepted table ≡ true) (s : List ℕ) 
       by [] c = tt
       by (x ∷ ls) c = c .1
 
--- ---- 20 is no plan's number
-abbrev NotTwenty : Plan → Type 0
-NotTwenty (refused n p) = n ≡ 20 → ⊥
-NotTwenty (finished p) = Unit
-NotTwenty (event p rs z) = Unit
+-- ---- 0 and 20 are no plan's numbers
+abbrev pub Numbered : Plan → Type 0
+Numbered (refused n p) = (n ≡ 20 → ⊥) × (1 ≤ n)
+Numbered (finished p) = Unit
+Numbered (event p rs z) = Unit
 
-limits-not : (a b c d : Bool) (at : ℕ) (x : Plan) → NotTwenty x → NotTwenty (cond a (refused 21 at) (cond b (refused 22 at) (cond c (refused 23 at) (cond d (refused 24 at) x))))
-limits-not true b c d at x h = omega arith
-limits-not false true c d at x h = omega arith
-limits-not false false true d at x h = omega arith
-limits-not false false false true at x h = omega arith
+limits-not : (a b c d : Bool) (at : ℕ) (x : Plan) → Numbered x → Numbered (cond a (refused 21 at) (cond b (refused 22 at) (cond c (refused 23 at) (cond d (refused 24 at) x))))
+limits-not true b c d at x h = (omega arith, omega arith)
+limits-not false true c d at x h = (omega arith, omega arith)
+limits-not false false true d at x h = (omega arith, omega arith)
+limits-not false false false true at x h = (omega arith, omega arith)
 limits-not false false false false at x h = h
 
 module _ (t : Table) (s : List ℕ) (z : Session) where
-  start-not : (e : reading.Start) (own : List Binding) (place : ℕ) → NotTwenty (startPlan t s z e own place)
+  start-not : (e : reading.Start) (own : List Binding) (place : ℕ) → Numbered (startPlan t s z e own place)
   unfolding startPlan
   start-not e own place =
       limits-not (leb 64 (z .scope .depth)) (ltb 64 (z .scope .bound + length own)) (ltb 16 (length (entriesAt (dispatch t) (stateOf t s z .levels) (elementOf t s e))))
       (ltb 65536 (after (dispatch t) (stateOf t s z) (start (elementOf t s e)) .units)) (e .at) (event _ _ _) tt
 
-  plan-not : Held s (readerOf z) → NotTwenty (planOf t s z)
+  pub plan-not : Held s (readerOf z) → Numbered (planOf t s z)
   unfolding planOf
   plan-not h = by (reading.next s (readerOf z)) refl
     where
-      by : (x : reading.Next) → reading.next s (readerOf z) ≡ x → NotTwenty (planBy t s z x)
+      by : (x : reading.Next) → reading.next s (readerOf z) ≡ x → Numbered (planBy t s z x)
       by (reading.event (reading.start e) z′) q =
           let f = followed s (readerOf z) h (reading.start e) z′ q in
           rw (ap (λ (y : reading.ReaderState). y .opened) (f .state)) (start-not e (f .own) (z′ .place))
       by (reading.event (reading.text w) z′) q = tt
       by (reading.event (reading.end part at) z′) q = tt
-      by (reading.refusal n p) q = λ e. omega (arith, numbered s (readerOf z) h n p q .few)
+      by (reading.refusal n p) q = let k = numbered s (readerOf z) h n p q in (λ e. omega (arith, k .few), k .some)
       by (reading.finished p) q = tt
 
 -- ---- a step
@@ -138,8 +138,8 @@ module _ (table : List ℕ) (accepted : Accepted table ≡ true) (s : List ℕ) 
         few-units = b .few-units;
       }
 
-  planned-kept : length s ≤ 16777215 → (out : List ℕ) (x : Plan) → planOf (decode table) s z ≡ x → NotTwenty x → StepKept (decode table) s (planned x z out)
-  planned-kept short out (refused n p) q k = record { not-20 = k; sound = h }
+  planned-kept : length s ≤ 16777215 → (out : List ℕ) (x : Plan) → planOf (decode table) s z ≡ x → Numbered x → StepKept (decode table) s (planned x z out)
+  planned-kept short out (refused n p) q k = record { not-20 = k .0; sound = h }
   planned-kept short out (finished p) q k = record { not-20 = omega arith; sound = h }
   planned-kept short out (event p rs z″) q k =
       holds-cond (StepKept (decode table) s) (ltb (length out) (16 * length rs)) (λ e. record { not-20 = omega arith; sound = h })

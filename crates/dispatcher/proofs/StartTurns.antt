@@ -122,13 +122,15 @@ module _ (table : List ℕ) (header : Header) (index s : List ℕ) (head : Head)
 
   pub innermost : 1 ≤ head .depth → Innermost s head levels spaces
   innermost l =
+      let held = name-held (decode table) s z clear (head .depth - 1) (omega arith) in
       record {
         short = r .short;
         some-open = l;
         shallow = leb-true (head .depth) 64 (clear .depth);
         few-strands = level-few (decode table) s z clear (head .depth - 1) (omega arith);
         class = level-class (decode table) s z clear (uris-few table (r .accepted)) (head .depth - 1) (omega arith);
-        name = name-held (decode table) s z clear (head .depth - 1) (omega arith) .1;
+        name = held .1;
+        whole = held .2;
       }
 
   pub awaited-innermost : head .awaited ≡ true → Innermost s head levels spaces

@@ -8,8 +8,8 @@ use Rattle.model.specs.Computing as model
 use Rattle.strands.specs.Packed.{strandIn, packed}
 use Rattle.dispatcher.specs.Sessions.{levelUri, strandsIn, levelIn, levelsIn}
 use Rattle.dispatcher.specs.Coherence.{coherent}
-use Rattle.dispatcher.specs.Stepping.{planOf, startPlan, stepOf, runFrom, runOf}
+use Rattle.dispatcher.specs.Stepping.{planOf, startPlan, stepOf, advanceOf, runOf}
 
 unfoldable pub computing : Bool
-unfolding model.computing runOf runFrom stepOf planOf startPlan coherent strandIn packed levelUri strandsIn levelIn levelsIn bindingIn nameIn opensIn closedOf overwrite isPart isWholeName
+unfolding model.computing runOf advanceOf stepOf planOf startPlan coherent strandIn packed levelUri strandsIn levelIn levelsIn bindingIn nameIn opensIn closedOf overwrite isPart isWholeName
 computing = true

@@ -78,6 +78,18 @@ freshOf =
       strands = replicate 1024 0;
     }
 
+-- a session's numbers apart from its arrays
+abbrev pub headOf : Session → Head
+headOf z =
+    record {
+      place = z .place;
+      units = z .units;
+      closed = z .closed;
+      awaited = z .awaited;
+      depth = z .scope .depth;
+      bound = z .scope .bound;
+    }
+
 -- a session's numbers and its arrays, put together
 abbrev pub sessionOf : Head → List ℕ → List ℕ → List ℕ → List ℕ → Session
 sessionOf h levels bindings spaces strands =

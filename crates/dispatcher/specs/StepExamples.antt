@@ -1,11 +1,11 @@
--- Worked examples of step and run, by computation: the rulings on places, on 25 and on the limits of the state.
+-- Worked examples of step, advance and run, by computation: the rulings on places, on 25 and on the limits of the state.
 use mathlib.Core.Path.{_≡_, refl}
 use mathlib.Core.List.{[], _∷_, _++_}
 use lib.ListN.{replicate}
 use Rattle.laws.specs.Text.{bytes}
 use Rattle.table.specs.Examples.{T, T2}
 use Rattle.dispatcher.specs.Sessions.{freshOf}
-use Rattle.dispatcher.specs.Stepping.{answered, refusedStep, stepOf, runOf}
+use Rattle.dispatcher.specs.Stepping.{answered, refusedStep, stepOf, advanceOf, runOf}
 use Rattle.dispatcher.specs.Computing.{computing}
 
 -- The first step over sample A: its two records need 32 bytes
@@ -65,3 +65,23 @@ seventeen-strands = (refl, refl)
 refused-table : stepOf (1 ∷ []) (bytes "<") freshOf [] ≡ refusedStep 10 0 freshOf []
 unfolding computing
 refused-table = refl
+
+-- no step is taken: nothing is judged, not even a table that is refused
+advance-by-none : advanceOf 0 (1 ∷ []) (bytes "<") freshOf (7 ∷ []) ≡ record { answer = answered 0 0 0 0; session = freshOf; output = 7 ∷ [] }
+unfolding computing
+advance-by-none = refl
+
+-- so many steps were taken: 0, and the new session's place
+advance-by-three : advanceOf 3 T (bytes "<r xmlns=\"u\">a<x/></r>") freshOf (replicate 112 7) .answer ≡ answered 0 18 3 4
+unfolding computing
+advance-by-three = refl
+
+-- and on from there
+advance-on : advanceOf 9 T (bytes "<r xmlns=\"u\">a<x/></r>") (advanceOf 3 T (bytes "<r xmlns=\"u\">a<x/></r>") freshOf (replicate 112 7) .session) (replicate 48 7) .answer ≡ answered 9 22 2 3
+unfolding computing
+advance-on = refl
+
+-- an output that is full stops it: the session behind the events that were written
+advance-in-47 : (advanceOf 9 T (bytes "<r xmlns=\"u\">a<x/></r>") freshOf (replicate 47 7) .answer ≡ answered 25 13 1 2) × (advanceOf 9 T (bytes "<r xmlns=\"u\">a<x/></r>") freshOf (replicate 47 7) .session .place ≡ 13)
+unfolding computing
+advance-in-47 = (refl, refl)

@@ -1,4 +1,4 @@
--- 'Calls' and 'From the input', 'From the state': what step and run hand back, for all arguments. Definitions.
+-- 'Calls' and 'From the input', 'From the state': what step, advance and run hand back, for all arguments. Definitions.
 use Prim.Native.Nat.{ℕ, zero, suc, _+_, _*_}
 use mathlib.Core.List.{List, [], _∷_, _++_, map}
 use mathlib.Core.Bool.{Bool, true, false, cond, not}
@@ -105,25 +105,38 @@ stepOf table s z out =
     (cond (not (coherent (decode table) s z)) (refusedStep 20 0 z out)
     (planned (planOf (decode table) s z) z out)))
 
+-- "lends the rest of the output, from the records written so far, to each step"
+abbrev pub restOf : Step → List ℕ
+restOf r = drop (16 * r .answer .records) (r .output)
+
+-- two calls as one, the second on the session that the first handed back and lent the rest of its output: "events (steps that gave 0), records (those
+-- written)", "records joined"
+abbrev pub joined : Step → Step → Step
+joined first later =
+    record {
+      answer = answered (later .answer .number) (later .answer .place) (first .answer .events + later .answer .events) (first .answer .records + later .answer .records);
+      session = later .session;
+      output = take (16 * first .answer .records) (first .output) ++ later .output;
+    }
+
+-- Advance: steps from a session, "records joined, until a step's number is not 0" or so many were taken; "if 0 the new session's place"
+unfoldable pub advanceOf : ℕ → List ℕ → List ℕ → Session → List ℕ → Step
+advanceOf zero table s z out = record { answer = answered 0 (z .place) 0 0; session = z; output = out }
+advanceOf (suc n) table s z out =
+    let r = stepOf table s z out in
+    cond (eqb (r .answer .number) 0) (joined r (advanceOf n table s (r .session) (restOf r))) r
+
 -- What a run hands back: the answer and the output
 pub record Run : Type 0 where
   pub answer : Answer
   pub output : List ℕ
 
--- "Run: steps from fresh, records joined, until a step's number is not 0": at most so many steps, each lent the output from the used bytes on
-unfoldable pub runFrom : ℕ → List ℕ → List ℕ → Session → List ℕ → ℕ → ℕ → ℕ → Run
-runFrom zero table s z out used events records = record { answer = answered 0 (z .place) events records; output = out }
-runFrom (suc n) table s z out used events records =
-    let r = stepOf table s z (drop used out) in
-    let whole = take used out ++ r .output in
-    let more =
-    runFrom n table s (r .session) whole (used + 16 * r .answer .records) (events + 1) (records + r .answer .records) in
-    cond (eqb (r .answer .number) 0) more
-    (record { answer = answered (r .answer .number) (r .answer .place) events records; output = whole })
+abbrev pub runBy : Step → Run
+runBy r = record { answer = r .answer; output = r .output }
 
--- each event reads a byte or ends an awaited end, so that many steps suffice
+-- "Run: steps from fresh, records joined, until a step's number is not 0": each event reads a byte or ends an awaited end, so that many steps suffice
 unfoldable pub runOf : List ℕ → List ℕ → List ℕ → Run
-runOf table s out = runFrom (2 * length s + 2) table s freshOf out 0 0 0
+runOf table s out = runBy (advanceOf (2 * length s + 2) table s freshOf out)
 
 -- what the calls hand back, with the output that they were lent
 abbrev pub handed : Stepped → List ℕ → Step

@@ -2,12 +2,13 @@
 use Prim.Native.Nat.{ℕ, _+_, _*_, _-_, _%_, _^_, _≤_, _<_}
 use mathlib.Core.Path.{_≡_}
 use mathlib.Core.List.{List, _∷_, map}
-use mathlib.Core.Bool.{Bool, true, false, cond}
+use mathlib.Core.Bool.{Bool, true, false, cond, _&&_}
 use lib.ListN.{length, getD, take}
 use lib.Dec.{eqb, ltb}
-use Rattle.laws.specs.Lists.{keep, tabulate}
+use Rattle.laws.specs.Lists.{sameList, keep, tabulate}
 use Rattle.laws.specs.Gather.{gather}
 use Rattle.laws.specs.Members.{All}
+use Rattle.laws.specs.Reading.{peek}
 use Rattle.table.specs.Table.{Table, decode, headerOf}
 use Rattle.table.specs.Index.{indexOf}
 use Rattle.table.specs.Judge.{Accepted}
@@ -15,9 +16,10 @@ use Rattle.table.specs.declared.Header.{Header}
 use Rattle.reader.specs.declared.Span.{Span}
 use Rattle.lexer.specs.declared.Tag.{Tag}
 use Rattle.lexer.specs.Attrs.{attrsIn}
+use Rattle.lexer.specs.Whole.{isWholeName}
 use Rattle.reader.specs.declared.Binding.{Binding}
 use Rattle.reader.specs.declared.Found.{Found}
-use Rattle.reader.specs.Spans.{wholeSpan, partSpan}
+use Rattle.reader.specs.Spans.{span, bytesOf, wholeSpan, partSpan}
 use Rattle.reader.specs.Namespaces.{ReadAttribute, attribute}
 use Rattle.reader.specs.Events.{Start}
 use Rattle.reader.specs.Stored.{narrowed, bindingNumbers, Coded, coded, storedSpace}
@@ -44,6 +46,7 @@ use Rattle.dispatcher.specs.Stepping.{Step, answered}
 use Rattle.dispatcher.specs.declared.Session.{Session}
 use Rattle.dispatcher.specs.declared.Head.{Head}
 use Rattle.dispatcher.specs.declared.Turn.{Turn}
+use Rattle.dispatcher.specs.declared.Advanced.{Advanced}
 use Rattle.dispatcher.specs.declared.Decided.{Decided}
 
 -- a refusal: the numbers stay
@@ -63,6 +66,18 @@ stepBy r levels bindings spaces strands out =
       output = out;
     }
 
+-- some steps and the arrays behind them, as what an advance hands back
+abbrev pub advancedAnswer : Advanced → Answer
+advancedAnswer r = answered (r .number) (r .place) (r .events) (r .records)
+
+abbrev pub advancedBy : Advanced → List ℕ → List ℕ → List ℕ → List ℕ → List ℕ → Step
+advancedBy r levels bindings spaces strands out =
+    record {
+      answer = advancedAnswer r;
+      session = sessionOf (r .head) levels bindings spaces strands;
+      output = out;
+    }
+
 -- what a text and an end need of the innermost level
 pub record Innermost (s : List ℕ) (head : Head) (levels spaces : List ℕ) : Type 0 where
   pub short : length s ≤ 16777215
@@ -71,6 +86,11 @@ pub record Innermost (s : List ℕ) (head : Head) (levels spaces : List ℕ) : T
   pub few-strands : getD spaces (4 * (head .depth - 1) + 3) 0 ≤ 16
   pub class : getD spaces (4 * (head .depth - 1)) 0 < 256
   pub name : SpanHeld s (nameIn levels (head .depth - 1))
+  pub whole : isWholeName (bytesOf s (nameIn levels (head .depth - 1))) ≡ true
+
+-- the bytes of a name and a > stand at a place
+abbrev pub closesAt : List ℕ → ℕ → Span → Bool
+closesAt s at name = peek false s (at + name .len) (λ (b : ℕ). eqb b 0x3E && sameList (bytesOf s (span at (name .len))) (bytesOf s name))
 
 -- the record of an end of a level, its unit left out
 abbrev pub endRow : Span → List ℕ → ℕ → Row
@@ -104,6 +124,13 @@ pub record TurnReady (table : List ℕ) (header : Header) (index s : List ℕ) (
   pub index-is : index ≡ indexOf table header
   pub short : length s ≤ 16777215
   pub coherent′ : coherent (decode table) s z ≡ true
+
+-- the session's arrays have the lengths of their types
+pub record Sized (levels bindings spaces strands : List ℕ) : Type 0 where
+  pub levels-long : length levels ≡ 192
+  pub bindings-long : length bindings ≡ 256
+  pub spaces-long : length spaces ≡ 256
+  pub strands-long : length strands ≡ 1024
 
 -- ---- a start
 -- the start that a tag makes, with its own declarations, the open ones and the codes of its attributes as the arrays have them

@@ -2,8 +2,9 @@
 use crate::Head;
 use crate::Session;
 use crate::Turn;
-use crate::turns::stop;
-use crate::turns::stopped;
+use crate::steps::stop;
+use crate::steps::stopped;
+use compare::same;
 use lexer::EndTag;
 use lexer::Ended;
 use lexer::Read;
@@ -21,12 +22,14 @@ use strands::events::write_event;
 ghost use mathlib.Core.Path.{_≡_};
 ghost use mathlib.Core.List.{List};
 ghost use mathlib.Core.Bool.{true};
-ghost use Prim.Native.Nat.{ℕ, _+_, _*_, _-_, _≤_, _<_};
+ghost use Prim.Native.Nat.{ℕ, _+_, _*_, _-_, _/_, _≤_, _<_};
 ghost use lib.ListN.{length, getD};
-ghost use lib.Dec.{eqb};
+ghost use lib.Dec.{eqb, ltb};
+ghost use Rattle.laws.specs.Gather.{total};
 ghost use Rattle.table.specs.Table.{Table};
 ghost use Rattle.reader.specs.Spans.{between};
 ghost use Rattle.reader.specs.Scope.{opensOf};
+ghost use Rattle.reader.specs.Held.{SpanHeld};
 ghost use Rattle.reader.specs.Events.{textRead, endRead};
 ghost use Rattle.lexer.specs.Values.{textEnd};
 ghost use Rattle.lexer.specs.Tags.{endTagAt};
@@ -35,10 +38,11 @@ ghost use Rattle.model.specs.Tree.{text, end};
 ghost use Rattle.model.specs.Stream.{written};
 ghost use Rattle.model.specs.Records.{textBody};
 ghost use Rattle.model.specs.Dispatch.{dispatch};
-ghost use Rattle.strands.specs.Writing.{rowFor};
+ghost use Rattle.strands.specs.Packed.{wordsAt};
+ghost use Rattle.strands.specs.Writing.{rowFor, eventCount};
 ghost use Rattle.dispatcher.specs.Sessions.{sessionOf, readerOf, stateOf, withPlace, withEnd};
 ghost use Rattle.dispatcher.specs.Stepping.{planBy, planOf, planned, eventStep};
-ghost use Rattle.dispatcher.specs.Turns.{Innermost, endRow, closedHead, stepBy};
+ghost use Rattle.dispatcher.specs.Turns.{Innermost, closesAt, endRow, closedHead, stepBy};
 
 // A number of a level's space: 0 its class, 1 and 2 its URI's place and length, 3 how many strands it has.
 pub fn space_at(spaces: &[u32; 4 * Session::DEPTH], level: usize, k: usize) -> u32
@@ -54,6 +58,23 @@ pub fn count_at(spaces: &[u32; 4 * Session::DEPTH], level: usize) -> usize
     ensures { λ r. ⌜ r ≡ getD (now (spaces .entry)) (4 * level + 3) 0 ⌝ }
 {
     space_at(spaces, level, 3) as usize
+}
+
+// Is an output of this length too short for the records of n strands of a level? They are counted where two for each would not fit.
+fn is_full(
+    len: usize,
+    strands: &[u32; Session::STRANDS * Session::DEPTH],
+    level: usize,
+    n: usize,
+    closes: bool,
+) -> bool
+    requires { ⌜ (level < 64) × (n ≤ 16) ⌝ }
+    ensures { λ r. ⌜ r ≡ ltb (len / 16) (total (eventCount closes) (wordsAt (now (strands .entry)) level n)) ⌝ }
+{
+    if len >= 32 * n {
+        return false;
+    }
+    len / 16 < event_count(strands, level, n, closes)
 }
 
 fn text_row(at: usize, end: usize) -> Row
@@ -89,11 +110,10 @@ fn text_event(
 {
     let level = head.depth - 1;
     let n = count_at(spaces, level);
-    let records = event_count(strands, level, n, false);
-    if out.len() / 16 < records {
+    if is_full(out.len(), strands, level, n, false) {
         return stop(25, at, head);
     }
-    write_event(strands, level, n, text_row(at, end), false, out);
+    let used = write_event(strands, level, n, text_row(at, end), false, out);
     let next = Head {
         place: end,
         units: head.units,
@@ -105,7 +125,7 @@ fn text_event(
     Turn {
         number: 0,
         place: end,
-        records,
+        records: used / 16,
         head: next,
     }
 }
@@ -185,15 +205,14 @@ fn end_event(
 {
     let level = head.depth - 1;
     let n = count_at(spaces, level);
-    let records = event_count(strands, level, n, true);
-    if out.len() / 16 < records {
+    if is_full(out.len(), strands, level, n, true) {
         return stop(25, at, head);
     }
-    write_event(strands, level, n, end_row(part, spaces, level), true, out);
+    let used = write_event(strands, level, n, end_row(part, spaces, level), true, out);
     Turn {
         number: 0,
         place,
-        records,
+        records: used / 16,
         head: closed_head(head, place, levels),
     }
 }
@@ -266,7 +285,24 @@ fn named_end(
     end_event(part, at, tag.next, head, levels, spaces, strands, out)
 }
 
-// The end tag whose < stands at a place.
+// Do the bytes of a name of the scene and a > stand at a place?
+fn closes(scene: &[u8], at: usize, name: Span) -> bool
+    requires { ⌜ (length (now scene) ≤ 16777215) × (at ≤ length (now scene)) × SpanHeld (now scene) name ⌝ }
+    ensures { λ r. ⌜ r ≡ closesAt (now (scene .entry)) at name ⌝ }
+{
+    let end = at + name.len;
+    if scene.len() <= end {
+        return false;
+    }
+    if scene[end] != b'>' {
+        return false;
+    }
+    let from = name.at;
+    let to = from + name.len;
+    same(&scene[at..end], &scene[from..to])
+}
+
+// The end tag whose < stands at a place: the innermost open name and a >, or what is read there.
 pub fn end_turn(
     scene: &[u8],
     at: usize,
@@ -284,6 +320,23 @@ pub fn end_turn(
         ≡ planned (planBy t s z (endRead s at (opensOf (z .scope)) (endTagAt s (at + 2)))) z (now (out .entry))
         )) ⌝ }
 {
+    let open = name_in(levels, head.depth - 1);
+    if closes(scene, at + 2, open) {
+        let name = Span {
+            at: at + 2,
+            len: open.len,
+        };
+        return end_event(
+            part_in(scene, name),
+            at,
+            at + 3 + open.len,
+            head,
+            levels,
+            spaces,
+            strands,
+            out,
+        );
+    }
     match end_tag(scene, at + 2) {
         Ended::Got(tag) => named_end(scene, at, tag, head, levels, spaces, strands, out),
         Ended::Stopped(x) => stopped(scene, x, head),

@@ -1,18 +1,16 @@
-// The dispatcher: a session, its steps, and a run.
+// The dispatcher: a session, its steps, one and many, and a run.
 mod coherence;
 mod decisions;
 mod ends;
 mod opening;
 mod pushes;
 mod starts;
-mod turns;
+mod steps;
 
-use crate::coherence::coherent;
-use crate::turns::one_turn;
+use crate::steps::steps_from;
 use reader::Scope;
 use table::Answer;
 use table::Header;
-use table::index::load;
 use table::judge;
 use table::words::header_of;
 ghost use mathlib.Core.Path.{_≡_};
@@ -21,9 +19,9 @@ ghost use Prim.Native.Nat.{_+_, _*_, _≤_};
 ghost use lib.ListN.{length};
 ghost use Rattle.table.specs.Table.{headerOf};
 ghost use Rattle.table.specs.Judge.{Accepted};
-ghost use Rattle.dispatcher.specs.Sessions.{freshOf};
-ghost use Rattle.dispatcher.specs.Stepping.{answered, stepOf, handed, runFrom, runOf, ran};
-ghost use Rattle.dispatcher.specs.Turns.{turnAnswer};
+ghost use Rattle.dispatcher.specs.Sessions.{freshOf, headOf, sessionOf};
+ghost use Rattle.dispatcher.specs.Stepping.{answered, stepOf, advanceOf, handed, runOf, ran};
+ghost use Rattle.dispatcher.specs.Turns.{advancedAnswer};
 
 // Where a run over a scene is. A caller may hand in any: number 20 judges it.
 pub struct Session {
@@ -56,6 +54,15 @@ pub(crate) struct Head {
 pub(crate) struct Turn {
     pub number: u8,
     pub place: usize,
+    pub records: usize,
+    pub head: Head,
+}
+
+// What some steps give: the last one's number and place, how many events and records, and the session's numbers behind them.
+pub(crate) struct Advanced {
+    pub number: u8,
+    pub place: usize,
+    pub events: usize,
     pub records: usize,
     pub head: Head,
 }
@@ -107,6 +114,19 @@ impl Session {
     pub fn step(self, table: &[u8], scene: &[u8], out: &mut [u8]) -> Stepped
         ensures { λ r. ⌜ handed r (now (out .exit)) ≡ stepOf (now (table .entry)) (now (scene .entry)) self (now (out .entry)) ⌝ }
     {
+        self.advance(table, scene, 1, out)
+    }
+
+    // At most so many steps, records joined, until a step's number is not 0. With none nothing is judged.
+    pub fn advance(self, table: &[u8], scene: &[u8], most: usize, out: &mut [u8]) -> Stepped
+        ensures { λ r. ⌜ handed r (now (out .exit)) ≡ advanceOf most (now (table .entry)) (now (scene .entry)) self (now (out .entry)) ⌝ }
+    {
+        if most == 0 {
+            return Stepped {
+                answer: refusal(0, self.place),
+                session: self,
+            };
+        }
         let judged = judge(table);
         if judged.number != 0 {
             return Stepped {
@@ -120,73 +140,80 @@ impl Session {
                 session: self,
             };
         }
-        self.next(table, header_of(table), scene, out)
+        self.next(table, header_of(table), scene, most, out)
     }
 
-    // The same with a table that is accepted and a scene that is not too long.
-    fn next(self, table: &[u8], header: Header, scene: &[u8], out: &mut [u8]) -> Stepped
-        requires { ⌜ (Accepted (now table) ≡ true) × (header ≡ headerOf (now table)) × (length (now scene) ≤ 16777215) ⌝ }
-        ensures { λ r. ⌜ handed r (now (out .exit)) ≡ stepOf (now (table .entry)) (now (scene .entry)) self (now (out .entry)) ⌝ }
+    // The same with a table that is accepted, a scene that is not too long and some step to take.
+    fn next(
+        self,
+        table: &[u8],
+        header: Header,
+        scene: &[u8],
+        most: usize,
+        out: &mut [u8],
+    ) -> Stepped
+        requires { ⌜ (Accepted (now table) ≡ true) × (header ≡ headerOf (now table)) × (length (now scene) ≤ 16777215) × (1 ≤ most) ⌝ }
+        ensures { λ r. ⌜ handed r (now (out .exit)) ≡ advanceOf most (now (table .entry)) (now (scene .entry)) self (now (out .entry)) ⌝ }
     {
-        let head = Head {
+        let mut levels = self.scope.levels;
+        let mut bindings = self.scope.bindings;
+        let mut spaces = self.spaces;
+        let mut strands = self.strands;
+        let advanced = steps_from(
+            table,
+            header,
+            scene,
+            self.head(),
+            &mut levels,
+            &mut bindings,
+            &mut spaces,
+            &mut strands,
+            most,
+            out,
+        );
+        Stepped {
+            answer: answer_of(advanced),
+            session: Session::of(advanced.head, levels, bindings, spaces, strands),
+        }
+    }
+
+    // Its numbers.
+    fn head(self) -> Head
+        ensures { λ r. ⌜ r ≡ headOf self ⌝ }
+    {
+        Head {
             place: self.place,
             units: self.units,
             closed: self.closed,
             awaited: self.awaited,
             depth: self.scope.depth,
             bound: self.scope.bound,
-        };
-        let mut levels = self.scope.levels;
-        let mut bindings = self.scope.bindings;
-        let mut spaces = self.spaces;
-        let mut strands = self.strands;
-        if !coherent(
-            table,
-            header,
-            scene,
-            head,
-            &levels,
-            &bindings,
-            &spaces,
-            &strands,
-        ) {
-            return Stepped {
-                answer: refusal(20, 0),
-                session: self,
-            };
         }
-        let index = load(table, header);
-        let turn = one_turn(
-            table,
-            header,
-            &index,
-            scene,
-            head,
-            &mut levels,
-            &mut bindings,
-            &mut spaces,
-            &mut strands,
-            out,
-        );
-        let last = turn.head;
-        let scope = Scope {
-            depth: last.depth,
-            bound: last.bound,
-            levels,
-            bindings,
-        };
-        let session = Session {
-            place: last.place,
-            units: last.units,
-            closed: last.closed,
-            awaited: last.awaited,
-            scope,
+    }
+
+    // Numbers and arrays, put together.
+    fn of(
+        head: Head,
+        levels: [u32; 3 * Session::DEPTH],
+        bindings: [u32; 4 * Session::BINDINGS],
+        spaces: [u32; 4 * Session::DEPTH],
+        strands: [u32; Session::STRANDS * Session::DEPTH],
+    ) -> Session
+        ensures { λ r. ⌜ r ≡ sessionOf head levels bindings spaces strands ⌝ }
+    {
+        Session {
+            place: head.place,
+            units: head.units,
+            closed: head.closed,
+            awaited: head.awaited,
+            scope: Scope {
+                depth: head.depth,
+                bound: head.bound,
+                levels,
+                bindings,
+            },
             spaces,
             strands,
-        };
-        Stepped {
-            answer: answer_of(turn),
-            session,
         }
     }
 }
@@ -203,23 +230,15 @@ fn refusal(number: u8, place: usize) -> Answer
     }
 }
 
-// What a turn answers: one event where its number is 0.
-fn answer_of(turn: Turn) -> Answer
-    ensures { λ r. ⌜ r ≡ turnAnswer turn ⌝ }
+// What some steps answer.
+fn answer_of(advanced: Advanced) -> Answer
+    ensures { λ r. ⌜ r ≡ advancedAnswer advanced ⌝ }
 {
-    if turn.number == 0 {
-        return Answer {
-            number: 0,
-            place: turn.place,
-            events: 1,
-            records: turn.records,
-        };
-    }
     Answer {
-        number: turn.number,
-        place: turn.place,
-        events: 0,
-        records: turn.records,
+        number: advanced.number,
+        place: advanced.place,
+        events: advanced.events,
+        records: advanced.records,
     }
 }
 
@@ -227,70 +246,16 @@ fn answer_of(turn: Turn) -> Answer
 pub fn run(table: &[u8], scene: &[u8], out: &mut [u8]) -> Answer
     ensures { λ r. ⌜ ran r (now (out .exit)) ≡ runOf (now (table .entry)) (now (scene .entry)) (now (out .entry)) ⌝ }
 {
-    let judged = judge(table);
-    if judged.number != 0 {
-        return refusal(judged.number, judged.place);
-    }
-    if Session::LONGEST < scene.len() {
-        return refusal(7, 0);
-    }
-    run_on(table, header_of(table), scene, out)
+    let stepped = Session::fresh().advance(table, scene, steps_within(scene), out);
+    stepped.answer
 }
 
-// The same with a table that is accepted and a scene that is not too long. Each turn is lent the rest of the output.
-fn run_on(table: &[u8], header: Header, scene: &[u8], out: &mut [u8]) -> Answer
-    requires { ⌜ (Accepted (now table) ≡ true) × (header ≡ headerOf (now table)) × (length (now scene) ≤ 16777215) ⌝ }
-    ensures { λ r. ⌜ ran r (now (out .exit)) ≡ runFrom (2 * length (now (scene .entry)) + 2) (now (table .entry)) (now (scene .entry)) freshOf (now (out .entry)) 0 0 0 ⌝ }
+// So many steps suffice. A scene that is too long is refused by the first.
+fn steps_within(scene: &[u8]) -> usize
+    ensures { λ r. ⌜ (1 ≤ r) × (length (now (scene .entry)) ≤ 16777215 → r ≡ 2 * length (now (scene .entry)) + 2) ⌝ }
 {
-    let index = load(table, header);
-    let mut levels: [u32; 3 * Session::DEPTH] = [0; 3 * Session::DEPTH];
-    let mut bindings: [u32; 4 * Session::BINDINGS] = [0; 4 * Session::BINDINGS];
-    let mut spaces: [u32; 4 * Session::DEPTH] = [0; 4 * Session::DEPTH];
-    let mut strands: [u32; Session::STRANDS * Session::DEPTH] = [0; Session::STRANDS
-        * Session::DEPTH];
-    let mut head = Head {
-        place: 0,
-        units: 0,
-        closed: false,
-        awaited: false,
-        depth: 0,
-        bound: 0,
-    };
-    let mut used = 0;
-    let mut events = 0;
-    let mut records = 0;
-    let most = 2 * scene.len() + 2;
-    while events < most {
-        let turn = one_turn(
-            table,
-            header,
-            &index,
-            scene,
-            head,
-            &mut levels,
-            &mut bindings,
-            &mut spaces,
-            &mut strands,
-            &mut out[used..],
-        );
-        let number = turn.number;
-        if number != 0 {
-            return Answer {
-                number,
-                place: turn.place,
-                events,
-                records,
-            };
-        }
-        head = turn.head;
-        used += 16 * turn.records;
-        records += turn.records;
-        events += 1;
+    if Session::LONGEST < scene.len() {
+        return 1;
     }
-    Answer {
-        number: 0,
-        place: head.place,
-        events,
-        records,
-    }
+    2 * scene.len() + 2
 }

@@ -7,7 +7,7 @@ use crate::pushes::opened_head;
 use crate::pushes::push_level;
 use crate::pushes::push_space;
 use crate::pushes::push_strands;
-use crate::turns::stop;
+use crate::steps::stop;
 use lexer::Tag;
 use reader::Span;
 use reader::kinds::minus;

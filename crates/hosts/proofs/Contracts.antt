@@ -1,5 +1,6 @@
--- What a caller learns from the contracts of calcivorne_fresh and calcivorne_step is that they hand back `hostFresh` and `hostStep`.
--- Lifetimes κs, parameters a, result r, parameters at exit e: table, scene, session, out and answer, in this order; fresh has the session alone.
+-- What a caller learns from the contracts of calcivorne_fresh, calcivorne_step and calcivorne_advance is that they hand back `hostFresh`, `hostStep` and
+-- `hostAdvance`. Lifetimes κs, parameters a, result r, parameters at exit e: table, scene, session, out and answer, in this order; fresh has the session
+-- alone, advance the number of steps behind the session.
 use mathlib.Core.Path.{_≡_}
 use contract.Lifetimes.{Lfts}
 use denote.Ref.{now}
@@ -9,7 +10,9 @@ use Rattle.capi.proofs.calcivorne_fresh as freshes
 use Rattle.capi.proofs.calcivorne_fresh.Reads as fresh-reads
 use Rattle.capi.proofs.calcivorne_step as steps
 use Rattle.capi.proofs.calcivorne_step.Reads as step-reads
-use Rattle.hosts.specs.Calls.{hostFresh, hostStep}
+use Rattle.capi.proofs.calcivorne_advance as advances
+use Rattle.capi.proofs.calcivorne_advance.Reads as advance-reads
+use Rattle.hosts.specs.Calls.{hostFresh, hostStep, hostAdvance}
 
 -- the number and the session's bytes that it hands back
 pub fresh-contract : (κs : Lfts 1) (a : ArgsD freshes.signature κs) (r : ResD freshes.signature κs) (e : AtExit freshes.ended κs) → fresh-reads.Learnt κs a r e →
@@ -23,3 +26,9 @@ pub step-contract : (κs : Lfts 5) (a : ArgsD steps.signature κs) (r : ResD ste
     ≡ hostStep (now (a .0)) (now (a .1 .0)) (now (a .1 .1 .0)) (now (a .1 .1 .1 .0)) (now (a .1 .1 .1 .1 .0))
 unfolding hostStep
 step-contract κs a r e h = λ i. record { number = h .0 i; answer = h .1 .0 i; output = h .1 .1 .0 i; session = h .1 .1 .1 i }
+
+pub advance-contract : (κs : Lfts 5) (a : ArgsD advances.signature κs) (r : ResD advances.signature κs) (e : AtExit advances.ended κs) → advance-reads.Learnt κs a r e →
+    record { number = r; answer = now (e .1 .1 .1 .1 .1 .0); output = now (e .1 .1 .1 .1 .0); session = now (e .1 .1 .0) }
+    ≡ hostAdvance (a .1 .1 .1 .0) (now (a .0)) (now (a .1 .0)) (now (a .1 .1 .0)) (now (a .1 .1 .1 .1 .0)) (now (a .1 .1 .1 .1 .1 .0))
+unfolding hostAdvance
+advance-contract κs a r e h = λ i. record { number = h .0 i; answer = h .1 .0 i; output = h .1 .1 .0 i; session = h .1 .1 .1 i }

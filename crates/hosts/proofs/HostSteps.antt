@@ -17,11 +17,11 @@ use Rattle.demands.proofs.Steps.{steps, no-later-byte}
 use Rattle.capi.specs.Layout.{sessionSize}
 use Rattle.capi.specs.Calls.{tooShort}
 use Rattle.hosts.specs.Calls.{HostStep, HostCall, hostFresh, hostSteps, callsOf, acceptedBy, joinedBy}
-use Rattle.hosts.proofs.Told.{Told, fresh-number, fresh-holding, fresh-length, told}
+use Rattle.hosts.proofs.Told.{Told, fresh-number, fresh-holding, fresh-length, told-steps}
 
 -- by the list of steps that the calls tell of
 pub told-fresh : (table b : List ℕ) → sessionSize ≤ length b → (calls : List HostCall) → Told (length b) (hostSteps table (hostFresh b .session) calls) (stepsFrom table freshOf (callsOf calls))
-told-fresh table b long calls = rw (← fresh-length b long) (told table calls (hostFresh b .session) freshOf (fresh-holding b long))
+told-fresh table b long calls = rw (← fresh-length b long) (told-steps table calls (hostFresh b .session) freshOf (fresh-holding b long))
 
 pub host-steps : (table b : List ℕ) (calls : List HostCall) → sessionSize ≤ length b → Growing (callsOf calls) →
     let rs = hostSteps table (hostFresh b .session) calls in

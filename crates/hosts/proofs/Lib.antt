@@ -1,5 +1,6 @@
 pub mod Contracts
-pub mod Refused
+pub mod Answers
 pub mod Told
+pub mod HostCalls
 pub mod HostSteps
 pub mod HostExamples

@@ -1,31 +1,31 @@
--- Calls on bytes that hold a session tell what the steps of that session tell, and leave bytes that hold the session behind them.
+-- Calls on bytes that hold a session tell what the steps and advances of that session tell, and leave bytes that hold the session behind them.
 --     Holding, fresh-holding     bytes and the session in them
---     told                       a list of calls
-use Prim.Native.Nat.{ℕ, suc, _≤_}
+--     told, told-steps           a list of calls; of calls of calcivorne_step alone
+use Prim.Native.Nat.{ℕ, suc, _+_, _≤_}
 use mathlib.Core.Path.{_≡_, refl, sym, ap, subst}
-use mathlib.Core.List.{List, [], _∷_, _++_}
+use mathlib.Core.List.{List, [], _∷_, _++_, map}
 use mathlib.Core.Bool.{Bool, true, false, cond}
 use native.Mathlib.Omega.{arith}
-use borrow.Author.Tests.{le-ltb, eqb-false}
+use borrow.Author.Tests.{le-ltb, eqb-true}
 use lib.Dec.{eqb}
 use lib.ListN.{length}
 use Rattle.laws.specs.Lists.{keep}
-use Rattle.laws.specs.Gather.{gather}
+use Rattle.laws.specs.Gather.{gather, total}
 use Rattle.laws.specs.Members.{All}
 use Rattle.laws.specs.Over.{overwrite}
 use Rattle.laws.proofs.Over.{length-over}
 use Rattle.laws.proofs.Holds.{holds-cond}
 use Rattle.dispatcher.specs.declared.Session.{Session}
 use Rattle.dispatcher.specs.Sessions.{freshOf}
-use Rattle.dispatcher.specs.Stepping.{Step, stepOf}
-use Rattle.demands.specs.Calls.{stepsFrom, isAccepted, acceptedIn, recordsOf, joinedOf}
+use Rattle.dispatcher.specs.Stepping.{Step}
+use Rattle.demands.specs.Calls.{stepsFrom, isAccepted, acceptedIn, recordsOf, joinedOf, AnyCall, ofStep, ofAdvance, handedBack, callsFrom, eventsIn, allRecords}
+use Rattle.demands.proofs.Steps.{asCalls, as-steps}
 use Rattle.capi.specs.Layout.{sessionSize, sessionIn, holdsSession, sessionBytes}
-use Rattle.capi.specs.Calls.{answerNumbers, byteStep, bytesBehind, tooShort}
+use Rattle.capi.specs.Calls.{answerNumbers, byteStep, byteAdvance, bytesBehind, tooShort}
 use Rattle.capi.proofs.RoundTrip.{Storable, AllPack, size, fresh-held}
-use Rattle.capi.proofs.NextHeld.{next-held}
-use Rattle.capi.proofs.NextStored.{next-storable, stored-read, stored-held}
-use Rattle.hosts.specs.Calls.{HostStep, HostCall, hostFresh, hostStep, hostSteps, callsOf, gaveZero, acceptedBy, recordsBy, joinedBy}
-use Rattle.hosts.proofs.Refused.{answers}
+use Rattle.capi.proofs.NextStored.{stored-read, stored-held}
+use Rattle.hosts.specs.Calls.{HostStep, HostCall, hostFresh, hostStep, hostSteps, callsOf, gaveZero, acceptedBy, recordsBy, joinedBy, hostAdvance, AnyHostCall, anyCallsOf, hostBack, hostCalls, eventsBy, allRecordsBy}
+use Rattle.hosts.proofs.Answers.{Answers, answers}
 
 -- b holds the session z
 pub record Holding (b : List ℕ) (z : Session) : Type 0 where
@@ -58,46 +58,46 @@ module _ (b : List ℕ) (long : sessionSize ≤ length b) where
   fresh-length = rw (le-ltb (length b) sessionSize long) (laid-length b long freshOf (fresh-held .0) (fresh-held .1))
 
 -- ---- a call
--- what it tells of a step, and the bytes that it leaves
+-- what it tells of a step or an advance, and the bytes that it leaves
 abbrev telling : Step → List ℕ → HostStep
 telling r b = record { number = r .answer .number; answer = answerNumbers (r .answer); output = r .output; session = b }
 
-module _ (table s b out : List ℕ) (z : Session) (h : Holding b z) where
-  byte-step : byteStep table s b out ≡ stepOf table s z out
-  unfolding byteStep
-  byte-step = rw (h .held, h .read)
+module _ (table b : List ℕ) (z : Session) (h : Holding b z) where
+  host-back : (c : AnyCall) (answer : List ℕ) → hostBack table b c answer ≡ telling (handedBack table z c) (bytesBehind b (handedBack table z c))
+  unfolding hostStep byteStep hostAdvance byteAdvance
+  host-back (ofStep c) answer = rw (le-ltb (length b) sessionSize (h .long), h .held, h .read)
+  host-back (ofAdvance most c) answer = rw (le-ltb (length b) sessionSize (h .long), h .held, h .read)
 
-  host-step : (answer : List ℕ) → hostStep table s b out answer ≡ telling (stepOf table s z out) (bytesBehind b (stepOf table s z out))
-  unfolding hostStep
-  host-step answer = rw (le-ltb (length b) sessionSize (h .long), byte-step)
+  module _ (r : Step) (a : Answers z r) where
+    behind-holding : Holding (bytesBehind b r) (r .session)
+    behind-holding =
+        holds-cond (λ (l : List ℕ). Holding l (r .session)) (eqb (r .answer .events) 0)
+        (λ e. subst (Holding b) (sym (a .keeps (eqb-true (r .answer .events) 0 e))) h)
+        (λ e. laid b (h .long) (r .session) (a .storable (h .storable)) (a .packs (h .packs)))
 
-  behind-holding : Holding (bytesBehind b (stepOf table s z out)) (stepOf table s z out .session)
-  behind-holding =
-      let r = stepOf table s z out in
-      holds-cond (λ (l : List ℕ). Holding l (r .session)) (eqb (r .answer .number) 0)
-      (λ e. laid b (h .long) (r .session) (next-storable table s z out (h .storable)) (next-held table s z out (h .packs)))
-      (λ e. subst (Holding b) (sym (answers table s z out .keeps (eqb-false (r .answer .number) 0 e))) h)
-
-  behind-length : length (bytesBehind b (stepOf table s z out)) ≡ length b
-  behind-length =
-      let r = stepOf table s z out in
-      holds-cond (λ (l : List ℕ). length l ≡ length b) (eqb (r .answer .number) 0)
-      (λ e. laid-length b (h .long) (r .session) (next-storable table s z out (h .storable)) (next-held table s z out (h .packs)))
-      (λ e. refl)
+    behind-length : length (bytesBehind b r) ≡ length b
+    behind-length =
+        holds-cond (λ (l : List ℕ). length l ≡ length b) (eqb (r .answer .events) 0)
+        (λ e. refl)
+        (λ e. laid-length b (h .long) (r .session) (a .storable (h .storable)) (a .packs (h .packs)))
 
 -- ---- a list of calls
 pub record Told (n : ℕ) (hs : List HostStep) (rs : List Step) : Type 0 where
   pub accepted : acceptedBy hs ≡ acceptedIn rs
   pub joined : joinedBy hs ≡ joinedOf rs
+  pub events : eventsBy hs ≡ eventsIn rs
+  pub records : allRecordsBy hs ≡ allRecords rs
   pub numbers : All (λ (r : Step). r .answer .number ≡ 20 → ⊥) rs → All (λ (r : HostStep). (r .number ≡ 20 → ⊥) × (r .number ≡ tooShort → ⊥)) hs
   pub lengths : All (λ (r : HostStep). length (r .session) ≡ n) hs
 
 told-more : (n : ℕ) (r : Step) (b : List ℕ) (hs : List HostStep) (rs : List Step) → r .answer .number ≤ 25 → length b ≡ n → Told n hs rs → Told n (telling r b ∷ hs) (r ∷ rs)
-unfolding joinedBy joinedOf keep gather
+unfolding joinedBy joinedOf keep gather eventsBy eventsIn total allRecordsBy allRecords
 told-more n r b hs rs few l h =
     record {
       accepted = count (eqb (r .answer .number) 0);
       joined = join (eqb (r .answer .number) 0);
+      events = ap (λ (k : ℕ). r .answer .events + k) (h .events);
+      records = ap (λ (l : List ℕ). recordsOf r ++ l) (h .records);
       numbers = λ k. ((k .0, λ e. omega arith), h .numbers (k .1));
       lengths = (l, h .lengths);
     }
@@ -110,14 +110,31 @@ told-more n r b hs rs few l h =
     join true = ap (λ (l : List ℕ). recordsOf r ++ l) (h .joined)
     join false = h .joined
 
-pub told : (table : List ℕ) (calls : List HostCall) (b : List ℕ) (z : Session) → Holding b z → Told (length b) (hostSteps table b calls) (stepsFrom table z (callsOf calls))
-unfolding hostSteps stepsFrom joinedBy joinedOf keep gather
-told table [] b z h = record { accepted = refl; joined = refl; numbers = λ k. tt; lengths = tt }
+pub told : (table : List ℕ) (calls : List AnyHostCall) (b : List ℕ) (z : Session) → Holding b z → Told (length b) (hostCalls table b calls) (callsFrom table z (anyCallsOf calls))
+unfolding hostCalls callsFrom joinedBy joinedOf keep gather eventsBy eventsIn total allRecordsBy allRecords
+told table [] b z h = record { accepted = refl; joined = refl; events = refl; records = refl; numbers = λ k. tt; lengths = tt }
 told table (c ∷ cs) b z h =
-    let s = c .call .scene in
-    let out = c .call .output in
-    let r = stepOf table s z out in
+    let r = handedBack table z (c .call) in
+    let a = answers table z (c .call) in
     let behind = bytesBehind b r in
-    let l : length behind ≡ length b = behind-length table s b out z h in
-    let ih : Told (length b) (hostSteps table behind cs) (stepsFrom table (r .session) (callsOf cs)) = rw (← l) (told table cs behind (r .session) (behind-holding table s b out z h)) in
-    rw (host-step table s b out z h (c .answer)) (told-more (length b) r behind (hostSteps table behind cs) (stepsFrom table (r .session) (callsOf cs)) (answers table s z out .few) l ih)
+    let l : length behind ≡ length b = behind-length table b z h r a in
+    let ih : Told (length b) (hostCalls table behind cs) (callsFrom table (r .session) (anyCallsOf cs)) = rw (← l) (told table cs behind (r .session) (behind-holding table b z h r a)) in
+    rw (host-back table b z h (c .call) (c .answer)) (told-more (length b) r behind (hostCalls table behind cs) (callsFrom table (r .session) (anyCallsOf cs)) (a .few) l ih)
+
+-- ---- calls each of which is a step
+abbrev asHostCalls : List HostCall → List AnyHostCall
+asHostCalls calls = map (λ (c : HostCall). record { call = ofStep (c .call); answer = c .answer }) calls
+
+same-host-calls : (calls : List HostCall) → anyCallsOf (asHostCalls calls) ≡ asCalls (callsOf calls)
+same-host-calls [] = refl
+same-host-calls (c ∷ cs) = ap (λ (l : List AnyCall). ofStep (c .call) ∷ l) (same-host-calls cs)
+
+as-host-steps : (table : List ℕ) (calls : List HostCall) (b : List ℕ) → hostCalls table b (asHostCalls calls) ≡ hostSteps table b calls
+unfolding hostCalls hostSteps
+as-host-steps table [] b = refl
+as-host-steps table (c ∷ cs) b =
+    let r = hostStep table (c .call .scene) b (c .call .output) (c .answer) in
+    ap (λ (l : List HostStep). r ∷ l) (as-host-steps table cs (r .session))
+
+pub told-steps : (table : List ℕ) (calls : List HostCall) (b : List ℕ) (z : Session) → Holding b z → Told (length b) (hostSteps table b calls) (stepsFrom table z (callsOf calls))
+told-steps table calls b z h = rw (same-host-calls calls, as-steps table (callsOf calls) z, as-host-steps table calls b) at (told table (asHostCalls calls) b z h)

@@ -9,8 +9,8 @@ use Rattle.table.specs.Table.{urisFrom}
 use Rattle.table.specs.Judge.{judged, urisFill}
 use Rattle.table.specs.Examples.{T}
 use Rattle.capi.specs.Layout.{holdsSession}
-use Rattle.capi.specs.Calls.{byteStep}
-use Rattle.hosts.specs.Calls.{hostFresh, hostStep}
+use Rattle.capi.specs.Calls.{byteStep, byteAdvance}
+use Rattle.hosts.specs.Calls.{hostFresh, hostStep, hostAdvance}
 
 abbrev A : List ℕ
 A = bytes "<r xmlns=\"u\">a<x/></r>"
@@ -32,3 +32,12 @@ short-step = refl
 no-session : hostStep T A (replicate 7208 0) out before ≡ record { number = 20; answer = 20 ∷ 0 ∷ 0 ∷ 0 ∷ []; output = out; session = replicate 7208 0 }
 unfolding hostStep byteStep holdsSession judged urisFill urisFrom all any anyPair sameList tabulate
 no-session = refl
+
+-- the same where no step is asked for
+short-advance : hostAdvance 0 T A (replicate 7207 0) out before ≡ record { number = 255; answer = before; output = out; session = replicate 7207 0 }
+unfolding hostAdvance
+short-advance = refl
+
+no-session-advanced : hostAdvance 0 T A (replicate 7208 0) out before ≡ record { number = 20; answer = 20 ∷ 0 ∷ 0 ∷ 0 ∷ []; output = out; session = replicate 7208 0 }
+unfolding hostAdvance byteAdvance holdsSession judged urisFill urisFrom all any anyPair sameList tabulate
+no-session-advanced = refl

@@ -1,17 +1,17 @@
--- 'For demand 3', for hosts: what calcivorne_fresh and calcivorne_step hand back, by their contracts; lists of such calls, and the records that they
--- hand out. Definitions.
+-- 'For demand 3', for hosts: what calcivorne_fresh, calcivorne_step and calcivorne_advance hand back, by their contracts; lists of such calls, and the
+-- records that they hand out. Definitions.
 use Prim.Native.Nat.{ℕ, _*_}
 use mathlib.Core.List.{List, [], _∷_, map}
 use mathlib.Core.Bool.{Bool, cond}
 use lib.ListN.{length, getD, take}
 use lib.Dec.{eqb, ltb}
 use Rattle.laws.specs.Lists.{keep}
-use Rattle.laws.specs.Gather.{gather}
+use Rattle.laws.specs.Gather.{gather, total}
 use Rattle.laws.specs.Over.{overwrite}
 use Rattle.dispatcher.specs.Sessions.{freshOf}
-use Rattle.demands.specs.Calls.{Call}
+use Rattle.demands.specs.Calls.{Call, AnyCall, ofStep, ofAdvance}
 use Rattle.capi.specs.Layout.{sessionSize, sessionBytes}
-use Rattle.capi.specs.Calls.{answerNumbers, byteStep, bytesBehind, tooShort}
+use Rattle.capi.specs.Calls.{answerNumbers, byteStep, byteAdvance, bytesBehind, tooShort}
 
 -- What calcivorne_fresh hands back: the number that it returns, and the session's bytes
 pub record HostFresh : Type 0 where
@@ -72,3 +72,42 @@ recordsBy r = take (16 * getD (r .answer) 3 0) (r .output)
 -- "joined is in the list's order"
 unfoldable pub joinedBy : List HostStep → List ℕ
 joinedBy rs = gather recordsBy (keep gaveZero rs)
+
+-- ---- step and advance
+-- what calcivorne_advance hands back, which is what calcivorne_step does: its contract, clause by clause, of the number of steps and the same
+unfoldable pub hostAdvance : ℕ → List ℕ → List ℕ → List ℕ → List ℕ → List ℕ → HostStep
+hostAdvance most table scene session out answer =
+    record {
+      number = cond (ltb (length session) sessionSize) tooShort (byteAdvance most table scene session out .answer .number);
+      answer = cond (ltb (length session) sessionSize) answer (answerNumbers (byteAdvance most table scene session out .answer));
+      output = cond (ltb (length session) sessionSize) out (byteAdvance most table scene session out .output);
+      session = cond (ltb (length session) sessionSize) session (bytesBehind session (byteAdvance most table scene session out));
+    }
+
+-- A host's call of calcivorne_step or of calcivorne_advance: the call, and what comes in as the answer's numbers
+pub record AnyHostCall : Type 0 where
+  pub call : AnyCall
+  pub answer : List ℕ
+
+abbrev pub anyCallsOf : List AnyHostCall → List AnyCall
+anyCallsOf cs = map (λ (c : AnyHostCall). c .call) cs
+
+-- what it hands back of the session's bytes
+abbrev pub hostBack : List ℕ → List ℕ → AnyCall → List ℕ → HostStep
+hostBack table b (ofStep c) answer = hostStep table (c .scene) b (c .output) answer
+hostBack table b (ofAdvance most c) answer = hostAdvance most table (c .scene) b (c .output) answer
+
+-- what the calls hand back: each goes on from the session's bytes that the one before left
+unfoldable pub hostCalls : List ℕ → List ℕ → List AnyHostCall → List HostStep
+hostCalls table b [] = []
+hostCalls table b (c ∷ cs) =
+    let r = hostBack table b (c .call) (c .answer) in
+    r ∷ hostCalls table (r .session) cs
+
+-- "events (steps that gave 0)": of all calls; the answer's third number counts them
+unfoldable pub eventsBy : List HostStep → ℕ
+eventsBy rs = total (λ (r : HostStep). getD (r .answer) 2 0) rs
+
+-- the records of all calls, "joined is in the list's order": an advance that ends with another number than 0 has those of its steps before
+unfoldable pub allRecordsBy : List HostStep → List ℕ
+allRecordsBy rs = gather recordsBy rs

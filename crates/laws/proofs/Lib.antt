@@ -6,3 +6,4 @@ pub mod Members
 pub mod Holds
 pub mod Kept
 pub mod Elementwise
+pub mod Filled

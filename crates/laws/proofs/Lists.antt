@@ -2,7 +2,7 @@
 use Prim.Native.Nat.{ℕ, zero, suc, _+_, _-_, _≤_, _<_}
 use mathlib.Core.Path.{_≡_, refl, sym, ap, _∙_}
 use mathlib.Core.List.{List, [], _∷_, _++_, map}
-use mathlib.Core.Bool.{Bool, true, false, cond, _||_, or-assoc}
+use mathlib.Core.Bool.{Bool, true, false, cond, _||_, or-assoc, or-false}
 use native.Mathlib.Numerals.{add-one}
 use native.Mathlib.Nat.{add-zero}
 use native.Mathlib.Omega.{arith}
@@ -54,18 +54,15 @@ module _ {ℓ} {A : Type ℓ} (f : ℕ → A) (i n : ℕ) (v : Bool) where
       unfolding all
       all-on h e = simp (← inv, tabulate-here f i n h, e)
 
-    module _ (inv : any p (tabulate f i (n - i)) ≡ v) where
-      pub any-done : n ≤ i → false ≡ v
+    -- asked to the end, a being the answer so far
+    module _ (a : Bool) (inv : (a || any p (tabulate f i (n - i))) ≡ v) where
+      pub asked-done : n ≤ i → a ≡ v
       unfolding any
-      any-done h = sym (sym inv ∙ ap (any p) (tabulate-done f i n h))
+      asked-done h = sym (or-false a) ∙ (rw (tabulate-done f i n h) at inv)
 
-      pub any-found : i < n → p (f i) ≡ true → true ≡ v
+      pub asked-on : i < n → (a || p (f i) || any p (tabulate f (i + 1) (n - (i + 1)))) ≡ v
       unfolding any
-      any-found h e = simp (← inv, tabulate-here f i n h, e)
-
-      pub any-on : i < n → p (f i) ≡ false → any p (tabulate f (i + 1) (n - (i + 1))) ≡ v
-      unfolding any
-      any-on h e = simp (← inv, tabulate-here f i n h, e)
+      asked-on h = or-assoc a (p (f i)) (any p (tabulate f (i + 1) (n - (i + 1)))) ∙ (rw (tabulate-here f i n h) at inv)
 
   module _ (p : A → A → Bool) (inv : anyPair p (tabulate f i (n - i)) ≡ v) where
     pub pair-done : n ≤ i → false ≡ v

@@ -16,7 +16,7 @@ use Rattle.laws.specs.Lists.{all}
 use Rattle.laws.specs.Reading.{go, run, run-stop, run-go}
 use Rattle.laws.specs.Tests.{untold, tests}
 use Rattle.laws.proofs.Flags.{and-left, and-right}
-use Rattle.words.specs.Plain.{isPlain, plainBytes}
+use Rattle.lanes.specs.Plain.{isPlain, plainBytes}
 use Rattle.lexer.specs.Values.{isText, referenceEnd, referred, valueStep, valueEnd, textEnd}
 use Rattle.lexer.specs.declared.Stop.{Stop}
 use Rattle.lexer.specs.declared.Stop.the-variants.{Bad, Cut}

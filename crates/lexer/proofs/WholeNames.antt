@@ -1,24 +1,30 @@
 -- What was read as a part or as a name is one as a whole: its own bytes, wherever they stand, with a byte behind that ends them, are read the same.
+--     part-moved, name-moved      the same bytes at another place
+--     whole-part, whole-name      what was read is a part, a name as a whole
+--     name-here, end-tag-here     a name as a whole, where it stands with a > behind
 use Prim.Native.Nat.{ℕ, _+_, _-_, _≤_, _<_}
 use mathlib.Core.Path.{_≡_, refl, sym, ap, subst, _∙_}
 use mathlib.Core.List.{List, [], _∷_, _++_}
 use mathlib.Core.Bool.{true, false}
-use mathlib.Core.Logic.{_⊎_, ⊎-elim}
+use mathlib.Core.Logic.{⊎-elim}
 use native.Mathlib.Omega.{arith}
-use native.Mathlib.Nat.{add-assoc, add-zero}
-use borrow.Author.Tests.{eq-eqb, lt-ltb}
+use native.Mathlib.Nat.{add-assoc, add-zero, zero-add}
+use borrow.Author.Tests.{eq-eqb, lt-ltb, eqb-true}
 use lib.ListN.{length, take, drop, getD, length-append, length-drop, List·getD-append}
 use lib.Seq.{length-take-le, getD-take, getD-drop, getD-at}
 use lib.Dec.{eqb, ltb}
 use Rattle.laws.specs.Reading.{go, run, run-go, run-stop}
 use Rattle.laws.proofs.Holds.{holds-cond, Turned, run-held}
-use Rattle.lexer.specs.Names.{isName, startLen, nameLen, partStep, partEnd, prefixedAt, nameAt}
-use Rattle.lexer.specs.Whole.{isPart, isWholeName}
+use Rattle.lexer.specs.Names.{spaceStep, spacesEnd, isName, startLen, nameLen, partStep, partEnd, prefixedAt, nameAt}
+use Rattle.lexer.specs.Tags.{wanted, endTagAt}
+use Rattle.lexer.specs.Whole.{nameTo, isPart, isWholeName}
 use Rattle.lexer.specs.declared.Stop.the-variants.{Cut}
 use Rattle.lexer.specs.declared.Read.{Read}
 use Rattle.lexer.specs.declared.Read.the-variants as read
 use Rattle.lexer.specs.declared.Name.{Name}
+use Rattle.lexer.specs.declared.Named.{Named}
 use Rattle.lexer.specs.declared.Named.the-variants as named
+use Rattle.lexer.specs.declared.Ended.the-variants as ended
 use Rattle.lexer.proofs.Inside.{ReadInside, PartTo, part-inside, PrefixTo, NameInside, NamedInside, name-inside}
 use Rattle.lexer.proofs.Stable.{start-same, name-same}
 
@@ -66,85 +72,115 @@ ends-part : (s : List ℕ) (i b : ℕ) → getD s i 0 ≡ b → isName b ≡ fal
 unfolding nameLen
 ends-part s i b e f = holds-cond (λ (x : ℕ). x ≡ 0) (ltb i (length s)) (λ h. simp (e, f)) (λ h. refl)
 
--- the bytes from a place up to another, and a byte behind that no name has
-module _ (s : List ℕ) (at end : ℕ) (le : at ≤ end) (hi : end < length s) where
+-- a name at a place of s; the same bytes at a place of s′, and a byte behind them there that goes on with no name and is no colon
+module _ (s s′ : List ℕ) (at at′ : ℕ) (n : Name) (h : NameInside s at n) (in-s′ : at′ + (n .end - at) < length s′) (same : (k : ℕ) → k < n .end - at → getD s′ (at′ + k) 0 ≡ getD s (at + k) 0)
+    (b : ℕ) (ends : getD s′ (at′ + (n .end - at)) 0 ≡ b) (no-name : isName b ≡ false) (no-colon : eqb b 0x3A ≡ false) where
+  -- a part that stands in there
+  part-within : (from to : ℕ) → at ≤ from → from ≤ to → to ≤ n .end → nameLen s′ (at′ + (to - at)) ≡ 0 → partEnd s from ≡ read.End to → partEnd s′ (at′ + (from - at)) ≡ read.End (at′ + (to - at))
+  part-within from to lo mid up closed e =
+      let x : from + (to - from) ≡ to = omega arith in
+      let y : at′ + (from - at) + (to - from) ≡ at′ + (to - at) = omega arith in
+      part-moved s s′ from (at′ + (from - at)) (to - from) (omega (arith, h .inside)) (omega arith) moved (rw y closed) (rw x e) ∙ ap read.End y
+    where
+      moved : (k : ℕ) → k < to - from → getD s′ (at′ + (from - at) + k) 0 ≡ getD s (from + k) 0
+      moved k lt =
+          let x : at′ + (from - at) + k ≡ at′ + (from - at + k) = omega arith in
+          let y : at + (from - at + k) ≡ from + k = omega arith in
+          ap (λ (i : ℕ). getD s′ i 0) x ∙ same (from - at + k) (omega arith) ∙ ap (λ (i : ℕ). getD s i 0) y
+
+  first-within : (to : ℕ) → at ≤ to → to ≤ n .end → nameLen s′ (at′ + (to - at)) ≡ 0 → partEnd s at ≡ read.End to → partEnd s′ at′ ≡ read.End (at′ + (to - at))
+  first-within to lo up closed e =
+      let z : at′ + (at - at) ≡ at′ = omega arith in
+      subst (λ (i : ℕ). partEnd s′ i ≡ read.End (at′ + (to - at))) z (part-within at to (omega arith) lo up closed e)
+
+  name-closed : nameLen s′ (at′ + (n .end - at)) ≡ 0
+  name-closed = ends-part s′ (at′ + (n .end - at)) b ends no-name
+
+  pub name-moved : nameAt s′ at′ ≡ named.Got (record { at = at′; part = at′ + (n .part - at); end = at′ + (n .end - at) })
+  unfolding nameAt prefixedAt
+  name-moved = ⊎-elim alone behind (h .first)
+    where
+      alone : n .part ≡ at → nameAt s′ at′ ≡ named.Got (record { at = at′; part = at′ + (n .part - at); end = at′ + (n .end - at) })
+      alone q =
+          let z : at′ + (n .part - at) ≡ at′ = omega arith in
+          let p : partEnd s′ at′ ≡ read.End (at′ + (n .end - at)) = first-within (n .end) (omega arith) (omega arith) name-closed (ap (partEnd s) (sym q) ∙ h .last) in
+          simp (p, lt-ltb (at′ + (n .end - at)) (length s′) in-s′, ends, no-colon, z)
+
+      behind : PrefixTo s at (n .part) → nameAt s′ at′ ≡ named.Got (record { at = at′; part = at′ + (n .part - at); end = at′ + (n .end - at) })
+      behind f =
+          let i : ℕ = n .part - 1 - at in
+          let back : at + i ≡ n .part - 1 = omega arith in
+          let next : at′ + i + 1 ≡ at′ + (n .part - at) = omega arith in
+          let colon : getD s′ (at′ + i) 0 ≡ 0x3A = same i (omega arith) ∙ ap (λ (k : ℕ). getD s k 0) back ∙ f .2 in
+          let p : partEnd s′ at′ ≡ read.End (at′ + i) = first-within (n .part - 1) (omega arith) (omega arith) (ends-part s′ (at′ + i) 0x3A colon refl) (f .1) in
+          let q : partEnd s′ (at′ + (n .part - at)) ≡ read.End (at′ + (n .end - at)) = part-within (n .part) (n .end) (h .onward) (omega arith) (omega arith) name-closed (h .last) in
+          simp (p, lt-ltb (at′ + i) (length s′) (omega arith), colon, next, q)
+
+-- n bytes from a place on, and a byte behind that no name has
+module _ (s : List ℕ) (at n : ℕ) (hi : at + n < length s) where
   word : List ℕ
-  word = take (end - at) (drop at s)
+  word = take n (drop at s)
 
-  word-length : length word ≡ end - at
+  word-length : length word ≡ n
   unfolding word
-  word-length = length-take-le (end - at) (drop at s) (omega (arith, length-drop at s))
+  word-length = length-take-le n (drop at s) (omega (arith, length-drop at s))
 
-  word-long : length (word ++ (0 ∷ [])) ≡ end - at + 1
-  word-long = length-append word (0 ∷ []) ∙ ap (λ (n : ℕ). n + 1) word-length
+  word-long : length (word ++ (0 ∷ [])) ≡ n + 1
+  word-long = length-append word (0 ∷ []) ∙ ap (λ (k : ℕ). k + 1) word-length
 
-  word-byte : (k : ℕ) → k < end - at → getD (word ++ (0 ∷ [])) k 0 ≡ getD s (at + k) 0
+  word-byte : (k : ℕ) → k < n → getD (word ++ (0 ∷ [])) (0 + k) 0 ≡ getD s (at + k) 0
   unfolding word
   word-byte k lt =
-      List·getD-append word (0 ∷ []) 0 k (rw word-length lt) ∙ getD-take (end - at) (drop at s) k 0 lt ∙ getD-drop at s k 0
+      ap (λ (i : ℕ). getD (word ++ (0 ∷ [])) i 0) (zero-add k) ∙ List·getD-append word (0 ∷ []) 0 k (rw word-length lt) ∙ getD-take n (drop at s) k 0 lt ∙ getD-drop at s k 0
 
-  word-end : getD (word ++ (0 ∷ [])) (end - at) 0 ≡ 0
-  word-end = getD-at word 0 [] 0 (end - at) word-length
+  word-end : getD (word ++ (0 ∷ [])) (0 + n) 0 ≡ 0
+  word-end = ap (λ (i : ℕ). getD (word ++ (0 ∷ [])) i 0) (zero-add n) ∙ getD-at word 0 [] 0 n word-length
 
-  -- a part that stands in there: it ends at a byte that goes on with no name
-  word-part : (from to : ℕ) → at ≤ from → from ≤ to → to ≤ end → nameLen (word ++ (0 ∷ [])) (to - at) ≡ 0 → partEnd s from ≡ read.End to → partEnd (word ++ (0 ∷ [])) (from - at) ≡ read.End (to - at)
-  word-part from to lo mid up ends e =
-      let a : from + (to - from) ≡ to = omega arith in
-      let b : from - at + (to - from) ≡ to - at = omega arith in
-      part-moved s (word ++ (0 ∷ [])) from (from - at) (to - from) (omega arith) (omega (arith, word-long)) same (rw b ends) (rw a e) ∙ ap read.End b
-    where
-      same : (k : ℕ) → k < to - from → getD (word ++ (0 ∷ [])) (from - at + k) 0 ≡ getD s (from + k) 0
-      same k lt =
-          let c : at + (from - at + k) ≡ from + k = omega arith in
-          word-byte (from - at + k) (omega arith) ∙ ap (λ (i : ℕ). getD s i 0) c
-
-  from-start : (to : ℕ) → at ≤ to → to ≤ end → nameLen (word ++ (0 ∷ [])) (to - at) ≡ 0 → partEnd s at ≡ read.End to → partEnd (word ++ (0 ∷ [])) 0 ≡ read.End (to - at)
-  from-start to lo up ends e =
-      let z : at - at ≡ 0 = omega arith in
-      subst (λ (i : ℕ). partEnd (word ++ (0 ∷ [])) i ≡ read.End (to - at)) z (word-part at to (omega arith) lo up ends e)
-
-  word-closed : nameLen (word ++ (0 ∷ [])) (end - at) ≡ 0
-  word-closed = ends-part (word ++ (0 ∷ [])) (end - at) 0 word-end refl
-
-  -- the name that was read, by its own bytes
-  word-name : (part : ℕ) → at ≤ part → part < end → partEnd s part ≡ read.End end → (part ≡ at) ⊎ PrefixTo s at part → nameAt (word ++ (0 ∷ [])) 0 ≡ named.Got (record { at = 0; part = part - at; end = end - at })
-  unfolding nameAt prefixedAt
-  word-name part lo lt e = ⊎-elim alone behind
-    where
-      alone : part ≡ at → nameAt (word ++ (0 ∷ [])) 0 ≡ named.Got (record { at = 0; part = part - at; end = end - at })
-      alone q =
-          let z : part - at ≡ 0 = omega arith in
-          let p : partEnd (word ++ (0 ∷ [])) 0 ≡ read.End (end - at) = from-start end le (omega arith) word-closed (ap (partEnd s) (sym q) ∙ e) in
-          simp (p, lt-ltb (end - at) (length (word ++ (0 ∷ []))) (omega (arith, word-long)), word-end, z)
-
-      behind : PrefixTo s at part → nameAt (word ++ (0 ∷ [])) 0 ≡ named.Got (record { at = 0; part = part - at; end = end - at })
-      behind f =
-          let i : ℕ = part - 1 - at in
-          let back : at + i ≡ part - 1 = omega arith in
-          let next : i + 1 ≡ part - at = omega arith in
-          let colon : getD (word ++ (0 ∷ [])) i 0 ≡ 0x3A = word-byte i (omega arith) ∙ ap (λ (k : ℕ). getD s k 0) back ∙ f .2 in
-          let p : partEnd (word ++ (0 ∷ [])) 0 ≡ read.End i = from-start (part - 1) (omega arith) (omega arith) (ends-part (word ++ (0 ∷ [])) i 0x3A colon refl) (f .1) in
-          let q : partEnd (word ++ (0 ∷ [])) (part - at) ≡ read.End (end - at) = word-part part end lo (omega arith) (omega arith) word-closed e in
-          simp (p, lt-ltb i (length (word ++ (0 ∷ []))) (omega (arith, word-long)), colon, next, q)
-
+-- ---- what was read
 pub whole-part : (s : List ℕ) (at j : ℕ) → partEnd s at ≡ read.End j → isPart (take (j - at) (drop at s)) ≡ true
 unfolding isPart word
 whole-part s at j e =
     let h : PartTo s at j = subst (ReadInside (PartTo s at) s at) e (part-inside s at) in
-    let le : at ≤ j = omega arith in
-    let p : partEnd (word s at j le (h .1) ++ (0 ∷ [])) 0 ≡ read.End (j - at) = from-start s at j le (h .1) j le (omega arith) (word-closed s at j le (h .1)) e in
-    rw p (eq-eqb (j - at) (length (take (j - at) (drop at s))) (sym (word-length s at j le (h .1))))
-
--- read from 0 on, the same name
-pub name-again : (s : List ℕ) (at : ℕ) (n : Name) → nameAt s at ≡ named.Got n → nameAt (take (n .end - n .at) (drop (n .at) s) ++ (0 ∷ [])) 0 ≡ named.Got (record { at = 0; part = n .part - n .at; end = n .end - n .at })
-unfolding word
-name-again s at n e =
-    let h : NameInside s at n = subst (NamedInside (NameInside s at) s at) e (name-inside s at) in
-    let le : at ≤ n .end = omega arith in
-    rw (h .begins) (word-name s at (n .end) le (h .inside) (n .part) (h .onward) (h .some) (h .last) (h .first))
+    let n : ℕ = j - at in
+    let hi : at + n < length s = omega arith in
+    let up : at + n ≡ j = omega arith in
+    let l : List ℕ = word s at n hi ++ (0 ∷ []) in
+    let p : partEnd l 0 ≡ read.End (0 + n) =
+    part-moved s l at 0 n hi (omega (arith, word-long s at n hi)) (word-byte s at n hi) (ends-part l (0 + n) 0 (word-end s at n hi) refl) (rw up e) in
+    rw p (eq-eqb (0 + n) (length (take n (drop at s))) (omega (arith, word-length s at n hi)))
 
 pub whole-name : (s : List ℕ) (at : ℕ) (n : Name) → nameAt s at ≡ named.Got n → isWholeName (take (n .end - n .at) (drop (n .at) s)) ≡ true
-unfolding isWholeName
+unfolding isWholeName word
 whole-name s at n e =
     let h : NameInside s at n = subst (NamedInside (NameInside s at) s at) e (name-inside s at) in
-    rw (name-again s at n e) (eq-eqb (n .end - n .at) (length (take (n .end - n .at) (drop (n .at) s))) (sym (length-take-le (n .end - n .at) (drop (n .at) s) (omega (arith, length-drop (n .at) s)))))
+    let k : ℕ = n .end - at in
+    let hi : at + k < length s = omega arith in
+    let l : List ℕ = word s at k hi ++ (0 ∷ []) in
+    let p = name-moved s l at 0 n h (omega (arith, word-long s at k hi)) (word-byte s at k hi) 0 (word-end s at k hi) refl refl in
+    rw (h .begins, p) (eq-eqb (0 + k) (length (take k (drop at s))) (omega (arith, word-length s at k hi)))
+
+-- ---- a name as a whole, where it stands with a > behind
+module _ (s : List ℕ) (at n : ℕ) (hi : at + n < length s) (whole : isWholeName (take n (drop at s)) ≡ true) (ends : getD s (at + n) 0 ≡ 0x3E) where
+  pub name-here : (part : ℕ) × (nameAt s at ≡ named.Got (record { at = at; part = part; end = at + n }))
+  unfolding isWholeName word
+  name-here = by (nameAt l 0) refl whole
+    where
+      l : List ℕ
+      l = word s at n hi ++ (0 ∷ [])
+
+      by : (r : Named) → nameAt l 0 ≡ r → nameTo (length (word s at n hi)) r ≡ true → (part : ℕ) × (nameAt s at ≡ named.Got (record { at = at; part = part; end = at + n }))
+      by (named.Got m) e f =
+          let h : NameInside l 0 m = subst (NamedInside (NameInside l 0) l 0) e (name-inside l 0) in
+          let k : m .end - 0 ≡ n = omega (arith, eqb-true (m .end) (length (word s at n hi)) f, word-length s at n hi) in
+          let to : at + (m .end - 0) ≡ at + n = omega arith in
+          let p = name-moved l s 0 at m h (omega arith) (λ i lt. sym (word-byte s at n hi i (omega arith))) 0x3E (ap (λ (i : ℕ). getD s i 0) to ∙ ends) refl refl in
+          (at + (m .part - 0), p ∙ ap (λ (i : ℕ). named.Got (record { at = at; part = at + (m .part - 0); end = i })) to)
+      by (named.Stopped x) e f = let z : _≡_ {A = ℕ} 0 1 = cc in absurd (omega arith)
+
+  no-space : spacesEnd s (at + n) ≡ read.End (at + n)
+  unfolding spacesEnd
+  no-space = sym (run-stop (read.Stopped Cut) spaceStep (spacesEnd s (at + n)) 0 s (at + n) refl hi (read.End (at + n)) (rw ends))
+
+  pub end-tag-here : endTagAt s at ≡ ended.Got (record { name = record { at = at; part = name-here .0; end = at + n }; next = at + n + 1 })
+  unfolding endTagAt wanted
+  end-tag-here = rw (name-here .1, no-space, lt-ltb (at + n) (length s) hi, ends)

@@ -1,7 +1,7 @@
 // References, values and texts.
 use crate::Read;
 use crate::Stop;
-use words::plain::plain_end;
+use lanes::plain::plain_end;
 ghost use mathlib.Core.Path.{_≡_};
 ghost use mathlib.Core.Bool.{cond};
 ghost use Prim.Native.Nat.{_≤_};

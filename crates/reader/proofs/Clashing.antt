@@ -1,6 +1,6 @@
 -- Number 6: what the code's tests say of two attributes, and of an array of them.
 --     clash-named, clash-apart, clash-space    two attributes
---     behind-out, behind-turn                  an attribute and those behind it
+--     behind-out, behind-turn, behind-past     an attribute and those behind it
 --     twice-out, twice-turn                    each attribute and those behind it
 use Prim.Native.Nat.{ℕ, zero, suc, _+_, _≤_, _<_}
 use mathlib.Core.Path.{_≡_, refl, sym, ap, _∙_}
@@ -14,10 +14,12 @@ use Rattle.lexer.specs.Attrs.{attrIn, attrsIn}
 use Rattle.lexer.specs.declared.Attr.{Attr}
 use Rattle.reader.specs.Spans.{bytesOf, wholeSpan, partSpan, kindOf}
 use Rattle.reader.specs.Namespaces.{sameNamespace}
-use Rattle.reader.specs.Stored.{atMost, foundIn, storedSpace, isDeclaration, Coded, coded, clashes}
+use Rattle.reader.specs.Stored.{atMost, foundIn, storedSpace, isDeclaration, Coded, coded, codedAt, clashes}
 use Rattle.reader.specs.declared.Found.{Found}
+use Rattle.reader.specs.Keys.{Unlike}
 use Rattle.reader.proofs.Any.{any-out, any-here, pair-out, pair-here}
 use Rattle.reader.proofs.Indexed.{tab-long, tab-at}
+use Rattle.reader.proofs.Keys.{clash-unlike}
 
 module _ (s own open′ : List ℕ) (a : Attr) (x : ℕ) (b : Attr) (y : ℕ) (t : Bool) (et : t ≡ sameList (bytesOf s (wholeSpan (a .name))) (bytesOf s (wholeSpan (b .name)))) where
   pub clash-named : t ≡ true → true ≡ clashes s own open′ (record { attr = a; code = x }) (record { attr = b; code = y })
@@ -62,9 +64,6 @@ coded-at (a ∷ l) [] (suc k) d e h = coded-at l [] k d e (omega arith)
 coded-at (a ∷ l) (c ∷ cs) zero d e h = refl
 coded-at (a ∷ l) (c ∷ cs) (suc k) d e h = coded-at l cs k d e (omega arith)
 
-abbrev pub codedAt : List ℕ → List ℕ → ℕ → Coded
-codedAt array codes k = record { attr = attrIn array k; code = getD codes k 0 }
-
 module _ (array codes : List ℕ) (count most : ℕ) (em : most ≡ atMost 16 count) where
   abbrev all-of : List Coded
   all-of = coded (attrsIn array count) codes
@@ -86,18 +85,19 @@ module _ (array codes : List ℕ) (count most : ℕ) (em : most ≡ atMost 16 co
       pub behind-out : most ≤ j → false ≡ v
       behind-out h = sym (any-out (clashes s own open′ (codedAt array codes i)) all-of j (omega (arith, all-long))) ∙ inv
 
-      pub behind-turn : j < most → (a b : Attr) (x y : ℕ) (r : Bool) → a ≡ attrIn array i → x ≡ getD codes i 0 → b ≡ attrIn array j → y ≡ getD codes j 0
-          → r ≡ clashes s own open′ (record { attr = a; code = x }) (record { attr = b; code = y })
-          → (r || any (clashes s own open′ (codedAt array codes i)) (drop (j + 1) all-of)) ≡ v
-      behind-turn h a b x y r ea ex eb ey e =
-          let q : clashes s own open′ (record { attr = a; code = x }) (record { attr = b; code = y }) ≡ clashes s own open′ (codedAt array codes i) (codedAt array codes j) = rw (ea, ex, eb, ey) in
+      pub behind-turn : j < most → (r : Bool) → r ≡ clashes s own open′ (codedAt array codes i) (codedAt array codes j) → (r || any (clashes s own open′ (codedAt array codes i)) (drop (j + 1) all-of)) ≡ v
+      behind-turn h r e =
           ap (λ (t : Bool). t || any (clashes s own open′ (codedAt array codes i)) (drop (j + 1) all-of))
-          (e ∙ q ∙ ap (clashes s own open′ (codedAt array codes i)) (sym (all-at j (codedAt array codes j) h)))
+          (e ∙ ap (clashes s own open′ (codedAt array codes i)) (sym (all-at j (codedAt array codes j) h)))
           ∙ sym (any-here (clashes s own open′ (codedAt array codes i)) all-of j (codedAt array codes j) (omega (arith, all-long)))
           ∙ inv
 
+      -- a pair that is passed over
+      pub behind-past : j < most → Unlike s (attrIn array i .name) (attrIn array j .name) → any (clashes s own open′ (codedAt array codes i)) (drop (j + 1) all-of) ≡ v
+      behind-past h u = behind-turn h false (clash-unlike s own open′ (codedAt array codes i) (codedAt array codes j) u)
+
     module _ (inv : anyPair (clashes s own open′) (drop i all-of) ≡ v) where
-      pub twice-out : most ≤ i → false ≡ v
+      pub twice-out : most ≤ i + 1 → false ≡ v
       twice-out h = sym (pair-out (clashes s own open′) all-of i (omega (arith, all-long))) ∙ inv
 
       pub twice-turn : i < most → (r : Bool) → r ≡ any (clashes s own open′ (codedAt array codes i)) (drop (i + 1) all-of)

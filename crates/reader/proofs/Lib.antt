@@ -9,6 +9,7 @@ pub mod InForce
 pub mod Numbers
 pub mod Resolving
 pub mod Uris
+pub mod Keys
 pub mod Clashing
 pub mod Whole
 pub mod LaidBack

@@ -6,5 +6,6 @@ pub mod Scope
 pub mod Pushed
 pub mod Counted
 pub mod Held
+pub mod Keys
 pub mod Computing
 pub mod Examples

@@ -9,7 +9,7 @@ use Rattle.laws.specs.Lists.{sameList, any, anyPair, tabulate}
 use Rattle.laws.specs.Gather.{gather}
 use Rattle.lexer.specs.declared.Name.{Name}
 use Rattle.lexer.specs.declared.Attr.{Attr}
-use Rattle.lexer.specs.Attrs.{attrsIn}
+use Rattle.lexer.specs.Attrs.{attrIn, attrsIn}
 use Rattle.reader.specs.Spans.{span, bytesOf, prefixSpan, partSpan, hasPrefix, xmlPrefix, xmlnsPrefix, kindOf}
 use Rattle.reader.specs.Namespaces.{binding, declarationsOf, refusedBinding, Namespace, nothing, xml, declared, sameNamespace, sameName}
 use Rattle.reader.specs.declared.Binding.{Binding}
@@ -132,11 +132,14 @@ pub record Coded : Type 0 where
   pub attr : Attr
   pub code : ℕ
 
--- the k-th attribute of an array, with its code
+-- the attributes of an array with their codes, and the k-th
 abbrev pub coded : List Attr → List ℕ → List Coded
 coded [] codes = []
 coded (a ∷ as′) [] = record { attr = a; code = 0 } ∷ coded as′ []
 coded (a ∷ as′) (c ∷ cs) = record { attr = a; code = c } ∷ coded as′ cs
+
+abbrev pub codedAt : List ℕ → List ℕ → ℕ → Coded
+codedAt array codes k = record { attr = attrIn array k; code = getD codes k 0 }
 
 -- number 6 of two attributes
 unfoldable pub clashes : List ℕ → List ℕ → List ℕ → Coded → Coded → Bool

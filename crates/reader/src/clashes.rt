@@ -13,13 +13,14 @@ use lexer::Attr;
 use lexer::Name;
 use lexer::tags::attr_in;
 ghost use mathlib.Core.Path.{_≡_};
-ghost use Prim.Native.Nat.{_+_, _<_};
-ghost use lib.ListN.{getD, drop};
+ghost use Prim.Native.Nat.{_+_, _≤_, _<_};
+ghost use lib.ListN.{length, getD, drop};
 ghost use Rattle.laws.specs.Lists.{sameList, any};
-ghost use Rattle.lexer.specs.Attrs.{attrIn, attrsIn};
+ghost use Rattle.lexer.specs.Attrs.{attrsIn};
 ghost use Rattle.reader.specs.Spans.{bytesOf, wholeSpan, partSpan, kindOf};
 ghost use Rattle.reader.specs.Namespaces.{uriOf, sameNamespace};
-ghost use Rattle.reader.specs.Stored.{storedSpace, isDeclaration, coded, clashes, twiceIn};
+ghost use Rattle.reader.specs.Stored.{atMost, storedSpace, isDeclaration, coded, codedAt, clashes, twiceIn};
+ghost use Rattle.reader.specs.Keys.{EndsWith, Keys};
 
 // Is this the URI of what was found?
 pub fn has_uri(s: &[u8], own: &[u32; 64], outer: &[u32; 256], f: Found, uri: &[u8]) -> bool
@@ -114,7 +115,60 @@ fn code_at(codes: &[usize], i: usize) -> usize
     0
 }
 
-// Does an attribute behind the i-th clash with it?
+// Do the i-th and the j-th attribute clash?
+fn clash_at(
+    s: &[u8],
+    attrs: &[usize; 80],
+    own: &[u32; 64],
+    outer: &[u32; 256],
+    spaces: &[usize; 16],
+    i: usize,
+    j: usize,
+) -> bool
+    requires { ⌜ (i < 16) × (j < 16) ⌝ }
+    ensures { λ r. ⌜ r ≡ clashes (now (s .entry)) (now (own .entry)) (now (outer .entry)) (codedAt (now (attrs .entry)) (now (spaces .entry)) i) (codedAt (now (attrs .entry)) (now (spaces .entry)) j) ⌝ }
+{
+    let a = attr_in(attrs, i);
+    let b = attr_in(attrs, j);
+    clash(s, own, outer, a, code_at(spaces, i), b, code_at(spaces, j))
+}
+
+// The last byte of a name that stands in the scene, its part not empty; 0 of any other.
+fn last_of(s: &[u8], name: Name) -> u8
+    ensures { λ r. ⌜ ((r ≡ 0 → ⊥) → EndsWith (now (s .entry)) name r) ⌝ }
+{
+    let end = name.end;
+    if end <= name.at {
+        return 0;
+    }
+    if end <= name.part {
+        return 0;
+    }
+    if s.len() < end {
+        return 0;
+    }
+    s[end - 1]
+}
+
+// A key for each of the first `most` attributes: its name's last byte. Where a name has none, all keys are 0.
+fn lay_keys(s: &[u8], attrs: &[usize; 80], most: usize, keys: &mut [u8; 16])
+    requires { ⌜ (most ≤ 16) × (length (now keys) ≡ 16) ⌝ }
+    ensures { λ _. ⌜ Keys (now (s .entry)) (now (attrs .entry)) most (now (keys .exit)) ⌝ }
+{
+    let mut i = 0;
+    while i < most {
+        let a = attr_in(attrs, i);
+        let last = last_of(s, a.name);
+        if last == 0 {
+            *keys = [0; 16];
+            return;
+        }
+        keys[i] = last;
+        i += 1;
+    }
+}
+
+// Does an attribute behind the i-th clash with it? Only those of the same key are looked at.
 fn clash_behind(
     s: &[u8],
     attrs: &[usize; 80],
@@ -122,22 +176,24 @@ fn clash_behind(
     own: &[u32; 64],
     outer: &[u32; 256],
     spaces: &[usize; 16],
+    keys: &[u8; 16],
     i: usize,
 ) -> bool
-    requires { ⌜ i < 16 ⌝ }
+    requires { ⌜ (i < 16) × Keys (now s) (now attrs) (atMost 16 count) (now keys) ⌝ }
     ensures { λ r. ⌜ (
         let array = now (attrs .entry) in
         let codes = now (spaces .entry) in
-        r ≡ any (clashes (now (s .entry)) (now (own .entry)) (now (outer .entry)) (record { attr = attrIn array i; code = getD codes i 0 })) (drop (i + 1) (coded (attrsIn array count) codes))
+        r ≡ any (clashes (now (s .entry)) (now (own .entry)) (now (outer .entry)) (codedAt array codes i)) (drop (i + 1) (coded (attrsIn array count) codes))
         ) ⌝ }
 {
     let most = at_most(16, count);
-    let a = attr_in(attrs, i);
-    let x = code_at(spaces, i);
+    let key = keys[i];
     let mut j = i + 1;
     while j < most {
-        if clash(s, own, outer, a, x, attr_in(attrs, j), code_at(spaces, j)) {
-            return true;
+        if keys[j] == key {
+            if clash_at(s, attrs, own, outer, spaces, i, j) {
+                return true;
+            }
         }
         j += 1;
     }
@@ -156,9 +212,14 @@ pub fn twice(
     ensures { λ r. ⌜ r ≡ twiceIn (now (s .entry)) (now (own .entry)) (now (outer .entry)) (attrsIn (now (attrs .entry)) count) (now (spaces .entry)) ⌝ }
 {
     let most = at_most(16, count);
+    if most < 2 {
+        return false;
+    }
+    let mut keys: [u8; 16] = [0; 16];
+    lay_keys(s, attrs, most, &mut keys);
     let mut i = 0;
-    while i < most {
-        if clash_behind(s, attrs, count, own, outer, spaces, i) {
+    while i + 1 < most {
+        if clash_behind(s, attrs, count, own, outer, spaces, &keys, i) {
             return true;
         }
         i += 1;

@@ -77,14 +77,13 @@ pub fn is_declaration(kind: Kind) -> bool
 fn has_reference(uri: &[u8]) -> bool
     ensures { λ r. ⌜ r ≡ any (λ (b : ℕ). eqb b 0x26) (now (uri .entry)) ⌝ }
 {
+    let mut found = false;
     let mut i = 0;
     while i < uri.len() {
-        if uri[i] == b'&' {
-            return true;
-        }
+        found = found | (uri[i] == b'&');
         i += 1;
     }
-    false
+    found
 }
 
 // Would 5 refuse this declaration?

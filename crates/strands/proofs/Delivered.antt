@@ -1,10 +1,11 @@
 -- What the strands of a level deliver at a text and at an end: the records are the stream's, their count, their rows.
-use Prim.Native.Nat.{ℕ, _+_, _/_, _%_, _^_}
+use Prim.Native.Nat.{ℕ, _+_, _*_, _/_, _%_, _^_, _≤_}
 use mathlib.Core.Path.{_≡_, refl, sym, ap, ap₂, _∙_}
 use mathlib.Core.List.{List, [], _∷_, _++_, map, map-append, append-nil}
 use mathlib.Core.Bool.{Bool, true, false, cond, not, _&&_}
 use mathlib.Core.Option.{Option, none, some}
 use native.Mathlib.Nat.{add-zero}
+use native.Mathlib.Omega.{arith}
 use lib.Dec.{eqb}
 use lib.ListN.{length, length-append, length-map}
 use Rattle.laws.specs.Tests.{untold, untold′}
@@ -56,6 +57,17 @@ unfolding gather total
 events-length b closes [] = refl
 events-length b closes (w ∷ ws) =
     length-append (eventRecords b closes w) (gather (eventRecords b closes) ws) ∙ ap₂ _+_ (event-length b closes w) (events-length b closes ws)
+
+-- at most two for a strand
+pieces-most : (due close : Bool) → cond due (cond close 2 1) 0 ≤ 2
+pieces-most true true = omega arith
+pieces-most true false = omega arith
+pieces-most false close = omega arith
+
+pub events-most : (closes : Bool) (ws : List ℕ) → total (eventCount closes) ws ≤ 2 * length ws
+unfolding total
+events-most closes [] = omega arith
+events-most closes (w ∷ ws) = omega (arith, pieces-most (isUnit (receives (strandIn w))) (closes && strandIn w .here), events-most closes ws)
 
 -- the same by the tests that the code makes
 module _ (closes : Bool) (w : ℕ) (d : Bool) where

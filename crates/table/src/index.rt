@@ -23,7 +23,8 @@ fn up_to(n: usize) -> usize
     128
 }
 
-fn key_of(w: u32) -> u32
+// Mode, kind and class of a rule.
+pub(crate) fn key_of(w: u32) -> u32
     ensures { λ r. ⌜ r ≡ keyOf w ⌝ }
 {
     w >> 18

@@ -1,6 +1,7 @@
 // What judge asks of a table.
 use crate::Fields;
 use crate::Header;
+use crate::index::key_of;
 use crate::uris::behind_rules;
 use crate::uris::listed_from;
 use crate::uris::uri_at;
@@ -9,12 +10,12 @@ use crate::words::word_at;
 use compare::is_xml_uri;
 use compare::part_of;
 ghost use mathlib.Core.Path.{_≡_};
-ghost use Prim.Native.Nat.{ℕ, _-_, _≤_};
+ghost use Prim.Native.Nat.{ℕ, _-_, _≤_, _<_};
 ghost use mathlib.Core.List.{List};
-ghost use lib.ListN.{drop};
+ghost use lib.ListN.{drop, getD};
 ghost use Rattle.laws.specs.Lists.{sameList, any, all, anyPair, tabulate};
-ghost use Rattle.table.specs.Table.{wordAt, wordsOf, urisFrom, urisOf};
-ghost use Rattle.table.specs.Judge.{headerFits, lengthFits, fieldsFit, wordFits, isEmpty, rulesClash, urisClash};
+ghost use Rattle.table.specs.Table.{wordAt, wordsOf, fieldsOf, urisFrom, urisOf};
+ghost use Rattle.table.specs.Judge.{headerFits, lengthFits, fieldsFit, wordFits, isEmpty, keeps, rulesClash, urisClash};
 
 pub(crate) fn header_fits(h: Header) -> bool
     ensures { λ r. ⌜ r ≡ headerFits h ⌝ }
@@ -65,36 +66,56 @@ pub(crate) fn words_fit(table: &[u8], header: Header) -> bool
     true
 }
 
+// Attach or unwrap?
+fn keeps(w: u32) -> bool
+    ensures { λ r. ⌜ r ≡ keeps (fieldsOf w) ⌝ }
+{
+    (w >> 16 & 3) < 2
+}
+
 // Are two rules the same, or both attach or unwrap for one mode, kind and class?
 pub(crate) fn two_clash(v: u32, w: u32) -> bool
     ensures { λ r. ⌜ r ≡ rulesClash v w ⌝ }
 {
-    let f = unpack(v);
-    let g = unpack(w);
-    let key = (f.mode == g.mode) & ((f.kind == g.kind) & (f.class == g.class));
-    (v == w) | key & ((f.action < 2) & (g.action < 2))
+    (v == w) | (key_of(v) == key_of(w)) & (keeps(v) & keeps(w))
+}
+
+// The words of the rules, from the array's first place on.
+fn words_of(table: &[u8], header: Header) -> [u32; 256]
+    ensures { λ r. ⌜ ((k : ℕ) → k < header .rules → getD r k 0 ≡ wordAt (now (table .entry)) k) ⌝ }
+{
+    let mut words: [u32; 256] = [0; 256];
+    let mut k: u8 = 0;
+    while k < header.rules {
+        words[k as usize] = word_at(table, k);
+        k += 1;
+    }
+    words
 }
 
 // Does a rule from the `from`-th on clash with this one?
-pub(crate) fn clash_from(table: &[u8], header: Header, from: u8, w: u32) -> bool
-    ensures { λ r. ⌜ r ≡ any (rulesClash w) (tabulate (wordAt (now (table .entry))) from (header .rules - from)) ⌝ }
+fn clash_from(words: &[u32; 256], rules: usize, from: usize, w: u32) -> bool
+    requires { ⌜ rules ≤ 256 ⌝ }
+    ensures { λ r. ⌜ r ≡ any (rulesClash w) (tabulate (λ (k : ℕ). getD (now (words .entry)) k 0) from (rules - from)) ⌝ }
 {
+    let mut found = false;
     let mut i = from;
-    while i < header.rules {
-        if two_clash(w, word_at(table, i)) {
-            return true;
-        }
+    while i < rules {
+        found = found | two_clash(w, words[i]);
         i += 1;
     }
-    false
+    found
 }
 
 pub(crate) fn rules_clash(table: &[u8], header: Header) -> bool
     ensures { λ r. ⌜ r ≡ anyPair rulesClash (wordsOf (now (table .entry)) header) ⌝ }
 {
-    let mut i: u8 = 0;
-    while i < header.rules {
-        if clash_from(table, header, i + 1, word_at(table, i)) {
+    let rules = header.rules as usize;
+    let words = words_of(table, header);
+    let mut i = 0;
+    while i < rules {
+        let w = words[i];
+        if clash_from(&words, rules, i + 1, w) {
             return true;
         }
         i += 1;

@@ -25,6 +25,18 @@ extern "C" {
         out_len: usize,
         answer: *mut u64,
     ) -> u8;
+    fn calcivorne_advance(
+        table: *const u8,
+        table_len: usize,
+        scene: *const u8,
+        scene_len: usize,
+        session: *mut u8,
+        session_len: usize,
+        most: u64,
+        out: *mut u8,
+        out_len: usize,
+        answer: *mut u64,
+    ) -> u8;
     fn calcivorne_uri(
         table: *const u8,
         table_len: usize,
@@ -136,6 +148,26 @@ pub fn step(table: &[u8], scene: &[u8], session: &mut Lent, out: &mut Lent) -> (
             scene.len(),
             session.as_mut_ptr(),
             session.len(),
+            out.as_mut_ptr(),
+            out.len(),
+            answer.as_mut_ptr(),
+        )
+    };
+    (number, answer)
+}
+
+pub fn advance(table: &[u8], scene: &[u8], session: &mut Lent, most: u64, out: &mut Lent) -> (u8, Four) {
+    let mut answer = NO_ANSWER;
+    let (session, out) = (session.slice(), out.slice());
+    let number = unsafe {
+        calcivorne_advance(
+            table.as_ptr(),
+            table.len(),
+            scene.as_ptr(),
+            scene.len(),
+            session.as_mut_ptr(),
+            session.len(),
+            most,
             out.as_mut_ptr(),
             out.len(),
             answer.as_mut_ptr(),

@@ -62,6 +62,36 @@ pub fn step_as(case: &Case, session: &mut Vec<u8>, out_len: usize, expected: Ans
     *session = after.to_vec();
 }
 
+/// One advance from bytes, which become those of the next session: what as many calls of `step` say, and every byte that they leave.
+pub fn advance(case: &Case, session: &mut Vec<u8>, most: u64, out_len: usize) -> (Answer, Vec<u8>) {
+    let mut lent = Lent::new(session);
+    let mut out = Lent::patterned(out_len);
+    let before = session.clone();
+    let more = || format!("advance by {most} with an output of {out_len} bytes, {}", session_text(&before));
+    let answer = asked::answer(calls::advance(case.table, case.scene, &mut lent, most, &mut out));
+    let (expected, records) = steps(case, session, most, out_len);
+    case.same("number, place, events, records", &expected, &answer, more);
+    case.same_bytes("output", &filled(out_len, &records), out.content(), more);
+    case.same_bytes("session", session, lent.content(), more);
+    (expected, records)
+}
+
+/// Steps until one does not give 0 or so many were taken, each lent the rest of the output. By none nothing is judged but whether there is a session.
+fn steps(case: &Case, session: &mut Vec<u8>, most: u64, out_len: usize) -> (Answer, Vec<u8>) {
+    if most == 0 && !layout::holds(session) {
+        return (refused(case), Vec::new());
+    }
+    let (mut last, mut joined, mut events) = (Answer::bare(0, layout::place(session)), Vec::new(), 0);
+    while last.number == 0 && events < most {
+        let (answer, records) = step(case, session, out_len - joined.len());
+        events += answer.events;
+        joined.extend(records);
+        last = answer;
+    }
+    let records = joined.len() as u64 / 16;
+    (Answer { events, records, ..last }, joined)
+}
+
 /// Bytes that hold no session are answered 20, behind 10, 11, 12 and 7.
 fn expected_step(case: &Case, session: &[u8], out_len: usize) -> (Answer, Option<Session>, Vec<u8>) {
     match layout::decode(session) {

@@ -84,18 +84,28 @@ fn strand_word(strand: &Strand) -> Option<u64> {
     (strand.mode < 32).then_some(strand.mode as u64 | action << 5 | (strand.opened_here as u64) << 7 | target)
 }
 
+/// Whether bytes hold a session, be it one that no step accepts.
+pub fn holds(bytes: &[u8]) -> bool {
+    bytes.len() >= SIZE && bytes[VERSION] == 1 && bytes[CLOSED] < 2 && bytes[AWAITED] < 2 && zero(&bytes[RESERVED..PLACE]) && form_of_levels(bytes)
+}
+
+/// The place that stands in bytes.
+pub fn place(bytes: &[u8]) -> u64 {
+    get8(bytes, PLACE)
+}
+
 /// The session of bytes, if they hold one. None too where a count is past the places, which is refused with 20 like bytes that hold none.
 pub fn decode(bytes: &[u8]) -> Option<Session> {
-    if bytes.len() < SIZE || bytes[VERSION] != 1 || !zero(&bytes[RESERVED..PLACE]) || !form_of_levels(bytes) {
+    if !holds(bytes) {
         return None;
     }
     let depth = count(get8(bytes, DEPTH), LEVELS)?;
     let bound = count(get8(bytes, BOUND), DECLARATIONS)?;
     Some(Session {
-        place: get8(bytes, PLACE),
+        place: place(bytes),
         units: get8(bytes, UNITS),
-        closed: truth(bytes[CLOSED])?,
-        awaited: truth(bytes[AWAITED])?,
+        closed: bytes[CLOSED] == 1,
+        awaited: bytes[AWAITED] == 1,
         bindings: (0..bound).map(|index| get_binding(bytes, index)).collect(),
         levels: (0..depth).map(|index| get_level(bytes, index)).collect::<Option<_>>()?,
     })
@@ -151,14 +161,6 @@ fn get_strand(bytes: &[u8], in_level: usize, index: usize) -> Option<Strand> {
 
 fn zero(bytes: &[u8]) -> bool {
     bytes.iter().all(|&byte| byte == 0)
-}
-
-fn truth(byte: u8) -> Option<bool> {
-    match byte {
-        0 => Some(false),
-        1 => Some(true),
-        _ => None,
-    }
 }
 
 fn count(number: u64, at_most: usize) -> Option<usize> {

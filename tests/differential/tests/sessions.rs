@@ -1,5 +1,5 @@
-//! Sessions that no step handed back: one change for each clause of 20, flipped bits, bytes that hold no session, odd but coherent ones, sessions
-//! given to another table or scene, slices of another length.
+//! Sessions that no call handed back: one change for each clause of 20, flipped bits, bytes that hold no session, odd but coherent ones, sessions
+//! given to another table or scene, slices of another length; given to step and to advance.
 
 use differential::calls::{self, Lent, NO_ANSWER};
 use differential::layout::{self, declaration, level, put4, put8, strand};
@@ -317,7 +317,7 @@ fn every_form_that_holds_no_session() {
 /// 20 for bytes that hold no session stands behind 10, 11, 12 and 7, and before everything else.
 #[test]
 fn bytes_that_hold_no_session() {
-    let mut pace = Pace::new("sessions: bytes that hold none", 17);
+    let mut pace = Pace::new("sessions: bytes that hold none", 15);
     while let Some(seed) = pace.next_seed() {
         let (table, scene) = numbered_case(seed);
         let mut random = Random::new(seed ^ 0x2020);
@@ -332,6 +332,7 @@ fn bytes_that_hold_no_session() {
             for case in [case, case.with_table(&spoilt), case.with_scene(&scene[..cut])] {
                 let out_len = random.below(100);
                 pace.met(checked::step(&case, &mut bytes, out_len).0.number);
+                pace.met(checked::advance(&case, &mut bytes, random.below(3) as u64, out_len).0.number);
             }
         }
     }
@@ -350,6 +351,12 @@ fn no_session_behind_seven() {
         let ask = |table: &[u8], scene: &[u8]| {
             let mut lent = Lent::new(&bytes);
             let answer = asked::answer(calls::step(table, scene, &mut lent, &mut Lent::patterned(9)));
+            for most in [0, 1, 2, u64::MAX] {
+                assert_eq!(
+                    asked::answer(calls::advance(table, scene, &mut lent, most, &mut Lent::patterned(9))),
+                    answer
+                );
+            }
             case.same_bytes("session", &bytes, lent.content(), String::new);
             (answer.number, answer.place, answer.events, answer.records)
         };
@@ -359,11 +366,14 @@ fn no_session_behind_seven() {
     }
 }
 
-/// A step and some more behind it, as long as they are accepted.
+/// A step and some more behind it, as long as they are accepted; half of the calls are advances by up to three.
 fn go_on(pace: &mut Pace, random: &mut Random, case: &Case, mut bytes: Vec<u8>) {
     for _ in 0..4 {
         let out_len = if random.percent(20) { random.below(200) } else { AMPLE / 4 };
-        let answer = checked::step(case, &mut bytes, out_len).0;
+        let answer = match random.percent(50) {
+            true => checked::advance(case, &mut bytes, random.below(4) as u64, out_len).0,
+            false => checked::step(case, &mut bytes, out_len).0,
+        };
         pace.met(answer.number);
         if answer.number != 0 {
             break;
@@ -387,7 +397,7 @@ fn held(seed: u64) -> (Random, Vec<u8>, Vec<u8>, Session) {
 
 #[test]
 fn odd_sessions() {
-    let mut pace = Pace::new("sessions: odd ones", 17);
+    let mut pace = Pace::new("sessions: odd ones", 15);
     while let Some(seed) = pace.next_seed() {
         let (mut random, table, mut scene, session) = held(seed);
         if random.percent(25) {
@@ -419,7 +429,7 @@ fn some_byte(random: &mut Random, session: &Session) -> usize {
 
 #[test]
 fn flipped_bytes() {
-    let mut pace = Pace::new("sessions: flipped bytes", 17);
+    let mut pace = Pace::new("sessions: flipped bytes", 15);
     while let Some(seed) = pace.next_seed() {
         let (mut random, table, scene, session) = held(seed);
         let valid = encoded(&session);
@@ -443,7 +453,7 @@ fn flipped_bytes() {
 /// A session given to another scene or another table: judged with this step's.
 #[test]
 fn another_scene_or_table() {
-    let mut pace = Pace::new("sessions: another scene or table", 17);
+    let mut pace = Pace::new("sessions: another scene or table", 15);
     while let Some(seed) = pace.next_seed() {
         let (mut random, table, scene, session) = held(seed);
         let bytes = encoded(&session);
@@ -527,6 +537,9 @@ fn slices_that_are_too_short() {
             let mut session = Lent::new(&fresh[..len]);
             let mut out = Lent::patterned(100);
             assert_eq!(calls::step(table, b"<r xmlns='u'/>", &mut session, &mut out), (255, NO_ANSWER));
+            for most in [0, 1, u64::MAX] {
+                assert_eq!(calls::advance(table, b"<r xmlns='u'/>", &mut session, most, &mut out), (255, NO_ANSWER));
+            }
             assert!(session.content() == &fresh[..len] && out.content() == calls::pattern(100), "{len}");
         }
         let mut session = Lent::patterned(len);
@@ -552,7 +565,7 @@ fn slices_that_are_longer() {
         let mut bytes = bytes.to_vec();
         let table = t2();
         let case = Case::new("longer slice", 0, &table, b"<r xmlns='u'>a<w xmlns='q'>b<x xmlns='v'/></w>c</r>");
-        let mut events = 0;
+        let mut events = checked::advance(&case, &mut bytes, 3, AMPLE).0.events;
         while checked::step(&case, &mut bytes, AMPLE).0.number == 0 {
             events += 1;
         }

@@ -124,7 +124,7 @@ fn every_cut(pace: &mut Pace, case: Case) {
 
 #[test]
 fn every_cut_of_small_scenes() {
-    let mut pace = Pace::new("steps: every cut of small scenes", 14);
+    let mut pace = Pace::new("steps: every cut of small scenes", 12);
     while let Some(seed) = pace.next_seed() {
         let mut random = Random::new(seed);
         let table = table(&mut random);
@@ -212,7 +212,7 @@ fn refused_steps(pace: &mut Pace, random: &mut Random, case: &Case, model: &Mode
 
 #[test]
 fn random_cuts_with_refused_steps_in_between() {
-    let mut pace = Pace::new("steps: random cuts, refused steps in between", 14);
+    let mut pace = Pace::new("steps: random cuts, refused steps in between", 12);
     while let Some(seed) = pace.next_seed() {
         let (table, scene) = numbered_case(seed);
         if reference::judge(&table).number == 0 {
@@ -224,7 +224,7 @@ fn random_cuts_with_refused_steps_in_between() {
 
 #[test]
 fn random_cuts_of_shapes_at_the_limits() {
-    let mut pace = Pace::new("steps: shapes at the limits", 14);
+    let mut pace = Pace::new("steps: shapes at the limits", 12);
     while let Some(seed) = pace.next_seed() {
         let mut random = Random::new(seed);
         let table = table(&mut random);
@@ -238,7 +238,7 @@ fn random_cuts_of_shapes_at_the_limits() {
 /// Run is steps from fresh that are lent the rest of the output, until one does not give 0.
 #[test]
 fn run_against_steps() {
-    let mut pace = Pace::new("steps: run against them", 14);
+    let mut pace = Pace::new("steps: run against them", 12);
     while let Some(seed) = pace.next_seed() {
         let mut random = Random::new(seed);
         let table = table(&mut random);

@@ -1,59 +1,23 @@
--- `compare::same` meets its contract: at each turn the answer is that of what is left of both.
-use Prim.Native.Nat.{_-_}
-use mathlib.Core.Path.{_≡_, refl}
-use native.Mathlib.Omega.{arith}
+-- `compare::same` meets its contract: lists of two lengths differ.
 use borrow.Author.Needs.{needs}
-use lib.ListN.{length, drop}
-use Rattle.laws.specs.Lists.{sameList}
-use Rattle.compare.proofs.Equal.{unequal, differ, agree, done}
+use Rattle.compare.proofs.Equal.{unequal}
 use Rattle.compare.proofs.same.Statement.{statement}
 use Rattle.compare.proofs.same.Tie as tie
 
-abbrev Inv-loop : tie.InvT-loop
-Inv-loop a b n k₀ k = (n ≡ length a) × (length a ≡ length b) × (sameList (drop k a) (drop k b) ≡ sameList a b)
-
-abbrev μ-loop : tie.MeasureT-loop
-μ-loop a b n k₀ k = n - k
-
-returns : tie.Need-returns Inv-loop μ-loop
+returns : tie.Need-returns
 returns c = search unequal
 
-loop-holds : tie.Need-loop-holds Inv-loop μ-loop
-loop-holds c = (refl, search needs, refl)
+same-bytes-requires : tie.Need-same-bytes-requires
+same-bytes-requires c κs = search needs
 
-shared-slice-read-if2 : tie.Need-shared-slice-read-if2 Inv-loop μ-loop
-shared-slice-read-if2 c = search needs
+returns-2 : tie.Need-returns-2
+returns-2 c = search needs
 
-shared-slice-read-if2-2 : tie.Need-shared-slice-read-if2-2 Inv-loop μ-loop
-shared-slice-read-if2-2 c = search needs
+same-words-requires : tie.Need-same-words-requires
+same-words-requires c κs = search needs
 
-returns-2 : tie.Need-returns-2 Inv-loop μ-loop
-returns-2 c = search differ
-
-add-k : tie.Need-add-k Inv-loop μ-loop
-add-k c = search needs
-
-loop-less : tie.Need-loop-less Inv-loop μ-loop
-loop-less c = search needs
-
-loop-again : tie.Need-loop-again Inv-loop μ-loop
-loop-again c = (search, search, search agree)
-
-returns-3 : tie.Need-returns-3 Inv-loop μ-loop
-returns-3 c = search done
+returns-3 : tie.Need-returns-3
+returns-3 c = search needs
 
 pub same-spec : {M : Type 1} → statement M
-same-spec =
-    tie.close
-    (tie.spec
-    Inv-loop
-    μ-loop
-    returns
-    loop-holds
-    shared-slice-read-if2
-    shared-slice-read-if2-2
-    returns-2
-    add-k
-    loop-less
-    loop-again
-    returns-3)
+same-spec = tie.close (tie.spec returns same-bytes-requires returns-2 same-words-requires returns-3)

@@ -1,75 +1,22 @@
--- `capi::layout::bindings_in` meets its contract: the first i numbers are filled in.
-use mathlib.Core.Path.{_≡_, _∙_}
-use Prim.Native.Nat.{ℕ, _-_, _≤_}
-use native.Mathlib.Omega.{arith}
+-- `capi::layout::bindings_in` meets its contract.
+use mathlib.Core.Path.{refl}
+use Prim.Native.Nat.{ℕ}
 use borrow.Author.Needs.{needs}
-use lib.ListN.{length, length-set}
-use Rattle.laws.specs.Lists.{tabulate}
-use Rattle.laws.specs.Over.{overwrite}
 use Rattle.capi.specs.Layout.{word4, bindingAt}
-use Rattle.capi.proofs.Filled.{fill-start, fill-more, fill-end}
+use Rattle.capi.proofs.Filled.{fill-end}
 use Rattle.capi.proofs.layout.bindings_in.Statement.{statement}
 use Rattle.capi.proofs.layout.bindings_in.Tie as tie
 
-abbrev Inv-loop : tie.InvT-loop
-Inv-loop b words₀ i₀ words i = (i ≤ 256) × (length words₀ ≡ 256) × (length words ≡ 256) × (words ≡ overwrite words₀ 0 (tabulate (λ (k : ℕ). word4 b (bindingAt k)) 0 i))
+slice-aggregate-words-in : tie.Need-slice-aggregate-words-in
+slice-aggregate-words-in c = search needs
 
-abbrev μ-loop : tie.MeasureT-loop
-μ-loop b words₀ i₀ words i = 256 - i
+words-in-requires : tie.Need-words-in-requires
+words-in-requires c κs = search needs
 
-loop-holds : tie.Need-loop-holds Inv-loop μ-loop
-loop-holds c = let a = c .before .args in (search needs, search needs, search needs, fill-start (λ (k : ℕ). word4 (a .b .now) (bindingAt k)) _)
-
-mul-word4-at : tie.Need-mul-word4-at Inv-loop μ-loop
-mul-word4-at c = search needs
-
-add-word4-at : tie.Need-add-word4-at Inv-loop μ-loop
-add-word4-at c = search needs
-
-word4-at-requires : tie.Need-word4-at-requires Inv-loop μ-loop
-word4-at-requires c κs = search needs
-
-mul-words : tie.Need-mul-words Inv-loop μ-loop
-mul-words c = search needs
-
-array-write-words : tie.Need-array-write-words Inv-loop μ-loop
-array-write-words c = search needs
-
-add-i : tie.Need-add-i Inv-loop μ-loop
-add-i c = search needs
-
-loop-less : tie.Need-loop-less Inv-loop μ-loop
-loop-less c = search needs
-
-loop-again : tie.Need-loop-again Inv-loop μ-loop
-loop-again c =
-    let a = c .before .before .before .before .args in
-    let l = c .before .before .loop in (
-      omega arith,
-      l .inv .1,
-      length-set (l .words) (l .i) (c .word4-at .result) ∙ l .inv .2,
-      fill-more (λ (k : ℕ). word4 (a .b .now) (bindingAt k)) _ (l .words) (l .i) (c .word4-at .result) (omega arith) (l .inv .3) (c .word4-at .ensures),
-    )
-
-returns : tie.Need-returns Inv-loop μ-loop
+returns : tie.Need-returns
 returns c =
-    let a = c .before .before .before .args in
-    let l = c .before .loop in
-    fill-end (λ (k : ℕ). word4 (a .b .now) (bindingAt k)) _ (l .words) (l .i) 256 (l .inv .1) (omega arith) (l .inv .3)
+    let b = c .before .before .before .before .args .b .now in
+    fill-end (λ (i : ℕ). word4 b (bindingAt i)) _ _ 256 256 (search needs) refl (c .before .words-in .ensures)
 
 pub bindings-in-spec : {M : Type 1} → statement M
-bindings-in-spec =
-    tie.close
-    (tie.spec
-    Inv-loop
-    μ-loop
-    loop-holds
-    mul-word4-at
-    add-word4-at
-    word4-at-requires
-    mul-words
-    array-write-words
-    add-i
-    loop-less
-    loop-again
-    returns)
+bindings-in-spec = tie.close (tie.spec slice-aggregate-words-in words-in-requires returns)

@@ -10,11 +10,9 @@ use Rattle.dispatcher.proofs.Session.fresh.Reads as reads
 use Rattle.dispatcher.proofs.Session.fresh.Lts as lts
 use Rattle.reader.proofs.Scope.fresh.Reads as fresh-reads
 
--- src/lib.rt:107:20
 fresh-requires : tie.Need-fresh-requires
 fresh-requires c κs = search needs
 
--- src/lib.rt:99:5
 returns : tie.Need-returns
 returns c =
     ap

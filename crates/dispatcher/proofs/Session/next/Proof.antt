@@ -1,65 +1,50 @@
-use Rattle.dispatcher.proofs.RunTurns.{next-refused, next-ready, next-turned}
+-- `Session::next` meets its contract: the session is taken apart and put together again.
+use mathlib.Core.Path.{sym, _∙_}
+use Prim.Native.Nat.{ℕ}
+use lib.ListN.{length-map}
+use Rattle.dispatcher.proofs.RunTurns.{next-advanced}
 use borrow.Author.Needs.{needs}
 use Rattle.dispatcher.proofs.Session.next.Statement.{statement}
 use Rattle.dispatcher.proofs.Session.next.Tie as tie
-use Rattle.dispatcher.proofs.Session.next.Reads as reads
-use Rattle.dispatcher.proofs.Session.next.Lts as lts
-use Rattle.dispatcher.proofs.answer_of.Reads as answer-of-reads
-use Rattle.dispatcher.proofs.coherence.coherent.Reads as coherent-reads
-use Rattle.dispatcher.proofs.refusal.Reads as refusal-reads
-use Rattle.dispatcher.proofs.turns.one_turn.Reads as one-turn-reads
-use Rattle.table.proofs.index.load.Reads as load-reads
 
--- src/lib.rt:150:13
-coherent-requires : tie.Need-coherent-requires
-coherent-requires c κs = search needs
+head-requires : tie.Need-head-requires
+head-requires c κs = search needs
 
--- src/lib.rt:152:25
-refusal-requires : tie.Need-refusal-requires
-refusal-requires c κs = search needs
+steps-from-requires : tie.Need-steps-from-requires
+steps-from-requires c κs =
+    let z = c .before .before .before .before .before .before .before .before .before .before .before .before .before .args .self in
+    let p = c .before .before .before .before .before .before .before .before .before .before .before .before .before .pre in
+    let fields = c .before .before .before .before .before .before .before .before .before .before .before .before .before .good .0 .1 .1 in
+    let scope = fields .1 .1 .1 .1 .0 .1 .1 in (
+      p .0,
+      p .1,
+      p .2,
+      p .3,
+      record {
+        levels-long = sym (length-map (z .scope .levels) (λ (x : ℕ). x)) ∙ scope .1 .1 .0 .1 .0 .1;
+        bindings-long = sym (length-map (z .scope .bindings) (λ (x : ℕ). x)) ∙ scope .1 .1 .1 .0 .1 .0 .1;
+        spaces-long = sym (length-map (z .spaces) (λ (x : ℕ). x)) ∙ fields .1 .1 .1 .1 .1 .0 .1 .0 .1;
+        strands-long = sym (length-map (z .strands) (λ (x : ℕ). x)) ∙ fields .1 .1 .1 .1 .1 .1 .0 .1 .0 .1;
+      },
+    )
 
--- src/lib.rt:151:13
-returns : tie.Need-returns
-returns c =
-    let a = c .before .before .before .before .before .before .before .before .before .before .before .before .before .before .args in
-    next-refused (a .table .now) (a .scene .now) (a .header) (a .self) (c .before .before .before .before .before .before .before .before .before .before .before .before .before .before .pre .1) (c .before .before .before .before .before .before .before .before .before .before .before .before .before .before .pre .0) (c .before .before .before .before .before .before .before .before .before .before .before .before .before .before .pre .2) (c .before .before .coherent .result) (c .before .before .coherent .ensures) (c .refusal .result) (a .out .now) (c .before .if1 .taken) (c .refusal .ensures)
-
--- src/lib.rt:156:21
-load-requires : tie.Need-load-requires
-load-requires c κs = search needs
-
--- src/lib.rt:157:13
-one-turn-requires : tie.Need-one-turn-requires
-one-turn-requires c κs =
-    let a = c .before .before .before .before .before .before .before .before .before .before .before .before .before .before .before .before .before .before .before .before .args in
-    next-ready (a .table .now) (a .scene .now) (a .header) (a .self) (c .before .before .before .before .before .before .before .before .before .before .before .before .before .before .before .before .before .before .before .before .pre .1) (c .before .before .before .before .before .before .before .before .before .before .before .before .before .before .before .before .before .before .before .before .pre .0) (c .before .before .before .before .before .before .before .before .before .before .before .before .before .before .before .before .before .before .before .before .pre .2) (c .before .before .before .before .before .before .before .before .coherent .result) (c .before .before .before .before .before .before .before .before .coherent .ensures) (c .before .before .before .before .before .before .load .result) (c .before .before .before .before .before .before .before .if1 .left) (c .before .before .before .before .before .before .load .ensures)
-
--- src/lib.rt:177:21
 answer-of-requires : tie.Need-answer-of-requires
 answer-of-requires c κs = search needs
 
--- src/lib.rt:134:5
+of-requires : tie.Need-of-requires
+of-requires c κs = search needs
+
 same-length : tie.Need-same-length
 same-length c = search needs
 
--- src/lib.rt:134:5
-returns-2 : tie.Need-returns-2
-returns-2 c =
-    let a = c .before .before .before .before .before .before .before .before .before .before .before .before .before .before .before .before .before .before .before .before .before .before .before .before .before .args in
-    let after = c .before .before .before .before .one-turn .last in
-    next-turned (a .table .now) (a .scene .now) (a .header) (a .self) (c .before .before .before .before .before .before .before .before .before .before .before .before .before .before .before .before .before .before .before .before .before .before .before .before .before .pre .1) (c .before .before .before .before .before .before .before .before .before .before .before .before .before .before .before .before .before .before .before .before .before .before .before .before .before .pre .0) (c .before .before .before .before .before .before .before .before .before .before .before .before .before .before .before .before .before .before .before .before .before .before .before .before .before .pre .2) (c .before .before .before .before .before .before .before .before .before .before .before .before .before .coherent .result) (c .before .before .before .before .before .before .before .before .before .before .before .before .before .coherent .ensures) (c .before .before .before .before .one-turn .result) (c .answer-of .result)
-    (after .1 .1 .1 .1 .1 .0) (after .1 .1 .1 .1 .1 .1 .0) (after .1 .1 .1 .1 .1 .1 .1 .0) (after .1 .1 .1 .1 .1 .1 .1 .1 .0) (after .1 .1 .1 .1 .1 .1 .1 .1 .1 .0) (a .out .now)
-    (c .before .before .before .before .before .before .before .before .before .before .before .before .if1 .left) (c .answer-of .ensures) (c .before .before .before .before .one-turn .ensures)
+returns : tie.Need-returns
+returns c =
+    let a = c .before .before .before .before .before .before .before .before .before .before .before .before .before .before .before .before .before .before .args in
+    let s = c .before .before .before .before .steps-from in
+    let after = s .last .1 .1 .1 .1 in
+    next-advanced (a .most) (a .table .now) (a .scene .now) (a .self) (c .before .before .before .before .before .before .before .before .before .before .head .result) (s .result) (c .before .answer-of .result) (c .of .result)
+    (after .0) (after .1 .0) (after .1 .1 .0) (after .1 .1 .1 .0) (after .1 .1 .1 .1 .1 .0) (a .out .now)
+    (c .before .before .before .before .before .before .before .before .before .before .head .ensures) (c .before .answer-of .ensures) (c .of .ensures) (s .ensures)
 
 pub next-spec : {M : Type 1} → statement M
-next-spec =
-    tie.close
-    (tie.spec
-    coherent-requires
-    refusal-requires
-    returns
-    load-requires
-    one-turn-requires
-    answer-of-requires
-    same-length
-    returns-2)
+next-spec = tie.close (tie.spec head-requires steps-from-requires answer-of-requires of-requires same-length returns)

@@ -1,8 +1,10 @@
 -- `ends::awaited_turn` meets its contract: the end of a /> as it is planned.
-use Prim.Native.Nat.{ℕ, _-_}
+use Prim.Native.Nat.{ℕ}
+use mathlib.Core.Path.{sym, subst}
 use mathlib.Core.List.{List}
 use borrow.Author.Needs.{needs}
 use Rattle.table.specs.Table.{Table}
+use Rattle.reader.specs.Held.{SpanHeld}
 use Rattle.dispatcher.specs.Sessions.{sessionOf}
 use Rattle.dispatcher.proofs.EventTurns.{part-small, awaited-step}
 use Rattle.dispatcher.proofs.ends.awaited_turn.Statement.{statement}
@@ -25,8 +27,8 @@ end-event-requires c κs =
     let b = c .before .before .before .before .before .before .before in
     let a = b .args in
     let i = b .pre .0 in
-    let small =
-    part-small (a .scene .now) (a .levels .now) (a .head .depth - 1) (c .before .before .before .name-in .result) (c .before .before .part-in .result) (i .short) (i .name) (c .before .before .before .name-in .ensures) (c .before .before .part-in .ensures) in
+    let held = subst (SpanHeld (a .scene .now)) (sym (c .before .before .before .name-in .ensures)) (i .name) in
+    let small = part-small (a .scene .now) (c .before .before .before .name-in .result) (c .before .before .part-in .result) (i .short) held (c .before .before .part-in .ensures) in
     (i .some-open, i .shallow, i .few-strands, i .class, small .0, small .1)
 
 same-length : tie.Need-same-length

@@ -1,5 +1,5 @@
 -- `ends::end_event` meets its contract: 25, or the end's records and one level less.
-use Prim.Native.Nat.{ℕ, _+_, _*_, _-_}
+use Prim.Native.Nat.{ℕ, _+_, _*_, _-_, _/_}
 use mathlib.Core.Path.{ap, _∙_}
 use mathlib.Core.Bool.{true}
 use mathlib.Core.List.{List}
@@ -29,8 +29,8 @@ sub-level c = search needs
 count-at-requires : tie.Need-count-at-requires
 count-at-requires c κs = search needs
 
-event-count-requires : tie.Need-event-count-requires
-event-count-requires c κs = (omega arith, omega (arith, c .count-at .ensures))
+is-full-requires : tie.Need-is-full-requires
+is-full-requires c κs = (omega arith, omega (arith, c .count-at .ensures))
 
 stop-requires : tie.Need-stop-requires
 stop-requires c κs = search needs
@@ -42,12 +42,11 @@ returns c = λ (t : Table) (s bindings : List ℕ).
     let z = sessionOf (a .head) (a .levels .now) bindings (a .spaces .now) (a .strands .now) in
     let level = a .head .depth - 1 in
     ap (λ (r : Turn). stepBy r (a .levels .now) bindings (a .spaces .now) (a .strands .now) (a .out .now)) (c .stop .ensures)
-    ∙ event-full (spaced 5 (a .part) (classIn z level) (uriIn z level)) true (a .strands .now) level _ (getD (a .spaces .now) (4 * level + 3) 0) _
+    ∙ event-full (spaced 5 (a .part) (classIn z level) (uriIn z level)) true (a .strands .now) level _ (getD (a .spaces .now) (4 * level + 3) 0)
     (written (dispatch t) (stateOf t s z) (end (a .part)))
     (written-end t s z (b .pre .0) (a .part))
     (c .before .before .before .count-at .ensures)
-    (c .before .before .event-count .ensures .0)
-    (a .at) (withEnd z (a .place) (eqb (a .head .depth) 1)) z (a .out .now) (c .before .if1 .taken)
+    (a .at) (withEnd z (a .place) (eqb (a .head .depth) 1)) z (a .out .now) (c .before .before .is-full .result) (c .before .before .is-full .ensures) (c .before .if1 .taken)
 
 end-row-requires : tie.Need-end-row-requires
 end-row-requires c κs = search needs
@@ -69,15 +68,15 @@ returns-2 c = λ (t : Table) (s bindings : List ℕ).
     let z = sessionOf (a .head) (a .levels .now) bindings (a .spaces .now) (a .strands .now) in
     let level = a .head .depth - 1 in
     let out = c .before .before .before .write-event .last .1 .1 .1 .1 .1 .0 in
-    ap (λ (h : Head). record { answer = answered 0 (a .place) 1 (c .before .before .before .before .before .before .before .event-count .result); session = sessionOf h (a .levels .now) bindings (a .spaces .now) (a .strands .now); output = out }) (c .closed-head .ensures)
-    ∙ ap (λ (y : Session). record { answer = answered 0 (a .place) 1 (c .before .before .before .before .before .before .before .event-count .result); session = y; output = out })
+    ap (λ (h : Head). record { answer = answered 0 (a .place) 1 (c .before .before .before .write-event .result / 16); session = sessionOf h (a .levels .now) bindings (a .spaces .now) (a .strands .now); output = out }) (c .closed-head .ensures)
+    ∙ ap (λ (y : Session). record { answer = answered 0 (a .place) 1 (c .before .before .before .write-event .result / 16); session = y; output = out })
     (closed-session (a .head) (a .place) (a .levels .now) bindings (a .spaces .now) (a .strands .now) (p .0) (p .1))
-    ∙ event-room (spaced 5 (a .part) (classIn z level) (uriIn z level)) true (a .strands .now) level _ (getD (a .spaces .now) (4 * level + 3) 0) _
+    ∙ event-room (spaced 5 (a .part) (classIn z level) (uriIn z level)) true (a .strands .now) level _ (getD (a .spaces .now) (4 * level + 3) 0)
     (written (dispatch t) (stateOf t s z) (end (a .part)))
     (written-end t s z (p .0) (a .part))
     (c .before .before .before .before .before .before .before .before .count-at .ensures)
-    (c .before .before .before .before .before .before .before .event-count .ensures .0)
-    (a .at) (withEnd z (a .place) (eqb (a .head .depth) 1)) z (a .out .now) (c .before .before .before .before .before .end-row .result) _ _ (c .before .before .before .before .before .before .if1 .left)
+    (a .at) (withEnd z (a .place) (eqb (a .head .depth) 1)) z (a .out .now) (c .before .before .before .before .before .before .before .is-full .result) (c .before .before .before .before .before .before .before .is-full .ensures)
+    (c .before .before .before .before .before .end-row .result) _ _ (c .before .before .before .before .before .before .if1 .left)
     (ap bodyOf (c .before .before .before .before .before .end-row .ensures) ∙ end-body (a .part) (a .spaces .now) level (p .3) (p .4) (p .5))
     (c .before .before .before .write-event .ensures)
 
@@ -87,7 +86,7 @@ end-event-spec =
     (tie.spec
     sub-level
     count-at-requires
-    event-count-requires
+    is-full-requires
     stop-requires
     returns
     end-row-requires

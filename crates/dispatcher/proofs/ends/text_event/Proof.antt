@@ -26,8 +26,8 @@ sub-level c = search needs
 count-at-requires : tie.Need-count-at-requires
 count-at-requires c κs = search needs
 
-event-count-requires : tie.Need-event-count-requires
-event-count-requires c κs = (omega arith, omega (arith, c .count-at .ensures))
+is-full-requires : tie.Need-is-full-requires
+is-full-requires c κs = (omega arith, omega (arith, c .count-at .ensures))
 
 stop-requires : tie.Need-stop-requires
 stop-requires c κs = search needs
@@ -39,12 +39,11 @@ returns c = λ (t : Table) (s levels bindings : List ℕ).
     let z = sessionOf (a .head) levels bindings (a .spaces .now) (a .strands .now) in
     let level = a .head .depth - 1 in
     ap (λ (r : Turn). stepBy r levels bindings (a .spaces .now) (a .strands .now) (a .out .now)) (c .stop .ensures)
-    ∙ event-full (textBody (between (a .at) (a .end))) false (a .strands .now) level _ (getD (a .spaces .now) (4 * level + 3) 0) _
+    ∙ event-full (textBody (between (a .at) (a .end))) false (a .strands .now) level _ (getD (a .spaces .now) (4 * level + 3) 0)
     (written (dispatch t) (stateOf t s z) (text (between (a .at) (a .end))))
     (written-text t s z (b .pre .0) (between (a .at) (a .end)))
     (c .before .before .before .count-at .ensures)
-    (c .before .before .event-count .ensures .0)
-    (a .at) (withPlace z (a .end)) z (a .out .now) (c .before .if1 .taken)
+    (a .at) (withPlace z (a .end)) z (a .out .now) (c .before .before .is-full .result) (c .before .before .is-full .ensures) (c .before .if1 .taken)
 
 text-row-requires : tie.Need-text-row-requires
 text-row-requires c κs = search needs
@@ -61,12 +60,12 @@ returns-2 c = λ (t : Table) (s levels bindings : List ℕ).
     let a = b .args in
     let z = sessionOf (a .head) levels bindings (a .spaces .now) (a .strands .now) in
     let level = a .head .depth - 1 in
-    event-room (textBody (between (a .at) (a .end))) false (a .strands .now) level _ (getD (a .spaces .now) (4 * level + 3) 0) _
+    event-room (textBody (between (a .at) (a .end))) false (a .strands .now) level _ (getD (a .spaces .now) (4 * level + 3) 0)
     (written (dispatch t) (stateOf t s z) (text (between (a .at) (a .end))))
     (written-text t s z (b .pre .0) (between (a .at) (a .end)))
     (c .before .before .before .before .before .before .before .count-at .ensures)
-    (c .before .before .before .before .before .before .event-count .ensures .0)
-    (a .at) (withPlace z (a .end)) z (a .out .now) (c .before .before .before .before .text-row .result) _ _ (c .before .before .before .before .before .if1 .left) (ap bodyOf (c .before .before .before .before .text-row .ensures)) (c .before .before .write-event .ensures)
+    (a .at) (withPlace z (a .end)) z (a .out .now) (c .before .before .before .before .before .before .is-full .result) (c .before .before .before .before .before .before .is-full .ensures)
+    (c .before .before .before .before .text-row .result) _ _ (c .before .before .before .before .before .if1 .left) (ap bodyOf (c .before .before .before .before .text-row .ensures)) (c .before .before .write-event .ensures)
 
 pub text-event-spec : {M : Type 1} → statement M
 text-event-spec =
@@ -74,7 +73,7 @@ text-event-spec =
     (tie.spec
     sub-level
     count-at-requires
-    event-count-requires
+    is-full-requires
     stop-requires
     returns
     text-row-requires

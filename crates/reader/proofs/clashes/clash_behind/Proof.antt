@@ -1,54 +1,53 @@
 -- `reader::clashes::clash_behind` meets its contract: at each turn the answer is that of the attributes that are left.
-use Prim.Native.Nat.{_+_, _-_}
-use mathlib.Core.Path.{_≡_, refl}
+use Prim.Native.Nat.{_+_, _-_, _≤_}
+use mathlib.Core.Path.{_≡_, refl, sym}
+use mathlib.Core.Logic.{⊎-elim}
+use native.Mathlib.Omega.{arith}
 use borrow.Author.Needs.{needs}
 use lib.ListN.{drop}
 use Rattle.laws.specs.Lists.{any}
 use Rattle.lexer.specs.Attrs.{attrsIn}
-use Rattle.reader.specs.Stored.{coded, clashes}
+use Rattle.reader.specs.Stored.{coded, codedAt, clashes}
 use Rattle.reader.proofs.Any.{or-hit, or-miss}
-use Rattle.reader.proofs.Clashing.{codedAt, behind-turn, behind-out}
+use Rattle.reader.proofs.Indexed.{at-most-le}
+use Rattle.reader.proofs.Clashing.{behind-turn, behind-past, behind-out}
 use Rattle.reader.proofs.clashes.clash_behind.Statement.{statement}
 use Rattle.reader.proofs.clashes.clash_behind.Tie as tie
 
 abbrev Inv-loop : tie.InvT-loop
-Inv-loop s attrs count own outer spaces i most a x j₀ j = any (clashes s own outer (codedAt attrs spaces i)) (drop j (coded (attrsIn attrs count) spaces)) ≡ any (clashes s own outer (codedAt attrs spaces i)) (drop (i + 1) (coded (attrsIn attrs count) spaces))
+Inv-loop s attrs count own outer spaces keys i most key j₀ j =
+    (most ≤ 16)
+    × (i + 1 ≤ j)
+    × (any (clashes s own outer (codedAt attrs spaces i)) (drop j (coded (attrsIn attrs count) spaces)) ≡ any (clashes s own outer (codedAt attrs spaces i)) (drop (i + 1) (coded (attrsIn attrs count) spaces)))
 
 abbrev μ-loop : tie.MeasureT-loop
-μ-loop s attrs count own outer spaces i most a x j₀ j = most - j
+μ-loop s attrs count own outer spaces keys i most key j₀ j = most - j
 
 at-most-requires : tie.Need-at-most-requires Inv-loop μ-loop
 at-most-requires c κs = search needs
 
-attr-in-requires : tie.Need-attr-in-requires Inv-loop μ-loop
-attr-in-requires c κs = search needs
-
-code-at-requires : tie.Need-code-at-requires Inv-loop μ-loop
-code-at-requires c κs = search needs
+element-copy-out-key : tie.Need-element-copy-out-key Inv-loop μ-loop
+element-copy-out-key c = search needs
 
 add-j : tie.Need-add-j Inv-loop μ-loop
 add-j c = search needs
 
 loop-holds : tie.Need-loop-holds Inv-loop μ-loop
-loop-holds c = refl
+loop-holds c = (at-most-le 16 (c .before .before .before .args .count) _ (c .before .at-most .ensures), omega arith, refl)
 
-attr-in-requires-2 : tie.Need-attr-in-requires-2 Inv-loop μ-loop
-attr-in-requires-2 c κs = search needs
+element-copy-out-if1 : tie.Need-element-copy-out-if1 Inv-loop μ-loop
+element-copy-out-if1 c = search needs
 
-code-at-requires-2 : tie.Need-code-at-requires-2 Inv-loop μ-loop
-code-at-requires-2 c κs = search needs
-
-clash-requires : tie.Need-clash-requires Inv-loop μ-loop
-clash-requires c κs = search needs
+clash-at-requires : tie.Need-clash-at-requires Inv-loop μ-loop
+clash-at-requires c κs = search needs
 
 returns : tie.Need-returns Inv-loop μ-loop
 returns c =
-    let l = c .before .before .before .before .before .before in
-    let a = l .before .before .before .before .before .before .args in
+    let l = c .before .before .before .before .before in
+    let a = l .before .before .before .before .args in
     or-hit _ _ _
-    (behind-turn _ (a .spaces .now) (a .count) _ (l .before .before .before .before .at-most .ensures) _ _ _ _ _ (l .loop .j) (l .loop .inv) (c .before .before .before .before .before .loop-test .taken) _ _ _ _ _
-    (l .before .before .before .attr-in .ensures) (l .before .code-at .ensures) (c .before .before .before .before .attr-in2 .ensures) (c .before .before .code-at2 .ensures) (c .before .clash .ensures))
-    (c .if1 .taken)
+    (behind-turn _ (a .spaces .now) (a .count) _ (l .before .before .at-most .ensures) _ _ _ _ _ (l .loop .j) (l .loop .inv .2) (c .before .before .before .before .loop-test .taken) _ (c .before .clash-at .ensures))
+    (c .if2 .taken)
 
 add-j-2 : tie.Need-add-j-2 Inv-loop μ-loop
 add-j-2 c = search needs
@@ -58,19 +57,24 @@ loop-less c = search needs
 
 loop-again : tie.Need-loop-again Inv-loop μ-loop
 loop-again c =
-    let l = c .before .before .before .before .before .before in
-    let a = l .before .before .before .before .before .before .args in
-    or-miss _ _ _
-    (behind-turn _ (a .spaces .now) (a .count) _ (l .before .before .before .before .at-most .ensures) _ _ _ _ _ (l .loop .j) (l .loop .inv) (c .before .before .before .before .before .loop-test .taken) _ _ _ _ _
-    (l .before .before .before .attr-in .ensures) (l .before .code-at .ensures) (c .before .before .before .before .attr-in2 .ensures) (c .before .before .code-at2 .ensures) (c .before .clash .ensures))
-    (c .if1 .left)
+    let l = c .before .before .before in
+    let b = l .before .before .before .before in
+    let most = l .before .before .at-most .ensures in
+    let test = c .before .before .loop-test .taken in
+    let t =
+    ⊎-elim
+    (λ w. or-miss _ _ _ (behind-turn _ (b .args .spaces .now) (b .args .count) _ most _ _ _ _ _ (l .loop .j) (l .loop .inv .2) test _ (w .1 .ensures)) (w .2 .left))
+    (λ w.
+    behind-past _ (b .args .spaces .now) (b .args .count) _ most _ _ _ _ _ (l .loop .j) (l .loop .inv .2) test
+    (b .pre .1 (b .args .i) (l .loop .j) (omega (arith, most)) (omega (arith, most)) (λ e. w .left (sym e))))
+    (c .if1 .came) in
+    (l .loop .inv .0, omega arith, t)
 
 returns-2 : tie.Need-returns-2 Inv-loop μ-loop
 returns-2 c =
     let l = c .before in
-    let a = l .before .before .before .before .before .before .args in
-    behind-out (a .attrs .now) (a .spaces .now) (a .count) _ (l .before .before .before .before .at-most .ensures) (a .s .now) (a .own .now) (a .outer .now) (a .i) _ (l .loop .j)
-    (l .loop .inv) (c .loop-test .left)
+    let a = l .before .before .before .before .args in
+    behind-out (a .attrs .now) (a .spaces .now) (a .count) _ (l .before .before .at-most .ensures) (a .s .now) (a .own .now) (a .outer .now) (a .i) _ (l .loop .j) (l .loop .inv .2) (c .loop-test .left)
 
 pub clash-behind-spec : {M : Type 1} → statement M
 clash-behind-spec =
@@ -79,13 +83,11 @@ clash-behind-spec =
     Inv-loop
     μ-loop
     at-most-requires
-    attr-in-requires
-    code-at-requires
+    element-copy-out-key
     add-j
     loop-holds
-    attr-in-requires-2
-    code-at-requires-2
-    clash-requires
+    element-copy-out-if1
+    clash-at-requires
     returns
     add-j-2
     loop-less

@@ -1,13 +1,12 @@
--- `reader::kinds::has_reference` meets its contract: at each turn the answer is that of the bytes that are left.
+-- `reader::kinds::has_reference` meets its contract: at each turn the answer so far and that of the bytes that are left are the answer.
 use Prim.Native.Nat.{ℕ, _-_}
-use mathlib.Core.Bool.{Bool}
-use mathlib.Core.Path.{_≡_, refl, sym, _∙_}
+use mathlib.Core.Bool.{Bool, _||_}
+use mathlib.Core.Path.{_≡_, refl}
 use borrow.Author.Needs.{needs}
-use borrow.Author.Tests.{eq-eqb, ne-eqb}
 use lib.ListN.{length, drop}
 use lib.Dec.{eqb}
 use Rattle.laws.specs.Lists.{any}
-use Rattle.reader.proofs.Any.{any-hit, any-miss, any-out}
+use Rattle.reader.proofs.Any.{asked-turn, asked-out}
 use Rattle.reader.proofs.kinds.has_reference.Statement.{statement}
 use Rattle.reader.proofs.kinds.has_reference.Tie as tie
 
@@ -15,19 +14,16 @@ abbrev test : ℕ → Bool
 test b = eqb b 0x26
 
 abbrev Inv-loop : tie.InvT-loop
-Inv-loop uri i₀ i = any test (drop i uri) ≡ any test uri
+Inv-loop uri found₀ i₀ found i = (found || any test (drop i uri)) ≡ any test uri
 
 abbrev μ-loop : tie.MeasureT-loop
-μ-loop uri i₀ i = length uri - i
+μ-loop uri found₀ i₀ found i = length uri - i
 
 loop-holds : tie.Need-loop-holds Inv-loop μ-loop
 loop-holds c = refl
 
-shared-slice-read-if1 : tie.Need-shared-slice-read-if1 Inv-loop μ-loop
-shared-slice-read-if1 c = search needs
-
-returns : tie.Need-returns Inv-loop μ-loop
-returns c = sym (any-hit test _ (c .before .before .before .loop .i) 0 (c .before .before .loop-test .taken) (eq-eqb _ _ (c .if1 .taken))) ∙ c .before .before .before .loop .inv
+shared-slice-read-found : tie.Need-shared-slice-read-found Inv-loop μ-loop
+shared-slice-read-found c = search needs
 
 add-i : tie.Need-add-i Inv-loop μ-loop
 add-i c = search needs
@@ -36,10 +32,14 @@ loop-less : tie.Need-loop-less Inv-loop μ-loop
 loop-less c = search needs
 
 loop-again : tie.Need-loop-again Inv-loop μ-loop
-loop-again c = sym (any-miss test _ (c .before .before .before .loop .i) 0 (c .before .before .loop-test .taken) (ne-eqb _ _ (c .if1 .left))) ∙ c .before .before .before .loop .inv
+loop-again c =
+    let l = c .before .before in
+    asked-turn test (l .before .args .uri .now) (l .loop .i) (l .loop .found) _ (l .loop .inv) 0 (c .before .loop-test .taken)
 
-returns-2 : tie.Need-returns-2 Inv-loop μ-loop
-returns-2 c = sym (any-out test _ (c .before .loop .i) (c .loop-test .left)) ∙ c .before .loop .inv
+returns : tie.Need-returns Inv-loop μ-loop
+returns c =
+    let l = c .before in
+    asked-out test (l .before .args .uri .now) (l .loop .i) (l .loop .found) _ (l .loop .inv) (c .loop-test .left)
 
 pub has-reference-spec : {M : Type 1} → statement M
 has-reference-spec =
@@ -48,9 +48,8 @@ has-reference-spec =
     Inv-loop
     μ-loop
     loop-holds
-    shared-slice-read-if1
-    returns
+    shared-slice-read-found
     add-i
     loop-less
     loop-again
-    returns-2)
+    returns)

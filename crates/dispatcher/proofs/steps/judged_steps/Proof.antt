@@ -1,0 +1,130 @@
+-- `steps::judged_steps` meets its contract: what is left to do is what was asked.
+use Prim.Native.Nat.{_-_}
+use native.Mathlib.Omega.{arith}
+use lib.ListN.{length, take, drop}
+use Rattle.laws.proofs.Over.{part-whole, part-back}
+use Rattle.table.specs.Table.{decode}
+use Rattle.dispatcher.specs.Sessions.{sessionOf}
+use Rattle.dispatcher.specs.Stepping.{Step}
+use Rattle.dispatcher.specs.Turns.{stepBy}
+use Rattle.dispatcher.proofs.SoundCoherent.{sound-coherent}
+use Rattle.dispatcher.proofs.RunTurns.{Going, Turned, sized-sound, going-first, going-turned, going-last}
+use borrow.Author.Needs.{needs}
+use Rattle.dispatcher.proofs.steps.judged_steps.Statement.{statement}
+use Rattle.dispatcher.proofs.steps.judged_steps.Tie as tie
+
+abbrev Inv-loop : tie.InvT-loop
+Inv-loop table header index scene levels₀ bindings₀ spaces₀ strands₀ most out₀ head₀ used₀ events₀ records₀ levels bindings spaces strands out head used events records =
+    Going table scene (sessionOf head₀ levels₀ bindings₀ spaces₀ strands₀) out₀ most (sessionOf head levels bindings spaces strands) out used events records
+
+abbrev μ-loop : tie.MeasureT-loop
+μ-loop table header index scene levels₀ bindings₀ spaces₀ strands₀ most out₀ head₀ used₀ events₀ records₀ levels bindings spaces strands out head used events records =
+    most - events
+
+loop-holds : tie.Need-loop-holds Inv-loop μ-loop
+loop-holds c =
+    let a = c .before .before .before .args in
+    let p = c .before .before .before .pre in
+    let z = sessionOf (a .from) (a .levels .now) (a .bindings .now) (a .spaces .now) (a .strands .now) in
+    going-first (a .table .now) (a .scene .now) z (a .out .now) (a .most) (sized-sound (a .table .now) (a .header) (a .index .now) (a .scene .now) z (p .0) (p .1))
+
+sub-judged-step : tie.Need-sub-judged-step Inv-loop μ-loop
+sub-judged-step c = search needs
+
+part-judged-step-start : tie.Need-part-judged-step-start Inv-loop μ-loop
+part-judged-step-start c = search needs
+
+part-judged-step-end : tie.Need-part-judged-step-end Inv-loop μ-loop
+part-judged-step-end c = search needs
+
+judged-step-requires : tie.Need-judged-step-requires Inv-loop μ-loop
+judged-step-requires c κs =
+    let a = c .before .before .before .before .before .before .before .before .before .before .args in
+    let l = c .before .before .before .before .before .before .loop in
+    let p = c .before .before .before .before .before .before .before .before .before .before .pre .0 in
+    record {
+      accepted = p .accepted;
+      header-is = p .header-is;
+      index-is = p .index-is;
+      short = p .short;
+      coherent′ = sound-coherent (decode (a .table .now)) (a .scene .now) (sessionOf (l .head) (l .levels) (l .bindings) (l .spaces) (l .strands)) (l .inv .sound);
+    }
+
+-- a turn: the step that was handed back, and what it makes of the loop
+abbrev stepIn : tie.After-judged-step Inv-loop μ-loop → Step
+stepIn c =
+    let after = c .judged-step .last .1 .1 .1 .1 .1 in
+    stepBy (c .judged-step .result) (after .0) (after .1 .0) (after .1 .1 .0) (after .1 .1 .1 .0) (after .1 .1 .1 .1 .0)
+
+turned : (c : tie.After-judged-step Inv-loop μ-loop) → (
+    let a = c .before .before .before .before .before .before .before .before .before .before .before .args in
+    let l = c .before .before .before .before .before .before .before .loop in
+    Turned (a .table .now) (a .scene .now) (sessionOf (a .from) (a .levels .now) (a .bindings .now) (a .spaces .now) (a .strands .now)) (a .out .now) (a .most) (l .out) (l .used) (l .events) (l .records) (stepIn c))
+turned c =
+    let a = c .before .before .before .before .before .before .before .before .before .before .before .args in
+    let l = c .before .before .before .before .before .before .before .loop in
+    let p = c .before .before .before .before .before .before .before .before .before .before .before .pre .0 in
+    let z₀ = sessionOf (a .from) (a .levels .now) (a .bindings .now) (a .spaces .now) (a .strands .now) in
+    let z = sessionOf (l .head) (l .levels) (l .bindings) (l .spaces) (l .strands) in
+    going-turned (a .table .now) (a .scene .now) z₀ (a .out .now) (a .most) z (l .out) (l .used) (l .events) (l .records) (l .inv) (c .before .before .before .before .before .before .loop-test .taken) (p .accepted) (p .short)
+    (take (length (l .out) - l .used) (drop (l .used) (l .out))) (part-whole (l .out) (l .used)) (stepIn c) (c .judged-step .ensures)
+
+same-length : tie.Need-same-length Inv-loop μ-loop
+same-length c = search needs
+
+returns : tie.Need-returns Inv-loop μ-loop
+returns c =
+    let l = c .before .before .before .before .before .before .before .before .before .before .before .loop in
+    turned (c .before .before .before .before) .stops _ (part-back (l .out) (l .used) (stepIn (c .before .before .before .before) .output)) (c .if1 .taken)
+
+mul-used : tie.Need-mul-used Inv-loop μ-loop
+mul-used c = omega (arith, turned (c .before .before .before .before .before) .room, c .before .before .before .before .before .before .before .before .before .before .before .before .loop .inv .same-length, c .before .before .before .before .before .before .before .before .before .before .before .before .before .before .before .before .good)
+
+add-used : tie.Need-add-used Inv-loop μ-loop
+add-used c = omega (arith, turned (c .before .before .before .before .before) .room, c .before .before .before .before .before .before .before .before .before .before .before .before .loop .inv .same-length, c .before .before .before .before .before .before .before .before .before .before .before .before .before .before .before .before .good)
+
+add-records : tie.Need-add-records Inv-loop μ-loop
+add-records c = omega (arith, turned (c .before .before .before .before .before .before) .room, c .before .before .before .before .before .before .before .before .before .before .before .before .before .loop .inv .same-length, c .before .before .before .before .before .before .before .before .before .before .before .before .before .loop .inv .counted, c .before .before .before .before .before .before .before .before .before .before .before .before .before .before .before .before .before .good)
+
+add-events : tie.Need-add-events Inv-loop μ-loop
+add-events c = omega (arith, c .before .before .before .before .before .before .before .before .before .before .before .before .loop-test .taken, c .before .before .before .before .before .before .before .before .before .before .before .before .before .before .before .before .before .good)
+
+loop-less : tie.Need-loop-less Inv-loop μ-loop
+loop-less c = search needs
+
+loop-again : tie.Need-loop-again Inv-loop μ-loop
+loop-again c =
+    let l = c .before .before .before .before .before .before .before .before .before .before .before .before .before .loop in
+    turned (c .before .before .before .before .before .before) .goes _ (part-back (l .out) (l .used) (stepIn (c .before .before .before .before .before .before) .output)) (c .before .before .if1 .left)
+
+same-length-2 : tie.Need-same-length-2 Inv-loop μ-loop
+same-length-2 c = search needs
+
+returns-2 : tie.Need-returns-2 Inv-loop μ-loop
+returns-2 c =
+    let a = c .before .before .before .before .before .args in
+    let l = c .before .loop in
+    let z₀ = sessionOf (a .from) (a .levels .now) (a .bindings .now) (a .spaces .now) (a .strands .now) in
+    going-last (a .table .now) (a .scene .now) z₀ (a .out .now) (a .most) (sessionOf (l .head) (l .levels) (l .bindings) (l .spaces) (l .strands)) (l .out) (l .used) (l .events) (l .records) (l .inv) (omega (arith, c .loop-test .left))
+
+pub judged-steps-spec : {M : Type 1} → statement M
+judged-steps-spec =
+    tie.close
+    (tie.spec
+    Inv-loop
+    μ-loop
+    loop-holds
+    sub-judged-step
+    part-judged-step-start
+    part-judged-step-end
+    judged-step-requires
+    same-length
+    returns
+    mul-used
+    add-used
+    add-records
+    add-events
+    loop-less
+    loop-again
+    same-length-2
+    returns-2)

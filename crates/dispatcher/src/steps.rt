@@ -1,0 +1,207 @@
+// Steps under an accepted table: one, so many, and those of any session.
+use crate::Advanced;
+use crate::Head;
+use crate::Session;
+use crate::Turn;
+use crate::coherence::coherent;
+use crate::ends::awaited_turn;
+use crate::ends::end_turn;
+use crate::ends::text_turn;
+use crate::starts::start_turn;
+use lexer::Begin;
+use lexer::Stop;
+use lexer::stops::number_of;
+use lexer::stops::place_of;
+use lexer::tags::begin_at;
+use table::Header;
+use table::index::load;
+ghost use mathlib.Core.Path.{_≡_};
+ghost use mathlib.Core.Bool.{true};
+ghost use Prim.Native.Nat.{_≤_};
+ghost use lib.ListN.{length};
+ghost use Rattle.table.specs.Table.{decode, headerOf};
+ghost use Rattle.table.specs.Judge.{Accepted};
+ghost use Rattle.lexer.specs.Stops.{numberOf, stopPlace};
+ghost use Rattle.dispatcher.specs.Sessions.{sessionOf};
+ghost use Rattle.dispatcher.specs.Stepping.{planOf, planned, advanceOf};
+ghost use Rattle.dispatcher.specs.Turns.{TurnReady, Sized, stopTurn, stepBy, advancedBy};
+
+// A refusal: the session's numbers stay.
+pub fn stop(number: u8, place: usize, head: Head) -> Turn
+    ensures { λ r. ⌜ r ≡ stopTurn number place head ⌝ }
+{
+    Turn {
+        number,
+        place,
+        records: 0,
+        head,
+    }
+}
+
+// Reading stopped.
+pub fn stopped(scene: &[u8], x: Stop, head: Head) -> Turn
+    ensures { λ r. ⌜ r ≡ stopTurn (numberOf x) (stopPlace (now (scene .entry)) x) head ⌝ }
+{
+    stop(number_of(x), place_of(scene, x), head)
+}
+
+// One step of a coherent session: its records go to the output from its first byte on.
+fn judged_step(
+    table: &[u8],
+    header: Header,
+    index: &[u32; 256],
+    scene: &[u8],
+    head: Head,
+    levels: &mut [u32; 3 * Session::DEPTH],
+    bindings: &mut [u32; 4 * Session::BINDINGS],
+    spaces: &mut [u32; 4 * Session::DEPTH],
+    strands: &mut [u32; Session::STRANDS * Session::DEPTH],
+    out: &mut [u8],
+) -> Turn
+    requires { ⌜ TurnReady (now table) header (now index) (now scene) (sessionOf head (now levels) (now bindings) (now spaces) (now strands)) ⌝ }
+    ensures { λ r. ⌜ (
+        let z = sessionOf head (now (levels .entry)) (now (bindings .entry)) (now (spaces .entry)) (now (strands .entry)) in
+        stepBy r (now (levels .exit)) (now (bindings .exit)) (now (spaces .exit)) (now (strands .exit)) (now (out .exit))
+        ≡ planned (planOf (decode (now (table .entry))) (now (scene .entry)) z) z (now (out .entry))
+        ) ⌝ }
+{
+    if head.awaited {
+        return awaited_turn(scene, head, levels, spaces, strands, out);
+    }
+    match begin_at(scene, head.place, head.depth != 0, head.closed) {
+        Begin::Start(at) => start_turn(
+            table,
+            header,
+            index,
+            scene,
+            at,
+            head,
+            levels,
+            bindings,
+            spaces,
+            strands,
+            out,
+        ),
+        Begin::End(at) => end_turn(scene, at, head, levels, spaces, strands, out),
+        Begin::Text(at) => text_turn(scene, at, head, spaces, strands, out),
+        Begin::Finished => stop(9, scene.len(), head),
+        Begin::Stopped(x) => stopped(scene, x, head),
+    }
+}
+
+// Such steps until one's number is not 0 or there were so many. Each is lent the rest of the output.
+fn judged_steps(
+    table: &[u8],
+    header: Header,
+    index: &[u32; 256],
+    scene: &[u8],
+    from: Head,
+    levels: &mut [u32; 3 * Session::DEPTH],
+    bindings: &mut [u32; 4 * Session::BINDINGS],
+    spaces: &mut [u32; 4 * Session::DEPTH],
+    strands: &mut [u32; Session::STRANDS * Session::DEPTH],
+    most: usize,
+    out: &mut [u8],
+) -> Advanced
+    requires { ⌜ TurnReady (now table) header (now index) (now scene) (sessionOf from (now levels) (now bindings) (now spaces) (now strands)) × Sized (now levels) (now bindings) (now spaces) (now strands) ⌝ }
+    ensures { λ r. ⌜ (
+        let z = sessionOf from (now (levels .entry)) (now (bindings .entry)) (now (spaces .entry)) (now (strands .entry)) in
+        advancedBy r (now (levels .exit)) (now (bindings .exit)) (now (spaces .exit)) (now (strands .exit)) (now (out .exit))
+        ≡ advanceOf most (now (table .entry)) (now (scene .entry)) z (now (out .entry))
+        ) ⌝ }
+{
+    let mut head = from;
+    let mut used = 0;
+    let mut events = 0;
+    let mut records = 0;
+    while events < most {
+        let turn = judged_step(
+            table,
+            header,
+            index,
+            scene,
+            head,
+            levels,
+            bindings,
+            spaces,
+            strands,
+            &mut out[used..],
+        );
+        let number = turn.number;
+        let last = turn.head;
+        if number != 0 {
+            return Advanced {
+                number,
+                place: turn.place,
+                events,
+                records,
+                head: last,
+            };
+        }
+        head = last;
+        used += 16 * turn.records;
+        records += turn.records;
+        events += 1;
+    }
+    Advanced {
+        number: 0,
+        place: head.place,
+        events,
+        records,
+        head,
+    }
+}
+
+// The same of any session: 20 first.
+pub fn steps_from(
+    table: &[u8],
+    header: Header,
+    scene: &[u8],
+    from: Head,
+    levels: &mut [u32; 3 * Session::DEPTH],
+    bindings: &mut [u32; 4 * Session::BINDINGS],
+    spaces: &mut [u32; 4 * Session::DEPTH],
+    strands: &mut [u32; Session::STRANDS * Session::DEPTH],
+    most: usize,
+    out: &mut [u8],
+) -> Advanced
+    requires { ⌜ (Accepted (now table) ≡ true) × (header ≡ headerOf (now table)) × (length (now scene) ≤ 16777215) × (1 ≤ most) × Sized (now levels) (now bindings) (now spaces) (now strands) ⌝ }
+    ensures { λ r. ⌜ (
+        let z = sessionOf from (now (levels .entry)) (now (bindings .entry)) (now (spaces .entry)) (now (strands .entry)) in
+        advancedBy r (now (levels .exit)) (now (bindings .exit)) (now (spaces .exit)) (now (strands .exit)) (now (out .exit))
+        ≡ advanceOf most (now (table .entry)) (now (scene .entry)) z (now (out .entry))
+        ) ⌝ }
+{
+    if !coherent(
+        table,
+        header,
+        scene,
+        from,
+        levels,
+        bindings,
+        spaces,
+        strands,
+    ) {
+        return Advanced {
+            number: 20,
+            place: 0,
+            events: 0,
+            records: 0,
+            head: from,
+        };
+    }
+    let index = load(table, header);
+    judged_steps(
+        table,
+        header,
+        &index,
+        scene,
+        from,
+        levels,
+        bindings,
+        spaces,
+        strands,
+        most,
+        out,
+    )
+}
