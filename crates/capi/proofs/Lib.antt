@@ -7,7 +7,9 @@ pub mod ReadBytes
 pub mod Within
 pub mod RoundTrip
 pub mod Taken
+pub mod FreshBytes
 pub mod NextHeld
 pub mod Told
 pub mod ByteSteps
+pub mod Lent
 pub mod NextStored

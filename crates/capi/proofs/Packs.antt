@@ -92,3 +92,6 @@ packs-by w = by (eqb (w / 32 % 4) 3) (eqb (w / 256 % 2) 1) refl refl
         let k : w / 256 % 2 ≡ 1 = eqb-true (w / 256 % 2) 1 d in
         ap (λ (u : Bool). ltb w 33554432 || u) (le-ltb w 256 (omega arith)) ∙ or-false (ltb w 33554432) ∙ packs-aimed w (eqb-false (w / 32 % 4) 3 e) k
     by false false e d = packs-free w (eqb-false (w / 32 % 4) 3 e) (eqb-false (w / 256 % 2) 1 d)
+
+pub zero-packs : (w : ℕ) → eqb w 0 ≡ true → packs w ≡ true
+zero-packs w e = ap packs (eqb-true w 0 e) ∙ sym (packs-by 0)

@@ -6,6 +6,7 @@ use mathlib.Core.Bool.{Bool, true, false, _&&_, and-assoc, and-true}
 use native.Mathlib.Nat.{zero-add}
 use native.Mathlib.Omega.{arith}
 use Rattle.laws.specs.Lists.{all, tabulate}
+use Rattle.laws.proofs.Flags.{and-left, and-right}
 use Rattle.reader.proofs.Tabulated.{tabulate-same, tabulate-append}
 
 all-append : (p : ℕ → Bool) (a b : List ℕ) → all p (a ++ b) ≡ (all p a && all p b)
@@ -57,3 +58,24 @@ module _ (p q : ℕ → Bool) (i m n : ℕ) (v : Bool) (inv : asked p i (n - i) 
 
   pub some-pass : (j : ℕ) → i + m ≡ j → asked q 0 m ≡ true → asked p j (n - j) ≡ v
   some-pass j k e = ap (λ (a : ℕ). asked p a (n - a)) (sym k) ∙ ap (λ (t : Bool). t && asked p (i + m) (n - (i + m))) (sym e) ∙ parts
+
+-- the numbers from m on by a test of their own, and where one that says more passes
+module _ (p q : ℕ → Bool) (m n : ℕ) (same : (k : ℕ) → k < n → q k ≡ p (m + k)) where
+  both-parts : (asked p 0 m && asked q 0 n) ≡ asked p 0 (m + n)
+  both-parts =
+      ap (λ (t : Bool). asked p 0 m && t) (asked-same q p 0 (0 + m) n (λ k l. ap q (zero-add k) ∙ same k l ∙ ap (λ (a : ℕ). p (a + k)) (sym (zero-add m))))
+      ∙ sym (ap (all p) (tabulate-append (λ (k : ℕ). k) 0 m n) ∙ all-append p (tabulate (λ (k : ℕ). k) 0 m) (tabulate (λ (k : ℕ). k) (0 + m) n))
+
+  pub first-fail : asked p 0 m ≡ false → false ≡ asked p 0 (m + n)
+  first-fail e = ap (λ (t : Bool). t && asked q 0 n) (sym e) ∙ both-parts
+
+  pub then-last : asked p 0 m ≡ true → asked q 0 n ≡ asked p 0 (m + n)
+  then-last e = ap (λ (t : Bool). t && asked q 0 n) (sym e) ∙ both-parts
+
+all-more : (p q : ℕ → Bool) → ((x : ℕ) → p x ≡ true → q x ≡ true) → (a : List ℕ) → all p a ≡ true → all q a ≡ true
+unfolding all
+all-more p q h [] e = refl
+all-more p q h (x ∷ a) e = ap (λ (t : Bool). t && all q a) (h x (and-left (p x) (all p a) e)) ∙ all-more p q h a (and-right (p x) (all p a) e)
+
+pub asked-less : (p q : ℕ → Bool) (n : ℕ) → ((x : ℕ) → p x ≡ true → q x ≡ true) → asked p 0 n ≡ true → asked q 0 n ≡ true
+asked-less p q n h e = all-more p q h (tabulate (λ (k : ℕ). k) 0 n) e

@@ -1,6 +1,5 @@
 // A session in a host's bytes: tested, read and stored.
-use dispatcher::Session;
-use reader::Scope;
+use dispatcher::Head;
 use table::words::word;
 ghost use mathlib.Core.Path.{_≡_};
 ghost use Prim.Native.Nat.{ℕ, _+_, _*_, _≤_, _<_};
@@ -9,6 +8,7 @@ ghost use lib.Dec.{eqb};
 ghost use Rattle.laws.specs.Lists.{all, tabulate};
 ghost use Rattle.laws.specs.Gather.{gather};
 ghost use Rattle.laws.specs.Over.{overwrite};
+ghost use Rattle.dispatcher.specs.Sessions.{freshOf, headOf, sessionOf};
 ghost use Rattle.capi.specs.Layout.{sessionSize, word4, word8, bytes4, bytes8, flag, bindingAt, levelAt, spaceAt, strandAt, sessionIn, packs, holdsSession, sessionBytes};
 ghost use Rattle.capi.specs.Parts.{headBytes, levelWords};
 
@@ -42,73 +42,82 @@ fn words_in(b: &[u8], at: usize, words: &mut [u32], from: usize, n: usize)
     }
 }
 
-fn levels_in(b: &[u8]) -> [u32; 192]
+fn levels_in(b: &[u8], words: &mut [u32; 192])
     requires { ⌜ sessionSize ≤ length (now b) ⌝ }
-    ensures { λ r. ⌜ r ≡ tabulate (λ (i : ℕ). word4 (now (b .entry)) (levelAt i)) 0 192 ⌝ }
+    ensures { λ _. ⌜ now (words .exit) ≡ tabulate (λ (i : ℕ). word4 (now (b .entry)) (levelAt i)) 0 192 ⌝ }
 {
-    let mut words: [u32; 192] = [0; 192];
+    let all: &mut [u32] = words;
     let mut k = 0;
     while k < 64 {
-        words_in(b, 1064 + 96 * k, &mut words, 3 * k, 3);
+        words_in(b, 1064 + 96 * k, all, 3 * k, 3);
         k += 1;
     }
-    words
 }
 
-fn bindings_in(b: &[u8]) -> [u32; 256]
+fn bindings_in(b: &[u8], words: &mut [u32; 256])
     requires { ⌜ sessionSize ≤ length (now b) ⌝ }
-    ensures { λ r. ⌜ r ≡ tabulate (λ (i : ℕ). word4 (now (b .entry)) (bindingAt i)) 0 256 ⌝ }
+    ensures { λ _. ⌜ now (words .exit) ≡ tabulate (λ (i : ℕ). word4 (now (b .entry)) (bindingAt i)) 0 256 ⌝ }
 {
-    let mut words: [u32; 256] = [0; 256];
-    words_in(b, 40, &mut words, 0, 256);
-    words
+    let all: &mut [u32] = words;
+    words_in(b, 40, all, 0, 256);
 }
 
-fn spaces_in(b: &[u8]) -> [u32; 256]
+fn spaces_in(b: &[u8], words: &mut [u32; 256])
     requires { ⌜ sessionSize ≤ length (now b) ⌝ }
-    ensures { λ r. ⌜ r ≡ tabulate (λ (i : ℕ). word4 (now (b .entry)) (spaceAt i)) 0 256 ⌝ }
+    ensures { λ _. ⌜ now (words .exit) ≡ tabulate (λ (i : ℕ). word4 (now (b .entry)) (spaceAt i)) 0 256 ⌝ }
 {
-    let mut words: [u32; 256] = [0; 256];
+    let all: &mut [u32] = words;
     let mut k = 0;
     while k < 64 {
-        words_in(b, 1064 + 96 * k + 12, &mut words, 4 * k, 4);
+        words_in(b, 1064 + 96 * k + 12, all, 4 * k, 4);
         k += 1;
     }
-    words
 }
 
-fn strands_in(b: &[u8]) -> [u32; 1024]
+fn strands_in(b: &[u8], words: &mut [u32; 1024])
     requires { ⌜ sessionSize ≤ length (now b) ⌝ }
-    ensures { λ r. ⌜ r ≡ tabulate (λ (i : ℕ). word4 (now (b .entry)) (strandAt i)) 0 1024 ⌝ }
+    ensures { λ _. ⌜ now (words .exit) ≡ tabulate (λ (i : ℕ). word4 (now (b .entry)) (strandAt i)) 0 1024 ⌝ }
 {
-    let mut words: [u32; 1024] = [0; 1024];
+    let all: &mut [u32] = words;
     let mut k = 0;
     while k < 64 {
-        words_in(b, 1064 + 96 * k + 32, &mut words, 16 * k, 16);
+        words_in(b, 1064 + 96 * k + 32, all, 16 * k, 16);
         k += 1;
     }
-    words
 }
 
-// The session that the bytes hold.
-pub(crate) fn session_in(b: &[u8]) -> Session
+// The arrays of the session that the bytes hold.
+pub(crate) fn arrays_in(
+    b: &[u8],
+    levels: &mut [u32; 192],
+    bindings: &mut [u32; 256],
+    spaces: &mut [u32; 256],
+    strands: &mut [u32; 1024],
+)
     requires { ⌜ sessionSize ≤ length (now b) ⌝ }
-    ensures { λ r. ⌜ r ≡ sessionIn (now (b .entry)) ⌝ }
+    ensures { λ _. ⌜ (
+        let z = sessionIn (now (b .entry)) in
+        (now (levels .exit) ≡ z .scope .levels) × (now (bindings .exit) ≡ z .scope .bindings) × (now (spaces .exit) ≡ z .spaces) × (now (strands .exit) ≡ z .strands)
+        ) ⌝ }
 {
-    let scope = Scope {
-        depth: word8_at(b, 24),
-        bound: word8_at(b, 32),
-        levels: levels_in(b),
-        bindings: bindings_in(b),
-    };
-    Session {
+    levels_in(b, levels);
+    bindings_in(b, bindings);
+    spaces_in(b, spaces);
+    strands_in(b, strands);
+}
+
+// Its numbers.
+pub(crate) fn head_in(b: &[u8]) -> Head
+    requires { ⌜ sessionSize ≤ length (now b) ⌝ }
+    ensures { λ r. ⌜ r ≡ headOf (sessionIn (now (b .entry))) ⌝ }
+{
+    Head {
         place: word8_at(b, 8),
         units: word8_at(b, 16),
         closed: b[1] == 1,
         awaited: b[2] == 1,
-        scope,
-        spaces: spaces_in(b),
-        strands: strands_in(b),
+        depth: word8_at(b, 24),
+        bound: word8_at(b, 32),
     }
 }
 
@@ -149,18 +158,46 @@ fn no_level_padding(b: &[u8]) -> bool
     all
 }
 
-// Whether each of the sixteen numbers from `at` on packs a strand.
-fn level_packs(b: &[u8], at: usize) -> bool
-    requires { ⌜ at + 64 ≤ length (now b) ⌝ }
-    ensures { λ r. ⌜ r ≡ all (λ (j : ℕ). packs (word4 (now (b .entry)) (at + 4 * j))) (tabulate (λ (j : ℕ). j) 0 16) ⌝ }
+// Whether each of n numbers from `at` on is 0.
+fn words_zero(b: &[u8], at: usize, n: usize) -> bool
+    requires { ⌜ at + 4 * n ≤ length (now b) ⌝ }
+    ensures { λ r. ⌜ r ≡ all (λ (j : ℕ). eqb (word4 (now (b .entry)) (at + 4 * j)) 0) (tabulate (λ (j : ℕ). j) 0 n) ⌝ }
 {
     let mut all = true;
     let mut j = 0;
-    while j < 16 {
+    while j < n {
+        all = all & (word4_at(b, at + 4 * j) == 0);
+        j += 1;
+    }
+    all
+}
+
+// Whether each of them packs a strand.
+fn words_pack(b: &[u8], at: usize, n: usize) -> bool
+    requires { ⌜ at + 4 * n ≤ length (now b) ⌝ }
+    ensures { λ r. ⌜ r ≡ all (λ (j : ℕ). packs (word4 (now (b .entry)) (at + 4 * j))) (tabulate (λ (j : ℕ). j) 0 n) ⌝ }
+{
+    let mut all = true;
+    let mut j = 0;
+    while j < n {
         all = all & packs_strand(word4_at(b, at + 4 * j));
         j += 1;
     }
     all
+}
+
+// Whether each of the sixteen numbers from `at` on packs a strand. Behind the fourth they are mostly 0.
+fn level_packs(b: &[u8], at: usize) -> bool
+    requires { ⌜ at + 64 ≤ length (now b) ⌝ }
+    ensures { λ r. ⌜ r ≡ all (λ (j : ℕ). packs (word4 (now (b .entry)) (at + 4 * j))) (tabulate (λ (j : ℕ). j) 0 16) ⌝ }
+{
+    if !words_pack(b, at, 4) {
+        return false;
+    }
+    if words_zero(b, at + 16, 12) {
+        return true;
+    }
+    words_pack(b, at + 16, 12)
 }
 
 fn strands_pack(b: &[u8]) -> bool
@@ -297,24 +334,40 @@ fn put_bindings(b: &mut [u8], bindings: &[u32; 256])
     put_words(b, 40, all, 0, 256);
 }
 
-// A session's bytes laid over the first of `b`.
-pub(crate) fn put_session(b: &mut [u8], session: Session)
+// The bytes of a session's numbers and arrays, laid over the first of `b`.
+pub(crate) fn put_session(
+    b: &mut [u8],
+    head: Head,
+    levels: &[u32; 192],
+    bindings: &[u32; 256],
+    spaces: &[u32; 256],
+    strands: &[u32; 1024],
+)
     requires { ⌜ sessionSize ≤ length (now b) ⌝ }
-    ensures { λ _. ⌜ now (b .exit) ≡ overwrite (now (b .entry)) 0 (sessionBytes session) ⌝ }
+    ensures { λ _. ⌜ now (b .exit) ≡ overwrite (now (b .entry)) 0 (sessionBytes (sessionOf head (now (levels .entry)) (now (bindings .entry)) (now (spaces .entry)) (now (strands .entry)))) ⌝ }
 {
-    let levels = session.scope.levels;
-    let bindings = session.scope.bindings;
-    let spaces = session.spaces;
-    let strands = session.strands;
     put_head(
         b,
-        session.closed,
-        session.awaited,
-        session.place,
-        session.units,
-        session.scope.depth,
-        session.scope.bound,
+        head.closed,
+        head.awaited,
+        head.place,
+        head.units,
+        head.depth,
+        head.bound,
     );
-    put_bindings(b, &bindings);
-    put_levels(b, &levels, &spaces, &strands);
+    put_bindings(b, bindings);
+    put_levels(b, levels, spaces, strands);
+}
+
+// A fresh session's: a 1, the others 0.
+pub(crate) fn put_fresh(b: &mut [u8])
+    requires { ⌜ sessionSize ≤ length (now b) ⌝ }
+    ensures { λ _. ⌜ now (b .exit) ≡ overwrite (now (b .entry)) 0 (sessionBytes freshOf) ⌝ }
+{
+    let mut i = 0;
+    while i < 7208 {
+        b[i] = 0;
+        i += 1;
+    }
+    b[0] = 1;
 }

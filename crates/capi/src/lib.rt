@@ -1,10 +1,14 @@
 // The dispatcher for hosts written in C, C++, Rust or Python: include/calcivorne.h is the manual.
 mod layout;
 
+use crate::layout::arrays_in;
+use crate::layout::head_in;
 use crate::layout::holds_session;
+use crate::layout::put_fresh;
 use crate::layout::put_session;
-use crate::layout::session_in;
 use dispatcher::Session;
+use dispatcher::advance_in;
+use dispatcher::answer_of;
 use table::Answer;
 use table::judge;
 use uris::Source;
@@ -87,7 +91,7 @@ pub extern "C" fn calcivorne_fresh(session: &mut [u8]) -> u8
     if session.len() < SESSION_SIZE {
         return TOO_SHORT;
     }
-    put_session(session, Session::fresh());
+    put_fresh(session);
     0
 }
 
@@ -133,13 +137,40 @@ fn advance_bytes(
     if !holds_session(session) {
         return no_session(table, scene);
     }
-    let stepped = session_in(session).advance(table, scene, most, out);
-    let a = stepped.answer;
+    let mut levels: [u32; 192] = [0; 192];
+    let mut bindings: [u32; 256] = [0; 256];
+    let mut spaces: [u32; 256] = [0; 256];
+    let mut strands: [u32; 1024] = [0; 1024];
+    arrays_in(
+        session,
+        &mut levels,
+        &mut bindings,
+        &mut spaces,
+        &mut strands,
+    );
+    let advanced = advance_in(
+        table,
+        scene,
+        head_in(session),
+        &mut levels,
+        &mut bindings,
+        &mut spaces,
+        &mut strands,
+        most,
+        out,
+    );
+    let a = answer_of(advanced);
     if a.events == 0 {
         return a;
     }
-    let behind = stepped.session;
-    put_session(session, behind);
+    put_session(
+        session,
+        advanced.head,
+        &levels,
+        &bindings,
+        &spaces,
+        &strands,
+    );
     a
 }
 

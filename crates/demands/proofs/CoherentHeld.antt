@@ -30,7 +30,8 @@ use Rattle.reader.specs.declared.Span.{Span}
 use Rattle.reader.specs.declared.Binding.{Binding}
 use Rattle.reader.proofs.MoreBytes.{bytes-more, refused-more}
 use Rattle.dispatcher.specs.Sessions.{uriIn, readerOf}
-use Rattle.dispatcher.specs.Coherence.{openLevels, openBindings, depthFits, boundFits, placeInside, spanInside, levelSpansInside, bindingSpansInside, namesFit, bindingsAllowed, prefixFits, prefixesFit, strandCountsFit, modesFit, classesFit, targetsFit, validatesAim, unitsFit, countsAddUp, awaitedFits, closedFits, coherent}
+use Rattle.coherence.specs.Fitting.{spanInside, prefixFits}
+use Rattle.dispatcher.specs.Coherence.{openLevels, openBindings, depthFits, boundFits, placeInside, levelSpansInside, bindingSpansInside, namesFit, bindingsAllowed, prefixesFit, strandCountsFit, modesFit, classesFit, targetsFit, validatesAim, unitsFit, countsAddUp, awaitedFits, closedFits, coherent}
 use Rattle.dispatcher.specs.declared.Session.{Session}
 use Rattle.dispatcher.proofs.SoundCoherent.{total-numbers}
 

@@ -2,14 +2,15 @@
 --     weaker, joined, two     tests of all elements
 --     LevelParts              what the test of a level says
 --     whole                   all of the checks together
+--     session-*               the ways out of the code that asks them
 use Prim.Native.Nat.{ℕ, _<_}
 use mathlib.Core.Path.{_≡_, refl, sym, ap, _∙_}
 use mathlib.Core.List.{List, [], _∷_}
-use mathlib.Core.Bool.{Bool, true, not, _&&_, _||_}
+use mathlib.Core.Bool.{Bool, true, false, not, _&&_, _||_}
 use native.Mathlib.Omega.{arith}
 use lib.ListN.{length}
 use lib.Dec.{leb, ltb, eqb}
-use Rattle.laws.specs.Lists.{all, tabulate}
+use Rattle.laws.specs.Lists.{all}
 use Rattle.laws.specs.Gather.{total}
 use Rattle.laws.specs.Tests.{both}
 use Rattle.laws.proofs.Flags.{flag-same, and-left, and-right}
@@ -17,14 +18,16 @@ use Rattle.table.specs.Table.{Table}
 use Rattle.reader.specs.declared.Binding.{Binding}
 use Rattle.reader.specs.Spans.{bytesOf}
 use Rattle.reader.specs.Namespaces.{refusedBinding}
-use Rattle.reader.specs.Stored.{bindingIn}
 use Rattle.reader.specs.Scope.{nameIn, countIn}
 use Rattle.reader.specs.Counted.{countOf}
 use Rattle.lexer.specs.Whole.{isWholeName}
 use Rattle.model.specs.Stream.{HeldStrand}
+use Rattle.coherence.specs.Fitting.{spanInside, targetFits}
+use Rattle.coherence.specs.Checks.{bindingFits, nameFits, classFits, strandFits, levelFits, arraysFit}
+use Rattle.coherence.proofs.Chain.{chain-out, chain-on}
 use Rattle.dispatcher.specs.Sessions.{classIn, uriIn, strandCount, strandsIn, sessionOf}
-use Rattle.dispatcher.specs.Coherence.{openLevels, openBindings, spanInside, targetFits, aims, coherent}
-use Rattle.dispatcher.specs.Checks.{headFits, bindingFits, nameFits, classFits, strandFits, levelFits}
+use Rattle.dispatcher.specs.Coherence.{openLevels, openBindings, coherent}
+use Rattle.dispatcher.specs.Checks.{headFits}
 use Rattle.dispatcher.specs.declared.Head.{Head}
 use Rattle.dispatcher.specs.declared.Session.{Session}
 use Rattle.dispatcher.proofs.SoundCoherent.{all-numbers, total-numbers}
@@ -109,12 +112,10 @@ module _ (t : Table) (s : List ℕ) (h : Head) (levels bindings spaces strands :
   counted = ap (λ (n : ℕ). eqb n (h .bound)) (total-numbers levels (h .depth))
 
   abbrev checks : Bool
-  checks =
-      headFits (length s) h
-      && (eqb (countOf levels (h .depth)) (h .bound)
-      && (all (bindingFits s) (tabulate (bindingIn bindings) 0 (h .bound)) && all levelTest (tabulate (λ (k : ℕ). k) 0 (h .depth))))
+  checks = headFits (length s) h && arraysFit t s (h .units) (h .depth) (h .bound) levels bindings spaces strands
 
   said : checks ≡ true → coherent t s z ≡ true
+  unfolding arraysFit
   said e =
       let e₂ = and-right (headFits (length s) h) _ e in
       let e₃ = and-right (eqb (countOf levels (h .depth)) (h .bound)) _ e₂ in
@@ -161,6 +162,7 @@ module _ (t : Table) (s : List ℕ) (h : Head) (levels bindings spaces strands :
       }
 
   asked : coherent t s z ≡ true → checks ≡ true
+  unfolding arraysFit
   asked e =
       let c = clauses t s z e in
       both _ _ (both _ _ (c .depth) (both _ _ (c .bound) (both _ _ (c .place) (both _ _ (c .units) (both _ _ (c .awaited) (c .closed))))))
@@ -173,5 +175,13 @@ module _ (t : Table) (s : List ℕ) (h : Head) (levels bindings spaces strands :
       (openBindings z) (c .binding-spans) (two _ _ (openBindings z) (c .allowed) (c .prefixes)))
       (all-numbers levelTest 0 (h .depth) (λ k l. level-whole k (level-from c k (omega arith))))))
 
-  pub whole : checks ≡ coherent t s z
+  whole : checks ≡ coherent t s z
   whole = flag-same checks (coherent t s z) said asked
+
+  -- ---- the ways out
+  module _ (a : Bool) (ea : a ≡ headFits (length s) h) where
+    pub session-head : not a ≡ true → false ≡ coherent t s z
+    session-head = chain-out a _ _ (coherent t s z) ea whole
+
+    pub session-arrays : not a ≡ false → (r : Bool) → r ≡ arraysFit t s (h .units) (h .depth) (h .bound) levels bindings spaces strands → r ≡ coherent t s z
+    session-arrays f r e = e ∙ chain-on a _ _ (coherent t s z) ea whole f

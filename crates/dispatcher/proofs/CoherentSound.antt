@@ -36,7 +36,8 @@ use Rattle.model.specs.Stream.{Level, HeldStrand}
 use Rattle.model.specs.Dispatch.{dispatch}
 use Rattle.strands.proofs.Packing.{Below}
 use Rattle.dispatcher.specs.Sessions.{classIn, uriIn, strandCount, strandsIn, levelIn, levelsIn, stateOf, readerOf}
-use Rattle.dispatcher.specs.Coherence.{openLevels, openBindings, spanInside, prefixFits, targetFits, aims, coherent}
+use Rattle.coherence.specs.Fitting.{spanInside, prefixFits, targetFits, aims}
+use Rattle.dispatcher.specs.Coherence.{openLevels, openBindings, coherent}
 use Rattle.dispatcher.specs.declared.Session.{Session}
 use Rattle.dispatcher.proofs.Sound.{Aims, StrandSound, LevelSound, Sound}
 use Rattle.dispatcher.proofs.SoundCoherent.{total-numbers, strands-counted}

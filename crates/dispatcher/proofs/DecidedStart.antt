@@ -7,7 +7,7 @@ use mathlib.Core.List.{List, map}
 use mathlib.Core.Bool.{true, cond}
 use native.Mathlib.Omega.{arith}
 use borrow.Author.Tests.{lt-ltb, le-ltb}
-use lib.ListN.{length, take}
+use lib.ListN.{length, getD, take}
 use lib.Dec.{ltb}
 use Rattle.laws.specs.Gather.{total}
 use Rattle.laws.specs.Members.{All}
@@ -22,15 +22,16 @@ use Rattle.model.specs.Elements.{Element, elementOf}
 use Rattle.model.specs.Groups.{groupsOf}
 use Rattle.model.specs.Dispatch.{dispatch}
 use Rattle.strands.specs.Entries.{strandWord, schemaWord, hereCount, Unnumbered, entriesIn}
-use Rattle.strands.specs.Attributes.{Sorted, allSorted}
+use Rattle.attributes.specs.Attributes.{Sorted, allSorted}
 use Rattle.strands.specs.Writing.{elementCount}
 use Rattle.strands.proofs.Numbered.{allOf}
 use Rattle.strands.proofs.Entered.{SchemaSmall, EntryPackable, here-count, entries-back, allot-schemas, allot-length, allot-packable}
 use Rattle.dispatcher.specs.Sessions.{stateOf}
-use Rattle.dispatcher.specs.Turns.{Made, DecidedAs, decidedNumber, onlyNumber}
+use Rattle.openings.specs.Openings.{onlyNumber}
+use Rattle.dispatcher.specs.Turns.{Made, DecidedAs, decidedNumber}
 use Rattle.dispatcher.specs.declared.Session.{Session}
-use Rattle.dispatcher.specs.declared.Decided.{Decided}
-use Rattle.dispatcher.proofs.Deciding.{Entering, wordsOf, loadUnits, loadRecords, Weighed}
+use Rattle.openings.specs.declared.Decided.{Decided}
+use Rattle.openings.proofs.Deciding.{Entering, wordsOf, loadUnits, loadRecords, Weighed}
 use Rattle.dispatcher.proofs.StartCounts.{many, few, not-heavy, words-back, taken-back, small-at, units-after, written-length, units-loaded, records-loaded, element-records}
 
 module _ (table : List ℕ) (a : Accepted table ≡ true) (s : List ℕ) (z : Session) (e : Start) where
@@ -71,6 +72,7 @@ module _ (table : List ℕ) (a : Accepted table ≡ true) (s : List ℕ) (z : Se
       (words₀ schemas₀ words₁ schemas words attributes sections : List ℕ) (count k j : ℕ) (r : Decided)
       (en : Entering (entriesAt (dispatch (decode table)) (stateOf (decode table) s z .levels) (elementOf (decode table) s e)) words₀ schemas₀ words₁ schemas count)
       (few-strands : count ≤ 16) (few-attributes : k ≤ 16) (few-sections : j ≤ 16)
+      (none-foreign : j ≡ 0 → (i : ℕ) → i < k → getD sections i 0 ≡ 0)
       (sorted : allSorted attributes sections k ≡ allOf (elementOf (decode table) s e)) (sections-are : j ≡ length (groupsOf (elementOf (decode table) s e)))
       (weighed : Weighed (indexOf table (headerOf table)) (allSorted attributes sections k) k j count (z .units) words₁ words r) where
     count-is : count ≡ length es
@@ -160,6 +162,7 @@ module _ (table : List ℕ) (a : Accepted table ≡ true) (s : List ℕ) (z : Se
             few-attributes = omega (arith, weighed .1 y .1);
             attributes-are = ap (allSorted attributes sections) (weighed .1 y .1) ∙ sorted;
             few-sections = omega (arith, weighed .1 y .2);
+            none-foreign = λ q i l. none-foreign (sym (weighed .1 y .2) ∙ q) i (omega (arith, weighed .1 y .1));
             sections-are = weighed .1 y .2 ∙ sections-are;
             units-are = units-are;
             few-units = omega (arith, units-are, units-few);

@@ -37,7 +37,7 @@ use Rattle.dispatcher.specs.declared.Session.{Session}
 use Rattle.dispatcher.proofs.Clauses.{clauses}
 use Rattle.dispatcher.proofs.CoherentSound.{tested-at}
 use Rattle.dispatcher.proofs.Spaces.{uri-back, class-few}
-use Rattle.dispatcher.proofs.Deciding.{joinedBy, levelWords, nextEntries}
+use Rattle.openings.proofs.Deciding.{joinedBy, levelWords, nextEntries}
 
 -- ---- whether the element stays in its parent's section
 abbrev ClassIn : Table → ℕ → Type 0

@@ -33,21 +33,23 @@ use Rattle.model.specs.Records.{Body, startBody}
 use Rattle.model.specs.Stream.{Entry, entriesAt, entered, written, after}
 use Rattle.model.specs.Dispatch.{dispatch}
 use Rattle.records.specs.Rows.{laid, laidRows}
-use Rattle.strands.specs.declared.Placing.{Placing}
+use Rattle.attributes.specs.declared.Placing.{Placing}
 use Rattle.strands.specs.declared.Begun.{Begun}
 use Rattle.strands.specs.Packed.{packed}
-use Rattle.strands.specs.Attributes.{placingOf}
+use Rattle.attributes.specs.Attributes.{placingOf}
 use Rattle.strands.specs.Writing.{rowOf, begunBody}
 use Rattle.dispatcher.specs.Sessions.{sessionOf, stateOf, withStart}
 use Rattle.dispatcher.specs.Stepping.{Plan, refused, event, startPlan, planned, Step, answered, eventStep}
-use Rattle.dispatcher.specs.Turns.{TurnReady, Told, Made, DecidedAs, Roomy, begunOf, startOf, stopTurn, stepBy, openedHead, decidedNumber}
+use Rattle.openings.specs.Openings.{begunOf}
+use Rattle.dispatcher.specs.Turns.{TurnReady, Told, Made, DecidedAs, Roomy, startOf, stopTurn, stepBy, openedHead, decidedNumber}
 use Rattle.dispatcher.specs.declared.Session.{Session}
 use Rattle.dispatcher.specs.declared.Head.{Head}
-use Rattle.dispatcher.specs.declared.Decided.{Decided}
+use Rattle.openings.specs.declared.Decided.{Decided}
 use Rattle.dispatcher.proofs.Spaces.{class-few}
 use Rattle.dispatcher.proofs.CoherentSound.{coherent-levels}
 use Rattle.dispatcher.proofs.EventTurns.{full-turn, room-turn, stop-step}
-use Rattle.dispatcher.proofs.StartWritten.{unitRecords, strandRecords, written-is}
+use Rattle.openings.proofs.Openings.{unitRecords, strandRecords}
+use Rattle.dispatcher.proofs.StartWritten.{written-is}
 use Rattle.dispatcher.proofs.StartSession.{new-count, opened-session}
 
 -- ---- the plan

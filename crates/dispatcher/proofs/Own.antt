@@ -4,17 +4,18 @@ use mathlib.Core.Path.{_≡_, refl, sym, ap, ap₂, _∙_, subst}
 use mathlib.Core.List.{List, [], _∷_, _++_}
 use native.Mathlib.Omega.{arith}
 use native.Mathlib.Nat.{add-zero, mod-eq-of-lt}
-use lib.ListN.{length, getD, drop, replicate, length-append, length-replicate}
-use lib.Seq.{take-append-le, getD-drop, drop-drop}
+use lib.ListN.{length, getD, take, drop, replicate, length-append, length-replicate, List·getD-append}
+use lib.Seq.{take-append-le, length-take-le, getD-take, getD-drop, drop-drop}
 use Rattle.laws.specs.Lists.{tabulate}
 use Rattle.laws.specs.Gather.{gather}
 use Rattle.laws.specs.Members.{All}
+use Rattle.laws.proofs.Over.{length-over}
 use Rattle.reader.specs.declared.Span.{Span}
 use Rattle.reader.specs.declared.Binding.{Binding}
 use Rattle.reader.specs.declared.Scope.{Scope}
 use Rattle.reader.specs.Stored.{bindingIn, bindingNumbers}
 use Rattle.reader.specs.Scope.{withLevel, opensOf}
-use Rattle.reader.proofs.Opens.{CountedScope, open-counted, open-opens, open-lengths}
+use Rattle.reader.proofs.Opens.{CountedScope, binding-same, binding-before, binding-own, open-counted, open-opens, open-lengths}
 
 -- what 32 bits hold
 pub record SpanSmall (w : Span) : Type 0 where
@@ -71,15 +72,34 @@ module _ (sc : Scope) (name : Span) (own : List Binding) where
   as-padded : opened ≡ withLevel sc name (padded own) (length own)
   as-padded = rw (take-append-le (4 * length own) (gather bindingNumbers own) (replicate (64 - 4 * length own) 0) (omega (arith, numbers-long own)))
 
-  module _ (few : length own ≤ 16) (lv : length (sc .levels) ≡ 192) (lb : length (sc .bindings) ≡ 256) (d : sc .depth < 64) (b : sc .bound + length own ≤ 64) where
-    padded-long : length (padded own) ≡ 64
-    padded-long =
-        omega (arith, length-append (gather bindingNumbers own) (replicate (64 - 4 * length own) 0), numbers-long own, length-replicate {A = ℕ} (64 - 4 * length own) 0)
+  padded-long : length own ≤ 16 → length (padded own) ≡ 64
+  padded-long few =
+      omega (arith, length-append (gather bindingNumbers own) (replicate (64 - 4 * length own) 0), numbers-long own, length-replicate {A = ℕ} (64 - 4 * length own) 0)
 
+  module _ (few : length own ≤ 16) (lb : length (sc .bindings) ≡ 256) (b : sc .bound + length own ≤ 64) where
+    -- the bindings that were open, and behind them the tag's own, as an array that begins with their numbers has them
+    pub opened-before : (k : ℕ) → k < sc .bound → bindingIn (opened .bindings) k ≡ bindingIn (sc .bindings) k
+    opened-before k l = ap (λ (x : Scope). bindingIn (x .bindings) k) as-padded ∙ binding-before sc name (padded own) (length own) lb (padded-long few) few b k l
+
+    pub opened-own : (array : List ℕ) → take (4 * length own) array ≡ gather bindingNumbers own → (k : ℕ) → k < length own → bindingIn (opened .bindings) (sc .bound + k) ≡ bindingIn array k
+    opened-own array e k l =
+        ap (λ (x : Scope). bindingIn (x .bindings) (sc .bound + k)) as-padded
+        ∙ binding-own sc name (padded own) (length own) lb (padded-long few) few b k l
+        ∙ binding-same (padded own) array k k (λ j m.
+        List·getD-append (gather bindingNumbers own) (replicate (64 - 4 * length own) 0) 0 (4 * k + j) (omega (arith, numbers-long own))
+        ∙ ap (λ (x : List ℕ). getD x (4 * k + j) 0) (sym e)
+        ∙ getD-take (4 * length own) array (4 * k + j) 0 (omega arith))
+
+    pub opened-long : length (opened .bindings) ≡ 256
+    opened-long =
+        ap (λ (x : Scope). length (x .bindings)) as-padded
+        ∙ length-over (sc .bindings) (4 * sc .bound) (take (4 * length own) (padded own)) (omega (arith, length-take-le (4 * length own) (padded own) (omega (arith, padded-long few)))) ∙ lb
+
+  module _ (few : length own ≤ 16) (lv : length (sc .levels) ≡ 192) (lb : length (sc .bindings) ≡ 256) (d : sc .depth < 64) (b : sc .bound + length own ≤ 64) where
     pub opened-opens : CountedScope sc → SpanSmall name → All BindingSmall own → opensOf opened ≡ record { name = name; declarations = own } ∷ opensOf sc
     opened-opens c n h =
         ap opensOf as-padded
-        ∙ open-opens sc name (padded own) (length own) lb padded-long few b lv d c (n .at) (n .len)
+        ∙ open-opens sc name (padded own) (length own) lb (padded-long few) few b lv d c (n .at) (n .len)
         ∙ ap (λ (ds : List Binding). record { name = name; declarations = ds } ∷ opensOf sc) (own-back (padded own) (replicate (64 - 4 * length own) 0) 0 own refl h)
 
     pub opened-counted : CountedScope sc → CountedScope opened
@@ -88,4 +108,4 @@ module _ (sc : Scope) (name : Span) (own : List Binding) where
     pub opened-lengths : (length (opened .levels) ≡ 192) × (length (opened .bindings) ≡ 256)
     opened-lengths =
         subst (λ (x : Scope). (length (x .levels) ≡ 192) × (length (x .bindings) ≡ 256)) (sym as-padded)
-        (open-lengths sc name (padded own) (length own) lv lb padded-long few d b)
+        (open-lengths sc name (padded own) (length own) lv lb (padded-long few) few d b)

@@ -197,6 +197,13 @@ pub advance-none : (table s : List ℕ) (z : Session) (out : List ℕ) (most : �
 unfolding advanceOf
 advance-none table s z out most b m e = ap (λ (x : Answer). handed (record { answer = x; session = z }) out) e ∙ ap (λ (n : ℕ). advanceOf n table s z out) (sym m)
 
+-- no step: numbers and arrays as they were
+pub none-advanced : (r : Advanced) (head : Head) (levels bindings spaces strands out : List ℕ) (x : Step) → r .head ≡ head
+    → handed (record { answer = advancedAnswer r; session = sessionOf head levels bindings spaces strands }) out ≡ x
+    → advancedBy r levels bindings spaces strands out ≡ x
+none-advanced r head levels bindings spaces strands out x e q =
+    ap (λ (h : Head). handed (record { answer = advancedAnswer r; session = sessionOf h levels bindings spaces strands }) out) e ∙ q
+
 -- ---- a run
 too-long-stops : (table s : List ℕ) (z : Session) (out : List ℕ) → 16777215 < length s → stepOf table s z out .answer .number ≡ 0 → ⊥
 unfolding stepOf

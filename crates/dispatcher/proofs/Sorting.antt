@@ -28,11 +28,11 @@ use Rattle.reader.specs.Held.{SpanHeld}
 use Rattle.reader.proofs.AgreeWhole.{attributesIn}
 use Rattle.model.specs.Elements.{Element, uriSpan, spaceOf, elementOf}
 use Rattle.model.specs.Groups.{groupsOf}
-use Rattle.strands.specs.Attributes.{Given, namespaceOf, givenOf, delivered, givensOf, laidGivens, givenIn, codeNamespaces, numbersFrom, sectionsAfter, allSorted}
-use Rattle.strands.proofs.Giving.{GivenSmall, givens-back}
-use Rattle.strands.proofs.Numbering as numbering
+use Rattle.attributes.specs.Attributes.{Given, namespaceOf, givenOf, delivered, givensOf, laidGivens, givenIn, codeNamespaces, numbersFrom, sectionsAfter, allSorted}
+use Rattle.attributes.proofs.Giving.{GivenSmall, givens-back}
+use Rattle.attributes.proofs.Numbering as numbering
 use Rattle.strands.proofs.Numbered.{allOf}
-use Rattle.strands.proofs.Sorted.{class-few, CodeSmall, kept-are, elementIn, sorted-are, sections-are}
+use Rattle.attributes.proofs.Sorted.{class-few, CodeSmall, kept-are, elementIn, sorted-are, sections-are}
 use Rattle.dispatcher.specs.Turns.{startOf}
 
 -- ---- at most 16 sections

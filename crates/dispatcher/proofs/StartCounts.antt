@@ -40,14 +40,14 @@ use Rattle.strands.specs.Packed.{strandIn}
 use Rattle.strands.specs.Entries.{counted, strandWord, schemaWord}
 use Rattle.strands.specs.Writing.{strandUnits, elementCount}
 use Rattle.strands.proofs.Packing.{packed-back}
-use Rattle.strands.proofs.Numbering.{numbers-back}
+use Rattle.attributes.proofs.Numbering.{numbers-back}
 use Rattle.strands.proofs.Numbered.{allOf, element-classed}
 use Rattle.strands.proofs.StartRecords.{tag-units-are, starts-are}
 use Rattle.strands.proofs.Counted.{tag-length, tag-records, elements-length}
 use Rattle.strands.proofs.Entered.{SchemaSmall, EntryPackable, laid-back}
 use Rattle.dispatcher.specs.Sessions.{stateOf}
 use Rattle.dispatcher.specs.declared.Session.{Session}
-use Rattle.dispatcher.proofs.Deciding.{wordsOf, loadUnits, loadRecords}
+use Rattle.openings.proofs.Deciding.{wordsOf, loadUnits, loadRecords}
 
 -- ---- counts
 counted-few : (n : ℕ) → n ≤ 16 → counted n ≡ n

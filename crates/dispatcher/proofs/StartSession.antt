@@ -17,10 +17,10 @@ use Rattle.reader.specs.Stored.{narrowed, bindingNumbers}
 use Rattle.reader.specs.Scope.{levelNumbers}
 use Rattle.model.specs.Elements.{Space}
 use Rattle.model.specs.Stream.{Entry, HeldStrand}
-use Rattle.strands.specs.declared.Placing.{Placing}
+use Rattle.attributes.specs.declared.Placing.{Placing}
 use Rattle.strands.specs.Packed.{packed}
 use Rattle.strands.specs.Entries.{entryIn, entriesIn}
-use Rattle.strands.specs.Attributes.{placingOf}
+use Rattle.attributes.specs.Attributes.{placingOf}
 use Rattle.dispatcher.specs.Sessions.{sessionOf, withStart}
 use Rattle.dispatcher.specs.Turns.{openedHead}
 use Rattle.dispatcher.specs.declared.Head.{Head}

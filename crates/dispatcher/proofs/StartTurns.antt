@@ -2,9 +2,7 @@
 --     innermost, awaited-innermost, decidable, few-bound     of a session that number 20 accepts
 --     deep-turn, bound-turn                                  21 and 22
 --     made-openable                                          what is decided can be written
---     told-again, roomy, placing-is                          what a start's parts are told
---     tag-gives, tag-plan, undeclared-plan, twice-plan       a tag that was read, by what it means
---     start-read-step                                        a tag, by what reading it answers
+--     roomy                                                  what 21 and 22 leave
 --     begun-step, start-begins, end-begins, text-begins      one event, by how it begins
 use Prim.Native.Nat.{ℕ, zero, suc, _+_, _-_, _*_, _%_, _^_, _≤_, _<_}
 use mathlib.Core.Path.{_≡_, refl, sym, ap, ap₂, subst, _∙_}
@@ -15,74 +13,56 @@ use mathlib.Core.Logic.{⊎-elim}
 use native.Mathlib.Omega.{arith}
 use native.Mathlib.Nat.{mod-eq-of-lt}
 use borrow.Author.Tests.{eqb-false, leb-true, le-leb, lt-leb, lt-ltb, not-true}
-use lib.ListN.{length, getD, take, drop, replicate}
+use lib.ListN.{length, getD}
 use lib.Dec.{eqb}
 use Rattle.laws.specs.Reading.{le-or-lt}
-use Rattle.laws.specs.Lists.{any, tabulate}
+use Rattle.laws.specs.Lists.{tabulate}
 use Rattle.laws.specs.Gather.{gather}
 use Rattle.laws.specs.Members.{All}
-use Rattle.laws.proofs.Holds.{holds-cond}
-use Rattle.laws.proofs.Elementwise.{each-map, each-append}
-use Rattle.table.specs.Table.{Table, decode, tableOf, headerOf}
+use Rattle.laws.proofs.Elementwise.{each-map}
+use Rattle.table.specs.Table.{Table, decode, headerOf}
 use Rattle.table.specs.Index.{indexOf}
 use Rattle.table.specs.Judge.{Accepted}
 use Rattle.table.specs.declared.Action.{Action}
 use Rattle.table.specs.declared.Header.{Header}
 use Rattle.table.proofs.Accepted.{header-in, all-listed}
-use Rattle.lexer.specs.Attrs.{attrsIn, laid}
-use Rattle.lexer.specs.Tags.{tagAt, beginAt}
-use Rattle.lexer.specs.declared.Name.{Name}
-use Rattle.lexer.specs.declared.Attr.{Attr}
+use Rattle.lexer.specs.Tags.{beginAt}
 use Rattle.lexer.specs.declared.Tag.{Tag}
-use Rattle.lexer.specs.declared.Tagged.{Tagged}
-use Rattle.lexer.specs.declared.Tagged.the-variants as tagged
 use Rattle.lexer.specs.declared.Begin.{Begin}
 use Rattle.lexer.specs.declared.Begin.the-variants as begin
-use Rattle.lexer.proofs.Inside.{TagInside, TaggedInside, TagReadInside, tag-inside, BeginInside, begin-inside}
+use Rattle.lexer.proofs.Inside.{BeginInside, begin-inside}
 use Rattle.reader.specs.declared.Binding.{Binding}
 use Rattle.reader.specs.declared.Found.{Found}
-use Rattle.reader.specs.declared.Found.the-variants as found
-use Rattle.reader.specs.declared.Meant.{Meant}
-use Rattle.reader.specs.declared.Meant.the-variants as told
-use Rattle.reader.specs.Spans.{wholeSpan, partSpan}
-use Rattle.reader.specs.Namespaces.{Namespace, nothing, xml, declared, ReadAttribute, declarationsOf, refusedBinding, meant, meaningOf}
-use Rattle.reader.specs.Stored.{narrowed, Coded, coded, codesOf, codeThen, codesAfter, foundElement, foundAttribute, isUnbound, storedSpace, laidBindings, fitting}
-use Rattle.reader.specs.Events.{Start, Open, bindingsOf, begun, startRead, startMeant}
-use Rattle.reader.specs.Scope.{opensIn, opensOf}
-use Rattle.reader.specs.Held.{SpanHeld}
-use Rattle.reader.proofs.Numbers.{InRange, attribute-in-range}
-use Rattle.reader.proofs.LaidBack.{small-declared}
-use Rattle.reader.proofs.AgreeWhole.{attributesIn, asMeaning, meaning-agrees}
-use Rattle.reader.proofs.TagMeaning.{NamespaceHeld, AttributeHeld, MeaningHeld, meaning-held}
-use Rattle.reader.proofs.Held.{bindings-in}
+use Rattle.reader.specs.Stored.{narrowed}
+use Rattle.reader.specs.Events.{Start, begun}
+use Rattle.reader.specs.Scope.{opensIn}
 use Rattle.reader.proofs.Opens.{opens-nil}
 use Rattle.model.specs.Tree.{start}
 use Rattle.model.specs.Stream.{Entry, allot, entriesAt, unitsOf, entered, after}
-use Rattle.model.specs.Elements.{Element, uriSpan, elementOf}
+use Rattle.model.specs.Elements.{Element, elementOf}
 use Rattle.model.specs.Groups.{groupsOf}
 use Rattle.model.specs.Elements as elements
 use Rattle.model.specs.Dispatch.{dispatch}
-use Rattle.strands.specs.declared.Placing.{Placing}
 use Rattle.strands.specs.Packed.{strandIn}
 use Rattle.strands.specs.Entries.{entryIn, entriesIn}
-use Rattle.strands.specs.Attributes.{Sorted, placingOf}
+use Rattle.attributes.specs.Attributes.{Sorted}
 use Rattle.strands.specs.Writing.{strandUnits, tagUnits}
 use Rattle.strands.proofs.Numbered.{allOf, element-classed}
-use Rattle.strands.proofs.Sorted.{kept-are}
 use Rattle.strands.proofs.StartRecords.{tag-units-are}
 use Rattle.dispatcher.specs.Sessions.{classIn, strandCount, levelIn, sessionOf, readerOf, stateOf}
 use Rattle.dispatcher.specs.Stepping as plan
 use Rattle.dispatcher.specs.Stepping.{Step, planBy, planOf, planned, startPlan}
-use Rattle.dispatcher.specs.Turns.{Innermost, TurnReady, startOf, Told, Made, Roomy, arrayUnits, Openable, stopTurn, stepBy}
+use Rattle.openings.specs.Openings.{arrayUnits, Openable}
+use Rattle.dispatcher.specs.Turns.{Innermost, TurnReady, Told, Made, Roomy, stopTurn, stepBy}
 use Rattle.dispatcher.specs.declared.Session.{Session}
 use Rattle.dispatcher.specs.declared.Head.{Head}
-use Rattle.dispatcher.specs.declared.Decided.{Decided}
+use Rattle.openings.specs.declared.Decided.{Decided}
 use Rattle.dispatcher.proofs.Sound.{StrandSound, LevelSound}
 use Rattle.dispatcher.proofs.SoundCoherent.{strands-counted}
 use Rattle.dispatcher.proofs.Clauses.{Clauses, clauses}
-use Rattle.dispatcher.proofs.CoherentSound.{levels-each, counted, name-held, opened, level-sound, awaited-open}
+use Rattle.dispatcher.proofs.CoherentSound.{levels-each, name-held, level-sound, awaited-open}
 use Rattle.dispatcher.proofs.NewStrands.{new-strands}
-use Rattle.dispatcher.proofs.TagMeant.{TagTold, tag-told, attrs-back, bindings-open, next-begun, Given, element-given, own-few, own-laid}
+use Rattle.dispatcher.proofs.TagMeant.{next-begun}
 
 -- ---- a session that number 20 accepts
 module _ (t : Table) (s : List ℕ) (z : Session) (c : Clauses t s z) where
@@ -221,174 +201,15 @@ module _ (table : List ℕ) (header : Header) (index s : List ℕ) (z : Session)
         few-strands = m .few-strands;
         few-attributes = m .few-attributes;
         few-sections = m .few-sections;
+        none-foreign = m .none-foreign;
         schemas-small = m .schemas-small;
         few-units = subst (λ (i : ℕ). z .units + length (arrayUnits index attributes sections words i d) ≤ 65536) (q ∙ sym small) units-fit;
       }
 
 -- ---- what a start's parts are told
 module _ (s outer own attrs codes : List ℕ) (at : ℕ) (tag : Tag) (f : Found) (owned : ℕ) (ds : List Binding) (h : Told s outer own attrs codes at tag f owned ds) where
-  pub told-again : Told s outer own attrs codes at tag f (length ds) ds
-  told-again =
-      record {
-        owned-is = refl;
-        few-own = h .few-own;
-        own-laid = h .own-laid;
-        at-inside = h .at-inside;
-        name-inside = h .name-inside;
-        part-inside = h .part-inside;
-        uri-inside = h .uri-inside;
-        attributes-inside = h .attributes-inside;
-        few-codes = h .few-codes;
-      }
-
   pub roomy : (head : Head) → head .depth < 64 → head .bound + owned ≤ 64 → Roomy head owned
   roomy head l k = record { shallow = l; few-own = omega (arith, h .owned-is, h .few-own); few-bound = k }
-
-pub placing-is : (table : List ℕ) (header : Header) (index s : List ℕ) (z : Session) → TurnReady table header index s z → (n : Namespace) (w : Placing)
-    → w ≡ placingOf (elements.spaceOf (tableOf table header) s n) → w ≡ placingOf (elements.spaceOf (decode table) s n)
-placing-is table header index s z r n w e = e ∙ ap (λ (x : Header). placingOf (elements.spaceOf (tableOf table x) s n)) (r .header-is)
-
--- ---- a tag that was read
--- their codes are small
-all-drop : {A : Type 0} (P : A → Type 0) (n : ℕ) (l : List A) → All P l → All P (drop n l)
-all-drop P zero l h = h
-all-drop P (suc n) [] h = tt
-all-drop P (suc n) (x ∷ l) h = all-drop P n l (h .1)
-
-small-codes : (l : List Attr) (cs : List ℕ) → All (λ (c : ℕ). c < 82) cs → All (λ (c : Coded). c .code < 82) (coded l cs)
-small-codes [] cs h = tt
-small-codes (a ∷ l) [] h = (omega arith, small-codes l [] tt)
-small-codes (a ∷ l) (c ∷ cs) h = (h .0, small-codes l cs (h .1))
-
-then-small : (f : Found) (l : List ℕ) → InRange f → All (λ (c : ℕ). c < 82) l → All (λ (c : ℕ). c < 82) (codeThen f l)
-then-small found.Nothing l r h = (omega arith, h)
-then-small found.Xml l r h = (omega arith, h)
-then-small (found.Own k) l r h = (omega arith, h)
-then-small (found.Open k) l r h = (omega arith, h)
-then-small found.Unbound l r h = tt
-
-codes-small : (s own : List ℕ) (owned : ℕ) (outer : List ℕ) (bound : ℕ) (l : List Attr) → All (λ (c : ℕ). c < 82) (codesOf s own owned outer bound l)
-unfolding codesOf
-codes-small s own owned outer bound [] = tt
-codes-small s own owned outer bound (a ∷ l) =
-    then-small (foundAttribute s own owned outer bound (a .name)) (codesOf s own owned outer bound l) (attribute-in-range s own owned outer bound (a .name)) (codes-small s own owned outer bound l)
-
-after-small : (s own : List ℕ) (owned : ℕ) (outer : List ℕ) (bound : ℕ) (n : Name) (l : List Attr) (codes : List ℕ) → All (λ (c : ℕ). c < 82) codes
-    → All (λ (c : ℕ). c < 82) (codesAfter s own owned outer bound n l codes)
-unfolding codesAfter
-after-small s own owned outer bound n l codes h =
-    holds-cond (All (λ (c : ℕ). c < 82)) (isUnbound (foundElement s own owned outer bound n)) (λ e. h) (λ e.
-    each-append (λ (c : ℕ). c < 82) (codesOf s own owned outer bound l) (drop (length (codesOf s own owned outer bound l)) codes) (codes-small s own owned outer bound l)
-    (all-drop (λ (c : ℕ). c < 82) (length (codesOf s own owned outer bound l)) codes h))
-
-zeros-small : (n : ℕ) → All (λ (c : ℕ). c < 82) (replicate n 0)
-zeros-small zero = tt
-zeros-small (suc n) = (omega arith, zeros-small n)
-
-space-inside : (s : List ℕ) (n : Namespace) → NamespaceHeld s n → SpanHeld s (uriSpan n)
-space-inside s nothing h = omega arith
-space-inside s xml h = omega arith
-space-inside s (declared w) h = h
-
--- what `meaning` answers and leaves in its arrays, of the tag whose < stands at a place
-module _ (table : List ℕ) (header : Header) (index s : List ℕ) (head : Head) (levels bindings spaces strands : List ℕ)
-    (r : TurnReady table header index s (sessionOf head levels bindings spaces strands))
-    (at : ℕ) (tag : Tag) (attrs : List ℕ) (lt : at + 1 ≤ length s) (e : tagAt s (at + 1) .answer ≡ tagged.Got tag) (p : attrs ≡ laid (tagAt s (at + 1) .attrs) (replicate 80 0))
-    (m : Meant) (own codes : List ℕ) (g : Given s (tag .name) (attrsIn attrs (tag .count)) (replicate 64 0) bindings (head .bound) (replicate 16 0) m own codes) where
-  abbrev t₂ : Table
-  t₂ = decode table
-
-  abbrev z₂ : Session
-  z₂ = sessionOf head levels bindings spaces strands
-
-  abbrev all : List Attr
-  all = attrsIn attrs (tag .count)
-
-  abbrev ds : List Binding
-  ds = declarationsOf s all
-
-  clear₂ : Clauses t₂ s z₂
-  clear₂ = clauses t₂ s z₂ (r .coherent′)
-
-  back : all ≡ tagAt s (at + 1) .attrs
-  back = ap (λ (a : List ℕ). attrsIn a (tag .count)) p ∙ attrs-back s (r .short) (at + 1) tag e (replicate 80 0)
-
-  tag-is : TagTold s tag all
-  tag-is = subst (TagTold s tag) (sym back) (tag-told s (r .short) (at + 1) tag e)
-
-  means : meaningOf s (bindingsOf (opensOf (z₂ .scope))) (tag .name) (tagAt s (at + 1) .attrs) ≡ asMeaning own bindings (attributesIn s own bindings (coded all codes)) ds m
-  means =
-      ap₂ (λ (bs : List Binding) (l : List Attr). meaningOf s bs (tag .name) l) (bindings-open (z₂ .scope) (counted t₂ s z₂ clear₂)) (sym back)
-      ∙ meaning-agrees s (replicate 64 0) bindings (replicate 16 0) (head .bound) (tag .name) all (tag-is .few) (bound-few t₂ s z₂ clear₂) (small-declared s all (tag-is .small)) (tag-is .name) (tag-is .names)
-      ∙ rw (g .0, g .1, g .2)
-
-  inside : TagReadInside s (at + 1) (tagAt s (at + 1))
-  inside = tag-inside s (at + 1)
-
-  tag-in : TagInside s (at + 1) (tagAt s (at + 1) .attrs) tag
-  tag-in = subst (TaggedInside s (at + 1) (tagAt s (at + 1) .attrs)) e (inside .answer)
-
-  meaning-in : MeaningHeld s (asMeaning own bindings (attributesIn s own bindings (coded all codes)) ds m)
-  meaning-in =
-      subst (MeaningHeld s) means
-      (meaning-held s (bindingsOf (opensOf (z₂ .scope))) (bindings-in s (opensOf (z₂ .scope)) (opened t₂ s z₂ clear₂)) (tag .name) (at + 1) (tagAt s (at + 1) .attrs) (inside .each))
-
-  codes-few : All (λ (c : ℕ). c < 82) codes
-  codes-few =
-      subst (All (λ (c : ℕ). c < 82)) (sym (g .2))
-      (holds-cond (All (λ (c : ℕ). c < 82)) (any (refusedBinding s) ds) (λ q. zeros-small 16) (λ q.
-      after-small s (laidBindings (fitting s ds) (replicate 64 0)) (length ds) bindings (head .bound) (tag .name) all (replicate 16 0) (zeros-small 16)))
-
-  read-as : startRead s at (opensOf (z₂ .scope)) (tagAt s (at + 1)) (tagged.Got tag) ≡ startMeant at (opensOf (z₂ .scope)) tag (asMeaning own bindings (attributesIn s own bindings (coded all codes)) ds m)
-  read-as = ap (startMeant at (opensOf (z₂ .scope)) tag) means
-
-  module _ (f : Found) (owned : ℕ) (q : m ≡ told.Element f owned) where
-    given : Given s (tag .name) all (replicate 64 0) bindings (head .bound) (replicate 16 0) (told.Element f owned) own codes
-    given = (sym q ∙ g .0, g .1, g .2)
-
-    element-in : NamespaceHeld s (storedSpace own bindings f) × All (AttributeHeld s) (attributesIn s own bindings (coded all codes))
-    element-in =
-        let k : MeaningHeld s (meant (storedSpace own bindings f) (attributesIn s own bindings (coded all codes)) ds) = subst (λ (x : Meant). MeaningHeld s (asMeaning own bindings (attributesIn s own bindings (coded all codes)) ds x)) q meaning-in in
-        (k .0, k .1)
-
-    pub tag-gives : Told s bindings own attrs codes at tag f owned (declarationsOf s (attrsIn attrs (tag .count)))
-    tag-gives =
-        let k = element-given s (tag .name) all (replicate 64 0) bindings (head .bound) (replicate 16 0) f owned own codes given in
-        let n = tag-in .name in
-        record {
-          owned-is = k .1;
-          few-own = own-few s tag all tag-is;
-          own-laid = ap (take (4 * length ds)) (g .1) ∙ own-laid s ds (replicate 64 0) (k .0);
-          at-inside = omega arith;
-          name-inside = omega (arith, n .inside, n .some, n .onward, n .begins);
-          part-inside = omega (arith, n .inside, n .some);
-          uri-inside = space-inside s (storedSpace own bindings f) (element-in .0);
-          attributes-inside = subst (All (λ (a : ReadAttribute). SpanHeld s (a .part) × SpanHeld s (a .value) × SpanHeld s (uriSpan (a .namespace)))) (kept-are s own bindings (coded all codes)) (each-map (AttributeHeld s) _ (λ a x. (x .part, x .value, space-inside s (a .namespace) (x .namespace))) (attributesIn s own bindings (coded all codes)) (element-in .1));
-          few-codes = small-codes all codes codes-few;
-        }
-
-    pub tag-plan : planBy t₂ s z₂ (startRead s at (opensOf (z₂ .scope)) (tagAt s (at + 1)) (tagged.Got tag))
-        ≡ startPlan t₂ s z₂ (startOf s bindings own attrs codes at tag f) (declarationsOf s (attrsIn attrs (tag .count))) (tag .next)
-    tag-plan =
-        ap (planBy t₂ s z₂) (read-as ∙ ap (λ (x : Meant). startMeant at (opensOf (z₂ .scope)) tag (asMeaning own bindings (attributesIn s own bindings (coded all codes)) ds x)) q)
-        ∙ ap (λ (as′ : List ReadAttribute). startPlan t₂ s z₂ (record { at = at; name = wholeSpan (tag .name); part = partSpan (tag .name); namespace = storedSpace own bindings f; attributes = as′; empty = tag .empty }) ds (tag .next))
-        (kept-are s own bindings (coded all codes))
-
-  -- 5 and 6
-  pub undeclared-plan : m ≡ told.Undeclared → planBy t₂ s z₂ (startRead s at (opensOf (z₂ .scope)) (tagAt s (at + 1)) (tagged.Got tag)) ≡ plan.refused 5 at
-  undeclared-plan q =
-      ap (planBy t₂ s z₂) (read-as ∙ ap (λ (x : Meant). startMeant at (opensOf (z₂ .scope)) tag (asMeaning own bindings (attributesIn s own bindings (coded all codes)) ds x)) q)
-
-  pub twice-plan : m ≡ told.Twice → planBy t₂ s z₂ (startRead s at (opensOf (z₂ .scope)) (tagAt s (at + 1)) (tagged.Got tag)) ≡ plan.refused 6 at
-  twice-plan q =
-      ap (planBy t₂ s z₂) (read-as ∙ ap (λ (x : Meant). startMeant at (opensOf (z₂ .scope)) tag (asMeaning own bindings (attributesIn s own bindings (coded all codes)) ds x)) q)
-
--- by what reading the tag answers
-pub start-read-step : (t : Table) (s : List ℕ) (z : Session) (out : List ℕ) (step : Step) (at : ℕ) (r x : Tagged) → r ≡ tagAt s (at + 1) .answer → r ≡ x
-    → step ≡ planned (planBy t s z (startRead s at (opensOf (z .scope)) (tagAt s (at + 1)) x)) z out
-    → step ≡ planned (planBy t s z (startRead s at (opensOf (z .scope)) (tagAt s (at + 1)) (tagAt s (at + 1) .answer))) z out
-start-read-step t s z out step at r x p q e =
-    e ∙ ap (λ (y : Tagged). planned (planBy t s z (startRead s at (opensOf (z .scope)) (tagAt s (at + 1)) y)) z out) (sym q ∙ p)
 
 -- ---- one event
 module _ (t : Table) (s : List ℕ) (head : Head) (levels bindings spaces strands : List ℕ) (a : head .awaited ≡ false)

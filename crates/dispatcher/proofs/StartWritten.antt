@@ -28,25 +28,18 @@ use Rattle.model.specs.Dispatch.{dispatch}
 use Rattle.strands.specs.declared.Begun.{Begun}
 use Rattle.strands.specs.Packed.{strandIn}
 use Rattle.strands.specs.Entries.{entryIn, entriesIn}
-use Rattle.strands.specs.Attributes.{Sorted, allSorted}
+use Rattle.attributes.specs.Attributes.{Sorted, allSorted}
 use Rattle.strands.specs.Writing.{strandUnits, tagUnits, begunBody, elementRecords}
 use Rattle.strands.proofs.Numbered.{element-classed}
 use Rattle.strands.proofs.StartRecords.{starts-are, tag-units-are}
+use Rattle.openings.proofs.Openings.{unitRecords, strandRecords}
 use Rattle.dispatcher.specs.Sessions.{stateOf}
-use Rattle.dispatcher.specs.Turns.{Made, arrayUnits}
+use Rattle.openings.specs.Openings.{arrayUnits}
+use Rattle.dispatcher.specs.Turns.{Made}
 use Rattle.dispatcher.specs.declared.Session.{Session}
-use Rattle.dispatcher.specs.declared.Decided.{Decided}
+use Rattle.openings.specs.declared.Decided.{Decided}
 use Rattle.dispatcher.proofs.Sound.{StrandSound, LevelSound}
 use Rattle.dispatcher.proofs.NewStrands.{new-strands}
-
--- ---- what the code writes
-abbrev pub unitRecords : List ℕ → List ℕ → List ℕ → List ℕ → ℕ → ℕ → Decided → List (Record Body ℕ)
-unitRecords index attributes sections words tag units r =
-    attributesFrom (λ (u : ℕ). u) units (arrayUnits index attributes sections words tag r)
-
-abbrev pub strandRecords : List ℕ → List ℕ → List ℕ → List ℕ → List ℕ → Begun → Decided → List (Record Body ℕ)
-strandRecords index attributes sections words schemas b r =
-    gather (elementRecords index (b .tag) (begunBody b) (allSorted attributes sections (r .attributes))) (entriesIn words schemas (r .strands))
 
 -- ---- by modes alone
 module _ {B : Type 0} (f : ℕ → List B) where

@@ -1,19 +1,7 @@
--- Number 20 as the code asks it: the clauses of Coherence.antt together, of the counts and flags, of a binding and of a level. Definitions.
-use Prim.Native.Nat.{ℕ, _+_, _*_}
-use mathlib.Core.List.{List, map}
+-- Number 20 as the code asks it of a session's counts and flags: the clauses of Coherence.antt together. A definition.
+use Prim.Native.Nat.{ℕ}
 use mathlib.Core.Bool.{Bool, not, _&&_, _||_}
-use lib.ListN.{getD}
-use lib.Dec.{leb, ltb, eqb}
-use Rattle.laws.specs.Lists.{all}
-use Rattle.lexer.specs.Whole.{isWholeName}
-use Rattle.reader.specs.declared.Span.{Span}
-use Rattle.reader.specs.declared.Binding.{Binding}
-use Rattle.reader.specs.Spans.{span, bytesOf}
-use Rattle.reader.specs.Namespaces.{refusedBinding}
-use Rattle.reader.specs.Scope.{nameIn}
-use Rattle.model.specs.Stream.{HeldStrand}
-use Rattle.strands.specs.Packed.{strandIn, wordsAt}
-use Rattle.dispatcher.specs.Coherence.{spanInside, prefixFits, targetFits, aims}
+use lib.Dec.{leb, eqb}
 use Rattle.dispatcher.specs.declared.Head.{Head}
 
 -- the place in a scene of so many bytes, the counts and the flags
@@ -23,27 +11,3 @@ headFits n h =
     && (leb (h .bound) 64
     && (leb (h .place) n
     && (leb (h .units) 65536 && ((not (h .awaited) || not (eqb (h .depth) 0)) && (not (h .closed) || eqb (h .depth) 0)))))
-
-abbrev pub bindingFits : List ℕ → Binding → Bool
-bindingFits s b = spanInside s (b .prefix) && (spanInside s (b .uri) && (not (refusedBinding s b) && prefixFits s (b .prefix)))
-
-abbrev pub nameFits : List ℕ → Span → Bool
-nameFits s w = spanInside s w && (not (eqb (w .at) 0) && isWholeName (bytesOf s w))
-
--- of a table with so many URIs
-abbrev pub classFits : ℕ → ℕ → Bool
-classFits listed class = leb class listed || (eqb class 254 || eqb class 255)
-
-abbrev pub strandFits : ℕ → ℕ → HeldStrand ℕ → Bool
-strandFits modes units r = ltb (r .mode) modes && (targetFits units (r .target) && aims (r .action) (r .target))
-
--- of the k-th level, which has n: sixteen places to a level
-abbrev pub strandsFit : ℕ → ℕ → List ℕ → ℕ → ℕ → Bool
-strandsFit modes units strands k n = leb 1 n && (leb n 16 && all (strandFits modes units) (map strandIn (wordsAt strands k n)))
-
-unfoldable pub levelFits : List ℕ → ℕ → ℕ → ℕ → List ℕ → List ℕ → List ℕ → ℕ → Bool
-levelFits s listed modes units levels spaces strands k =
-    nameFits s (nameIn levels k)
-    && (classFits listed (getD spaces (4 * k) 0)
-    && (spanInside s (span (getD spaces (4 * k + 1) 0) (getD spaces (4 * k + 2) 0))
-    && strandsFit modes units strands k (getD spaces (4 * k + 3) 0)))

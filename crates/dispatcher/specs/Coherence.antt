@@ -1,23 +1,20 @@
 -- Number 20: "session not coherent", a clause for each phrase of document 01's list. Definitions.
-use Prim.Native.Nat.{ℕ, _+_, _*_}
-use mathlib.Core.List.{List, [], _∷_}
-use mathlib.Core.Bool.{Bool, true, false, not, _&&_, _||_}
-use mathlib.Core.Option.{Option, none, some}
-use lib.ListN.{length, getD}
+use Prim.Native.Nat.{ℕ}
+use mathlib.Core.List.{List}
+use mathlib.Core.Bool.{Bool, not, _&&_, _||_}
+use lib.ListN.{length}
 use lib.Dec.{leb, ltb, eqb}
 use Rattle.laws.specs.Lists.{all, tabulate}
 use Rattle.laws.specs.Gather.{total}
 use Rattle.table.specs.Table.{Table}
-use Rattle.table.specs.declared.Action.{Action}
-use Rattle.table.specs.declared.Action.the-variants.{Attach, Unwrap, Validate}
-use Rattle.lexer.specs.Whole.{isPart, isWholeName}
-use Rattle.reader.specs.declared.Span.{Span}
+use Rattle.lexer.specs.Whole.{isWholeName}
 use Rattle.reader.specs.declared.Binding.{Binding}
 use Rattle.reader.specs.Spans.{bytesOf}
 use Rattle.reader.specs.Namespaces.{refusedBinding}
 use Rattle.reader.specs.Stored.{bindingIn}
 use Rattle.reader.specs.Scope.{nameIn, countIn}
 use Rattle.model.specs.Stream.{HeldStrand}
+use Rattle.coherence.specs.Fitting.{spanInside, prefixFits, targetFits, aims}
 use Rattle.dispatcher.specs.Sessions.{classIn, uriIn, strandCount, strandsIn}
 use Rattle.dispatcher.specs.declared.Session.{Session}
 
@@ -31,9 +28,6 @@ openBindings z = tabulate (bindingIn (z .scope .bindings)) 0 (z .scope .bound)
 -- "a place or span outside the scene"
 abbrev pub placeInside : List ℕ → Session → Bool
 placeInside s z = leb (z .place) (length s)
-
-abbrev pub spanInside : List ℕ → Span → Bool
-spanInside s w = leb (w .at + w .len) (length s)
 
 abbrev pub levelSpansInside : List ℕ → Session → Bool
 levelSpansInside s z = all (λ (k : ℕ). spanInside s (nameIn (z .scope .levels) k) && spanInside s (uriIn z k)) (openLevels z)
@@ -53,9 +47,6 @@ abbrev pub bindingsAllowed : List ℕ → Session → Bool
 bindingsAllowed s z = all (λ (b : Binding). not (refusedBinding s b)) (openBindings z)
 
 -- "or whose prefix is neither zero nor a name part"
-abbrev pub prefixFits : List ℕ → Span → Bool
-prefixFits s w = eqb (w .at) 0 && eqb (w .len) 0 || isPart (bytesOf s w)
-
 abbrev pub prefixesFit : List ℕ → Session → Bool
 prefixesFit s z = all (λ (b : Binding). prefixFits s (b .prefix)) (openBindings z)
 
@@ -74,20 +65,10 @@ modesFit t z = all (λ (k : ℕ). all (λ (r : HeldStrand ℕ). ltb (r .mode) (t
 abbrev pub classesFit : Table → Session → Bool
 classesFit t z = all (λ (k : ℕ). leb (classIn z k) (length (t .uris)) || (eqb (classIn z k) 254 || eqb (classIn z k) 255)) (openLevels z)
 
-abbrev pub targetFits : ℕ → Option ℕ → Bool
-targetFits units none = true
-targetFits units (some u) = ltb u units
-
 abbrev pub targetsFit : Session → Bool
 targetsFit z = all (λ (k : ℕ). all (λ (r : HeldStrand ℕ). targetFits (z .units) (r .target)) (strandsIn z k)) (openLevels z)
 
 -- "a validate strand without a target"
-abbrev pub aims : Action → Option ℕ → Bool
-aims Attach target = true
-aims Unwrap target = true
-aims Validate none = false
-aims Validate (some u) = true
-
 abbrev pub validatesAim : Session → Bool
 validatesAim z = all (λ (k : ℕ). all (λ (r : HeldStrand ℕ). aims (r .action) (r .target)) (strandsIn z k)) (openLevels z)
 

@@ -1,11 +1,11 @@
 -- One event of a session that number 20 accepts, as the code takes it: the session's numbers by value, its arrays lent. Definitions.
 use Prim.Native.Nat.{ℕ, _+_, _*_, _-_, _%_, _^_, _≤_, _<_}
 use mathlib.Core.Path.{_≡_}
-use mathlib.Core.List.{List, _∷_, map}
+use mathlib.Core.List.{List, map}
 use mathlib.Core.Bool.{Bool, true, false, cond, _&&_}
 use lib.ListN.{length, getD, take}
 use lib.Dec.{eqb, ltb}
-use Rattle.laws.specs.Lists.{sameList, keep, tabulate}
+use Rattle.laws.specs.Lists.{sameList, all, keep}
 use Rattle.laws.specs.Gather.{gather}
 use Rattle.laws.specs.Members.{All}
 use Rattle.laws.specs.Reading.{peek}
@@ -16,14 +16,17 @@ use Rattle.table.specs.declared.Header.{Header}
 use Rattle.reader.specs.declared.Span.{Span}
 use Rattle.lexer.specs.declared.Tag.{Tag}
 use Rattle.lexer.specs.Attrs.{attrsIn}
+use Rattle.lexer.specs.Tags.{tagAt}
+use Rattle.lexer.specs.declared.Tagged.{Tagged}
 use Rattle.lexer.specs.Whole.{isWholeName}
 use Rattle.reader.specs.declared.Binding.{Binding}
 use Rattle.reader.specs.declared.Found.{Found}
 use Rattle.reader.specs.Spans.{span, bytesOf, wholeSpan, partSpan}
-use Rattle.reader.specs.Namespaces.{ReadAttribute, attribute}
-use Rattle.reader.specs.Events.{Start}
-use Rattle.reader.specs.Stored.{narrowed, bindingNumbers, Coded, coded, storedSpace}
-use Rattle.reader.specs.Scope.{nameIn}
+use Rattle.reader.specs.Namespaces.{ReadAttribute, attribute, declarationsOf}
+use Rattle.reader.specs.Events.{Start, startRead}
+use Rattle.reader.specs.Stored.{narrowed, bindingNumbers, Coded, coded, foundIn, storedSpace}
+use Rattle.reader.specs.Known.{KeysAt, Within, plainAttr}
+use Rattle.reader.specs.Scope.{nameIn, opensOf}
 use Rattle.reader.specs.Held.{SpanHeld}
 use Rattle.model.specs.Tree.{start}
 use Rattle.model.specs.Stream.{Entry, entriesAt, entered, written, after}
@@ -31,23 +34,22 @@ use Rattle.model.specs.Elements.{Element, uriSpan}
 use Rattle.model.specs.Groups.{groupsOf}
 use Rattle.model.specs.Dispatch.{dispatch}
 use Rattle.records.specs.declared.Row.{Row}
-use Rattle.model.specs.Theory.{AttributeUnit}
-use Rattle.model.specs.Records.{Body}
-use Rattle.strands.specs.declared.Placing.{Placing}
-use Rattle.strands.specs.declared.Begun.{Begun}
-use Rattle.strands.specs.Packed.{strandIn, packed}
-use Rattle.strands.specs.Writing.{strandUnits}
+use Rattle.attributes.specs.Known.{ClassesAt}
+use Rattle.strands.specs.Packed.{packed}
 use Rattle.strands.specs.Entries.{entriesIn}
-use Rattle.strands.specs.Attributes.{namespaceOf, delivered, allSorted, sortedOf}
+use Rattle.attributes.specs.Attributes.{namespaceOf, delivered, allSorted, sortedOf}
 use Rattle.dispatcher.specs.Sessions.{sessionOf, stateOf}
 use Rattle.dispatcher.specs.Coherence.{coherent}
 use Rattle.table.specs.declared.Answer.{Answer}
-use Rattle.dispatcher.specs.Stepping.{Step, answered}
+use Rattle.dispatcher.specs.Stepping.{Plan, refused, startPlan, planBy, Step, answered}
 use Rattle.dispatcher.specs.declared.Session.{Session}
 use Rattle.dispatcher.specs.declared.Head.{Head}
+use Rattle.dispatcher.specs.declared.Started.{Started}
+use Rattle.dispatcher.specs.declared.Reading.{Reading}
+use Rattle.dispatcher.specs.declared.Reading.the-variants as reading
 use Rattle.dispatcher.specs.declared.Turn.{Turn}
 use Rattle.dispatcher.specs.declared.Advanced.{Advanced}
-use Rattle.dispatcher.specs.declared.Decided.{Decided}
+use Rattle.openings.specs.declared.Decided.{Decided}
 
 -- a refusal: the numbers stay
 abbrev pub stopTurn : ℕ → ℕ → Head → Turn
@@ -125,6 +127,18 @@ pub record TurnReady (table : List ℕ) (header : Header) (index s : List ℕ) (
   pub short : length s ≤ 16777215
   pub coherent′ : coherent (decode table) s z ≡ true
 
+-- what the loop holds beside a session, derived from it at the start of step, advance and run: of each open binding its prefix's key and its class
+pub record Beside (table s known : List ℕ) (z : Session) : Type 0 where
+  pub known-long : length known ≡ 160
+  pub bindings-long : length (z .scope .bindings) ≡ 256
+  pub keys : KeysAt s (z .scope .bindings) (z .scope .bound) 0 known
+  pub classes : ClassesAt (decode table) s (z .scope .bindings) (z .scope .bound) 0 known
+
+-- all that a step of the loop is handed
+pub record LoopReady (table index s known : List ℕ) (z : Session) : Type 0 where
+  pub ready : TurnReady table (headerOf table) index s z
+  pub beside : Beside table s known z
+
 -- the session's arrays have the lengths of their types
 pub record Sized (levels bindings spaces strands : List ℕ) : Type 0 where
   pub levels-long : length levels ≡ 192
@@ -159,6 +173,31 @@ pub record Told (s outer own attrs codes : List ℕ) (at : ℕ) (tag : Tag) (fou
   pub attributes-inside : All (λ (a : ReadAttribute). SpanHeld s (a .part) × SpanHeld s (a .value) × SpanHeld s (uriSpan (a .namespace))) (startOf s outer own attrs codes at tag found .attributes)
   pub few-codes : All (λ (c : Coded). c .code < 82) (coded (attrsIn attrs (tag .count)) codes)
 
+-- what is told of a start tag that was read, whose bindings stand behind the open ones; `known` has the keys of both
+pub record Met (s outer own attrs codes known : List ℕ) (bound : ℕ) (o : Started) : Type 0 where
+  pub told : Told s outer own attrs codes (o .at) (o .tag) (o .found) (o .owned) (declarationsOf s (attrsIn attrs (o .tag .count)))
+  pub own-keys : KeysAt s own (o .owned) bound known
+  pub found-within : Within (o .owned) bound (o .found)
+  pub codes-within : All (λ (c : Coded). Within (o .owned) bound (foundIn (c .code))) (coded (attrsIn attrs (o .tag .count)) codes)
+  pub plain-names : o .plain ≡ true → all (plainAttr s) (attrsIn attrs (o .tag .count)) ≡ true
+  pub plain-codes : o .plain ≡ true → All (λ (c : Coded). c .code ≡ 0) (coded (attrsIn attrs (o .tag .count)) codes)
+
+-- what a start tag that was read does next
+abbrev pub readPlan : Table → List ℕ → Session → List ℕ → List ℕ → List ℕ → Reading → Plan
+readPlan t s z own attrs codes (reading.Start o) =
+    startPlan t s z (startOf s (z .scope .bindings) own attrs codes (o .at) (o .tag) (o .found)) (declarationsOf s (attrsIn attrs (o .tag .count))) (o .tag .next)
+readPlan t s z own attrs codes (reading.Refused number place) = refused number place
+
+abbrev pub ReadMet : List ℕ → Session → List ℕ → List ℕ → List ℕ → List ℕ → Reading → Type 0
+ReadMet s z own attrs codes known (reading.Start o) = Met s (z .scope .bindings) own attrs codes known (z .scope .bound) o
+ReadMet s z own attrs codes known (reading.Refused number place) = number ≡ 0 → ⊥
+
+-- what reading the tag whose < stands at a place answers and leaves in its arrays
+pub record ReadAs (table s : List ℕ) (z : Session) (at : ℕ) (x : Tagged) (own attrs codes known : List ℕ) (r : Reading) : Type 0 where
+  pub plan-is : planBy (decode table) s z (startRead s at (opensOf (z .scope)) (tagAt s (at + 1)) x) ≡ readPlan (decode table) s z own attrs codes r
+  pub beside : Beside table s known z
+  pub met : ReadMet s z own attrs codes known r
+
 -- what is decided of a start that passes 23 and 24
 pub record Made (t : Table) (s : List ℕ) (z : Session) (σ : Element) (r : Decided) (words schemas attributes sections : List ℕ) : Type 0 where
   pub few-strands : r .strands ≤ 16
@@ -168,6 +207,7 @@ pub record Made (t : Table) (s : List ℕ) (z : Session) (σ : Element) (r : Dec
   pub few-attributes : r .attributes ≤ 16
   pub attributes-are : allSorted attributes sections (r .attributes) ≡ map (sortedOf σ) (σ .attributes)
   pub few-sections : r .sections ≤ 16
+  pub none-foreign : r .sections ≡ 0 → (k : ℕ) → k < r .attributes → getD sections k 0 ≡ 0
   pub sections-are : r .sections ≡ length (groupsOf σ)
   pub units-are : r .units ≡ after (dispatch t) (stateOf t s z) (start σ) .units
   pub few-units : r .units ≤ 65536
@@ -189,37 +229,7 @@ pub record Roomy (head : Head) (owned : ℕ) : Type 0 where
   pub few-own : owned ≤ 16
   pub few-bound : head .bound + owned ≤ 64
 
--- a number and nothing else
-abbrev pub onlyNumber : ℕ → Decided
-onlyNumber number = record { number = number; strands = 0; attributes = 0; sections = 0; units = 0; records = 0 }
-
--- the attribute units of a start, of the strands and attributes in the arrays
-abbrev pub arrayUnits : List ℕ → List ℕ → List ℕ → List ℕ → ℕ → Decided → List (AttributeUnit Body)
-arrayUnits index attributes sections words tag r =
-    gather (λ (w : ℕ). strandUnits index tag (allSorted attributes sections (r .attributes)) (r .sections) (strandIn w .mode))
-    (tabulate (λ (k : ℕ). getD words k 0) 0 (r .strands))
-
--- what writing a start needs of the arrays
-pub record Openable (index attributes sections words schemas : List ℕ) (tag units : ℕ) (r : Decided) : Type 0 where
-  pub few-strands : r .strands ≤ 16
-  pub few-attributes : r .attributes ≤ 16
-  pub few-sections : r .sections ≤ 16
-  pub schemas-small : (k : ℕ) → k < r .strands → getD schemas k 0 < 256
-  pub few-units : units + length (arrayUnits index attributes sections words tag r) ≤ 65536
-
 -- the numbers behind a start
 abbrev pub openedHead : Head → ℕ → Bool → ℕ → ℕ → Head
 openedHead head place empty units owned =
     record { place = place; units = units; closed = false; awaited = empty; depth = head .depth + 1; bound = head .bound + owned }
-
--- what the starts of an element along its strands have in common
-abbrev pub begunOf : ℕ → Tag → Placing → Begun
-begunOf at tag placing =
-    record {
-      tag = narrowed at;
-      class = placing .class;
-      at = narrowed (tag .name .part);
-      len = narrowed (tag .name .end - tag .name .part);
-      «uri_at» = narrowed (placing .at);
-      «uri_len» = narrowed (placing .len);
-    }

@@ -4,19 +4,21 @@ use crate::Session;
 use crate::Turn;
 use crate::steps::stop;
 use crate::steps::stopped;
+use attributes::held::narrow;
 use compare::same;
 use lexer::EndTag;
 use lexer::Ended;
 use lexer::Read;
 use lexer::tags::end_tag;
 use lexer::values::text_end;
+use openings::levels::count_at;
+use openings::levels::space_at;
 use reader::Span;
 use reader::kinds::minus;
 use reader::scopes::name_in;
 use reader::scopes::part_in;
 use reader::scopes::same_name;
 use records::Row;
-use strands::attributes::narrow;
 use strands::events::event_count;
 use strands::events::write_event;
 ghost use mathlib.Core.Path.{_≡_};
@@ -43,22 +45,6 @@ ghost use Rattle.strands.specs.Writing.{rowFor, eventCount};
 ghost use Rattle.dispatcher.specs.Sessions.{sessionOf, readerOf, stateOf, withPlace, withEnd};
 ghost use Rattle.dispatcher.specs.Stepping.{planBy, planOf, planned, eventStep};
 ghost use Rattle.dispatcher.specs.Turns.{Innermost, closesAt, endRow, closedHead, stepBy};
-
-// A number of a level's space: 0 its class, 1 and 2 its URI's place and length, 3 how many strands it has.
-pub fn space_at(spaces: &[u32; 4 * Session::DEPTH], level: usize, k: usize) -> u32
-    requires { ⌜ (level < 64) × (k < 4) ⌝ }
-    ensures { λ r. ⌜ r ≡ getD (now (spaces .entry)) (4 * level + k) 0 ⌝ }
-{
-    spaces[4 * level + k]
-}
-
-// How many strands a level has.
-pub fn count_at(spaces: &[u32; 4 * Session::DEPTH], level: usize) -> usize
-    requires { ⌜ level < 64 ⌝ }
-    ensures { λ r. ⌜ r ≡ getD (now (spaces .entry)) (4 * level + 3) 0 ⌝ }
-{
-    space_at(spaces, level, 3) as usize
-}
 
 // Is an output of this length too short for the records of n strands of a level? They are counted where two for each would not fit.
 fn is_full(

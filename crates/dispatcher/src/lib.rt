@@ -1,27 +1,25 @@
 // The dispatcher: a session, its steps, one and many, and a run.
-mod coherence;
+mod checks;
 mod decisions;
 mod ends;
 mod opening;
-mod pushes;
+mod readings;
 mod starts;
 mod steps;
 
 use crate::steps::steps_from;
+use lexer::Tag;
+use reader::Found;
 use reader::Scope;
 use table::Answer;
-use table::Header;
 use table::judge;
 use table::words::header_of;
 ghost use mathlib.Core.Path.{_≡_};
-ghost use mathlib.Core.Bool.{true};
 ghost use Prim.Native.Nat.{_+_, _*_, _≤_};
 ghost use lib.ListN.{length};
-ghost use Rattle.table.specs.Table.{headerOf};
-ghost use Rattle.table.specs.Judge.{Accepted};
 ghost use Rattle.dispatcher.specs.Sessions.{freshOf, headOf, sessionOf};
 ghost use Rattle.dispatcher.specs.Stepping.{answered, stepOf, advanceOf, handed, runOf, ran};
-ghost use Rattle.dispatcher.specs.Turns.{advancedAnswer};
+ghost use Rattle.dispatcher.specs.Turns.{Sized, advancedAnswer, advancedBy};
 
 // Where a run over a scene is. A caller may hand in any: number 20 judges it.
 pub struct Session {
@@ -41,7 +39,7 @@ pub struct Session {
 }
 
 // The numbers of a session.
-pub(crate) struct Head {
+pub struct Head {
     pub place: usize,
     pub units: usize,
     pub closed: bool,
@@ -59,7 +57,7 @@ pub(crate) struct Turn {
 }
 
 // What some steps give: the last one's number and place, how many events and records, and the session's numbers behind them.
-pub(crate) struct Advanced {
+pub struct Advanced {
     pub number: u8,
     pub place: usize,
     pub events: usize,
@@ -67,14 +65,19 @@ pub(crate) struct Advanced {
     pub head: Head,
 }
 
-// What was decided: 0, or 23 or 24; how many strands, attributes and attribute sections; the units opened so far behind it; how many records.
-pub(crate) struct Decided {
-    pub number: u8,
-    pub strands: usize,
-    pub attributes: usize,
-    pub sections: usize,
-    pub units: usize,
-    pub records: usize,
+// A start tag with its namespaces: its <, the tag, its declaration in force, how many declarations it has, and whether its attributes are plain.
+pub(crate) struct Started {
+    pub at: usize,
+    pub tag: Tag,
+    pub found: Found,
+    pub owned: usize,
+    pub plain: bool,
+}
+
+// What reading a start tag comes to: a start, or a number and its place.
+pub(crate) enum Reading {
+    Start(Started),
+    Refused(u8, usize),
 }
 
 // What a step hands back.
@@ -121,47 +124,12 @@ impl Session {
     pub fn advance(self, table: &[u8], scene: &[u8], most: usize, out: &mut [u8]) -> Stepped
         ensures { λ r. ⌜ handed r (now (out .exit)) ≡ advanceOf most (now (table .entry)) (now (scene .entry)) self (now (out .entry)) ⌝ }
     {
-        if most == 0 {
-            return Stepped {
-                answer: refusal(0, self.place),
-                session: self,
-            };
-        }
-        let judged = judge(table);
-        if judged.number != 0 {
-            return Stepped {
-                answer: refusal(judged.number, judged.place),
-                session: self,
-            };
-        }
-        if Session::LONGEST < scene.len() {
-            return Stepped {
-                answer: refusal(7, 0),
-                session: self,
-            };
-        }
-        self.next(table, header_of(table), scene, most, out)
-    }
-
-    // The same with a table that is accepted, a scene that is not too long and some step to take.
-    fn next(
-        self,
-        table: &[u8],
-        header: Header,
-        scene: &[u8],
-        most: usize,
-        out: &mut [u8],
-    ) -> Stepped
-        requires { ⌜ (Accepted (now table) ≡ true) × (header ≡ headerOf (now table)) × (length (now scene) ≤ 16777215) × (1 ≤ most) ⌝ }
-        ensures { λ r. ⌜ handed r (now (out .exit)) ≡ advanceOf most (now (table .entry)) (now (scene .entry)) self (now (out .entry)) ⌝ }
-    {
         let mut levels = self.scope.levels;
         let mut bindings = self.scope.bindings;
         let mut spaces = self.spaces;
         let mut strands = self.strands;
-        let advanced = steps_from(
+        let advanced = advance_in(
             table,
-            header,
             scene,
             self.head(),
             &mut levels,
@@ -218,20 +186,8 @@ impl Session {
     }
 }
 
-// An answer with no event.
-fn refusal(number: u8, place: usize) -> Answer
-    ensures { λ r. ⌜ r ≡ answered number place 0 0 ⌝ }
-{
-    Answer {
-        number,
-        place,
-        events: 0,
-        records: 0,
-    }
-}
-
 // What some steps answer.
-fn answer_of(advanced: Advanced) -> Answer
+pub fn answer_of(advanced: Advanced) -> Answer
     ensures { λ r. ⌜ r ≡ advancedAnswer advanced ⌝ }
 {
     Answer {
@@ -240,6 +196,62 @@ fn answer_of(advanced: Advanced) -> Answer
         events: advanced.events,
         records: advanced.records,
     }
+}
+
+// No step taken: the session's numbers stay.
+fn none_taken(number: u8, place: usize, head: Head) -> Advanced
+    ensures { λ r. ⌜ (advancedAnswer r ≡ answered number place 0 0) × (r .head ≡ head) ⌝ }
+{
+    Advanced {
+        number,
+        place,
+        events: 0,
+        records: 0,
+        head,
+    }
+}
+
+// At most so many steps of a session whose numbers are handed in and whose arrays are lent.
+pub fn advance_in(
+    table: &[u8],
+    scene: &[u8],
+    head: Head,
+    levels: &mut [u32; 3 * Session::DEPTH],
+    bindings: &mut [u32; 4 * Session::BINDINGS],
+    spaces: &mut [u32; 4 * Session::DEPTH],
+    strands: &mut [u32; Session::STRANDS * Session::DEPTH],
+    most: usize,
+    out: &mut [u8],
+) -> Advanced
+    requires { ⌜ Sized (now levels) (now bindings) (now spaces) (now strands) ⌝ }
+    ensures { λ r. ⌜ (
+        let z = sessionOf head (now (levels .entry)) (now (bindings .entry)) (now (spaces .entry)) (now (strands .entry)) in
+        advancedBy r (now (levels .exit)) (now (bindings .exit)) (now (spaces .exit)) (now (strands .exit)) (now (out .exit))
+        ≡ advanceOf most (now (table .entry)) (now (scene .entry)) z (now (out .entry))
+        ) ⌝ }
+{
+    if most == 0 {
+        return none_taken(0, head.place, head);
+    }
+    let judged = judge(table);
+    if judged.number != 0 {
+        return none_taken(judged.number, judged.place, head);
+    }
+    if Session::LONGEST < scene.len() {
+        return none_taken(7, 0, head);
+    }
+    steps_from(
+        table,
+        header_of(table),
+        scene,
+        head,
+        levels,
+        bindings,
+        spaces,
+        strands,
+        most,
+        out,
+    )
 }
 
 // Steps from fresh, records joined, until a step's number is not 0.

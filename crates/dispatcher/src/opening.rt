@@ -1,153 +1,50 @@
 // A start that was decided: 25, or its records and what it opens.
-use crate::Decided;
 use crate::Head;
 use crate::Session;
+use crate::Started;
 use crate::Turn;
-use crate::pushes::opened_head;
-use crate::pushes::push_level;
-use crate::pushes::push_space;
-use crate::pushes::push_strands;
 use crate::steps::stop;
-use lexer::Tag;
-use reader::Span;
-use reader::kinds::minus;
-use reader::scopes::push_bindings;
-use strands::Begun;
-use strands::Placing;
-use strands::attributes::narrow;
-use strands::elements::write_elements;
-use strands::units::write_units;
+use attributes::Placing;
+use openings::Decided;
+use openings::levels::push_start;
+use openings::writing::begun_of;
+use openings::writing::write_start;
 ghost use mathlib.Core.Path.{_≡_};
 ghost use Prim.Native.Nat.{ℕ, _+_, _*_, _≤_, _<_};
-ghost use mathlib.Core.List.{List, [], _∷_, _++_, map};
-ghost use lib.ListN.{length, take};
-ghost use Rattle.laws.specs.Gather.{gather};
-ghost use Rattle.laws.specs.Over.{overwrite};
+ghost use mathlib.Core.List.{List};
 ghost use Rattle.table.specs.Table.{decode};
 ghost use Rattle.table.specs.declared.Header.{Header};
 ghost use Rattle.reader.specs.declared.Binding.{Binding};
-ghost use Rattle.reader.specs.declared.Found.{Found};
-ghost use Rattle.reader.specs.Spans.{wholeSpan};
 ghost use Rattle.reader.specs.Stored.{narrowed, storedSpace};
-ghost use Rattle.reader.specs.Scope.{levelNumbers};
-ghost use Rattle.reader.specs.Pushed.{pushedBindings};
-ghost use Rattle.model.specs.Stream.{attributesFrom};
 ghost use Rattle.model.specs.Elements as elements;
-ghost use Rattle.records.specs.Rows.{laid, laidRows};
-ghost use Rattle.strands.specs.Entries.{entriesIn};
-ghost use Rattle.strands.specs.Attributes.{placingOf, allSorted};
-ghost use Rattle.strands.specs.Writing.{rowOf, begunBody, elementRecords};
+ghost use Rattle.attributes.specs.Attributes.{placingOf};
 ghost use Rattle.dispatcher.specs.Sessions.{sessionOf};
 ghost use Rattle.dispatcher.specs.Stepping.{startPlan, planned};
-ghost use Rattle.dispatcher.specs.Turns.{begunOf, TurnReady, Told, DecidedAs, Roomy, Openable, startOf, arrayUnits, stepBy};
+ghost use Rattle.openings.specs.Openings.{Openable};
+ghost use Rattle.dispatcher.specs.Turns.{openedHead, TurnReady, Told, DecidedAs, Roomy, startOf, stepBy};
 
-// What the starts along the strands have in common.
-fn begun_of(at: usize, tag: Tag, placing: Placing) -> Begun
-    ensures { λ r. ⌜ r ≡ begunOf at tag placing ⌝ }
+// The session's numbers behind a start.
+fn opened_head(head: Head, place: usize, empty: bool, units: usize, owned: usize) -> Head
+    requires { ⌜ (head .depth < 64) × (head .bound + owned ≤ 64) ⌝ }
+    ensures { λ r. ⌜ r ≡ openedHead head place empty units owned ⌝ }
 {
-    let name = tag.name;
-    Begun {
-        tag: narrow(at),
-        class: placing.class,
-        at: narrow(name.part),
-        len: narrow(minus(name.end, name.part)),
-        uri_at: narrow(placing.at),
-        uri_len: narrow(placing.len),
-    }
-}
-
-// The records of a start: the attribute units, then the element along each strand.
-fn write_start(
-    index: &[u32; 256],
-    attributes: &[u32; 128],
-    sections: &[usize; 16],
-    words: &[u32; Session::STRANDS],
-    schemas: &[u32; Session::STRANDS],
-    decided: Decided,
-    units: usize,
-    begun: Begun,
-    out: &mut [u8],
-) -> usize
-    requires { ⌜ Openable (now index) (now attributes) (now sections) (now words) (now schemas) (begun .tag) units decided ⌝ }
-    ensures { λ r. ⌜ (
-        let l = allSorted (now (attributes .entry)) (now (sections .entry)) (decided .attributes) in
-        laid (now (out .exit)) r ≡ laidRows (laid (now (out .entry)) 0)
-        (map rowOf
-        (attributesFrom (λ (u : ℕ). u) units (arrayUnits (now (index .entry)) (now (attributes .entry)) (now (sections .entry)) (now (words .entry)) (begun .tag) decided)
-        ++ gather (elementRecords (now (index .entry)) (begun .tag) (begunBody begun) l) (entriesIn (now (words .entry)) (now (schemas .entry)) (decided .strands))))
-        ) ⌝ }
-{
-    let n = decided.attributes;
-    let count = decided.strands;
-    let wrote = write_units(
-        index,
-        attributes,
-        sections,
-        n,
-        decided.sections,
-        words,
-        count,
-        begun.tag,
+    Head {
+        place,
         units,
-        out,
-    );
-    write_elements(
-        index,
-        attributes,
-        sections,
-        n,
-        words,
-        schemas,
-        count,
-        begun,
-        out,
-        wrote.used,
-    )
-}
-
-// What a start that is accepted lays down.
-fn push_start(
-    tag: Tag,
-    placing: Placing,
-    own: &[u32; 64],
-    owned: usize,
-    words: &[u32; Session::STRANDS],
-    count: usize,
-    depth: usize,
-    bound: usize,
-    levels: &mut [u32; 3 * Session::DEPTH],
-    bindings: &mut [u32; 4 * Session::BINDINGS],
-    spaces: &mut [u32; 4 * Session::DEPTH],
-    strands: &mut [u32; Session::STRANDS * Session::DEPTH],
-)
-    requires { ⌜ (depth < 64) × (count ≤ 16) × (owned ≤ 16) × (bound + owned ≤ 64) ⌝ }
-    ensures { λ _. ⌜ (
-        (now (levels .exit) ≡ overwrite (now (levels .entry)) (3 * depth) (levelNumbers (wholeSpan (tag .name)) owned))
-        × (now (bindings .exit) ≡ overwrite (now (bindings .entry)) (4 * bound) (take (4 * owned) (now (own .entry))))
-        × (now (spaces .exit) ≡ overwrite (now (spaces .entry)) (4 * depth) (placing .class ∷ narrowed (placing .at) ∷ narrowed (placing .len) ∷ count ∷ []))
-        × (now (strands .exit) ≡ overwrite (now (strands .entry)) (16 * depth) (take count (now (words .entry))))
-        ) ⌝ }
-{
-    let name = tag.name;
-    let whole = Span {
-        at: name.at,
-        len: minus(name.end, name.at),
-    };
-    push_level(levels, depth, whole, owned);
-    push_bindings(bindings, bound, own, owned);
-    push_space(spaces, depth, placing, count);
-    push_strands(strands, depth, words, count);
+        closed: false,
+        awaited: empty,
+        depth: head.depth + 1,
+        bound: head.bound + owned,
+    }
 }
 
 // 23 and 24 as decided, 25, or the start.
 pub fn open_level(
     index: &[u32; 256],
-    at: usize,
-    tag: Tag,
+    started: Started,
     placing: Placing,
-    own: &[u32; 64],
-    owned: usize,
     decided: Decided,
+    own: &[u32; 64],
     words: &[u32; Session::STRANDS],
     schemas: &[u32; Session::STRANDS],
     attributes: &[u32; 128],
@@ -157,21 +54,25 @@ pub fn open_level(
     bindings: &mut [u32; 4 * Session::BINDINGS],
     spaces: &mut [u32; 4 * Session::DEPTH],
     strands: &mut [u32; Session::STRANDS * Session::DEPTH],
+    rows: &mut [u64; 82],
     out: &mut [u8],
 ) -> Turn
-    requires { ⌜ Roomy head owned × (decided .number ≡ 0 → Openable (now index) (now attributes) (now sections) (now words) (now schemas) (narrowed at) (head .units) decided) ⌝ }
-    ensures { λ r. ⌜ ((table s attrs codes : List ℕ) (header : Header) (found : Found) (ds : List Binding) → (
+    requires { ⌜ Roomy head (started .owned) × (decided .number ≡ 0 → Openable (now index) (now attributes) (now sections) (now words) (now schemas) (narrowed (started .at)) (head .units) decided) ⌝ }
+    ensures { λ r. ⌜ ((table s attrs codes : List ℕ) (header : Header) (ds : List Binding) → (
         let z = sessionOf head (now (levels .entry)) (now (bindings .entry)) (now (spaces .entry)) (now (strands .entry)) in
         let t = decode table in
-        let e = startOf s (now (bindings .entry)) (now (own .entry)) attrs codes at tag found in
+        let e = startOf s (now (bindings .entry)) (now (own .entry)) attrs codes (started .at) (started .tag) (started .found) in
         TurnReady table header (now (index .entry)) s z
-        → Told s (now (bindings .entry)) (now (own .entry)) attrs codes at tag found owned ds
-        → placing ≡ placingOf (elements.spaceOf t s (storedSpace (now (own .entry)) (now (bindings .entry)) found))
+        → Told s (now (bindings .entry)) (now (own .entry)) attrs codes (started .at) (started .tag) (started .found) (started .owned) ds
+        → placing ≡ placingOf (elements.spaceOf t s (storedSpace (now (own .entry)) (now (bindings .entry)) (started .found)))
         → DecidedAs t s z (elements.elementOf t s e) decided (now (words .entry)) (now (schemas .entry)) (now (attributes .entry)) (now (sections .entry))
         → stepBy r (now (levels .exit)) (now (bindings .exit)) (now (spaces .exit)) (now (strands .exit)) (now (out .exit))
-        ≡ planned (startPlan t s z e ds (tag .next)) z (now (out .entry))
+        ≡ planned (startPlan t s z e ds (started .tag .next)) z (now (out .entry))
         )) ⌝ }
 {
+    let at = started.at;
+    let tag = started.tag;
+    let owned = started.owned;
     let number = decided.number;
     if number != 0 {
         return stop(number, at, head);
@@ -189,6 +90,7 @@ pub fn open_level(
         decided,
         head.units,
         begun_of(at, tag, placing),
+        rows,
         out,
     );
     push_start(

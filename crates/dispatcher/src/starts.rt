@@ -1,182 +1,121 @@
-// A start: its tag read, 5 and 6, 21 and 22, what it makes decided, written and laid down.
+// A start: its tag read, 21 and 22, what it makes decided, written and laid down.
 use crate::Head;
+use crate::Reading;
 use crate::Session;
+use crate::Started;
 use crate::Turn;
 use crate::decisions::decide;
 use crate::opening::open_level;
+use crate::readings::read_start;
 use crate::steps::stop;
-use crate::steps::stopped;
-use lexer::Tag;
-use lexer::Tagged;
-use lexer::tags::start_tag;
-use reader::Found;
-use reader::Meant;
-use reader::namespaces::meaning;
-use strands::attributes::space_of;
-use table::Header;
+use attributes::held::put_classes;
+use attributes::held::space_of;
+use reader::Scope;
+use table::words::header_of;
 ghost use mathlib.Core.Path.{_≡_};
 ghost use Prim.Native.Nat.{_+_, _≤_};
-ghost use lib.ListN.{length, replicate};
+ghost use lib.ListN.{length};
 ghost use Rattle.table.specs.Table.{decode};
-ghost use Rattle.lexer.specs.Attrs.{attrsIn, laid};
+ghost use Rattle.lexer.specs.Attrs.{attrsIn};
 ghost use Rattle.lexer.specs.Tags.{tagAt};
-ghost use Rattle.lexer.specs.declared.Tagged.the-variants as tagged;
-ghost use Rattle.reader.specs.Spans.{wholeSpan};
 ghost use Rattle.reader.specs.Namespaces.{declarationsOf};
 ghost use Rattle.reader.specs.Scope.{opensOf};
 ghost use Rattle.reader.specs.Events.{startRead};
 ghost use Rattle.dispatcher.specs.Sessions.{sessionOf};
 ghost use Rattle.dispatcher.specs.Stepping.{startPlan, planBy, planned};
-ghost use Rattle.dispatcher.specs.Turns.{TurnReady, Told, startOf, stepBy};
+ghost use Rattle.dispatcher.specs.Turns.{LoopReady, Beside, Met, startOf, stepBy};
 
 // A start with its namespaces: 21, 22, and what follows.
 fn element_turn(
     table: &[u8],
-    header: Header,
     index: &[u32; 256],
     scene: &[u8],
-    at: usize,
-    tag: Tag,
-    attrs: &[usize; 80],
-    codes: &[usize; 16],
-    own: &[u32; 64],
-    owned: usize,
-    found: Found,
+    started: Started,
     head: Head,
     levels: &mut [u32; 3 * Session::DEPTH],
     bindings: &mut [u32; 4 * Session::BINDINGS],
     spaces: &mut [u32; 4 * Session::DEPTH],
     strands: &mut [u32; Session::STRANDS * Session::DEPTH],
+    known: &mut [u64; 2 * Scope::KNOWN],
+    attrs: &[usize; 80],
+    codes: &[usize; 16],
+    own: &[u32; 64],
+    attributes: &mut [u32; 128],
+    rows: &mut [u64; 82],
     out: &mut [u8],
 ) -> Turn
-    requires { ⌜ TurnReady (now table) header (now index) (now scene) (sessionOf head (now levels) (now bindings) (now spaces) (now strands)) × Told (now scene) (now bindings) (now own) (now attrs) (now codes) at tag found owned (declarationsOf (now scene) (attrsIn (now attrs) (tag .count))) ⌝ }
+    requires { ⌜ LoopReady (now table) (now index) (now scene) (now known) (sessionOf head (now levels) (now bindings) (now spaces) (now strands)) × Met (now scene) (now bindings) (now own) (now attrs) (now codes) (now known) (head .bound) started ⌝ }
     ensures { λ r. ⌜ (
         let s = now (scene .entry) in
-        let t = decode (now (table .entry)) in
         let z = sessionOf head (now (levels .entry)) (now (bindings .entry)) (now (spaces .entry)) (now (strands .entry)) in
-        stepBy r (now (levels .exit)) (now (bindings .exit)) (now (spaces .exit)) (now (strands .exit)) (now (out .exit))
-        ≡ planned (startPlan t s z (startOf s (now (bindings .entry)) (now (own .entry)) (now (attrs .entry)) (now (codes .entry)) at tag found) (declarationsOf s (attrsIn (now (attrs .entry)) (tag .count))) (tag .next)) z (now (out .entry))
+        let e = startOf s (now (bindings .entry)) (now (own .entry)) (now (attrs .entry)) (now (codes .entry)) (started .at) (started .tag) (started .found) in
+        let ds = declarationsOf s (attrsIn (now (attrs .entry)) (started .tag .count)) in
+        (stepBy r (now (levels .exit)) (now (bindings .exit)) (now (spaces .exit)) (now (strands .exit)) (now (out .exit)) ≡ planned (startPlan (decode (now (table .entry))) s z e ds (started .tag .next)) z (now (out .entry)))
+        × Beside (now (table .entry)) s (now (known .exit)) (sessionOf (r .head) (now (levels .exit)) (now (bindings .exit)) (now (spaces .exit)) (now (strands .exit)))
         ) ⌝ }
 {
+    let owned = started.owned;
     if Session::DEPTH <= head.depth {
-        return stop(21, at, head);
+        return stop(21, started.at, head);
     }
     if Session::BINDINGS < head.bound + owned {
-        return stop(22, at, head);
+        return stop(22, started.at, head);
     }
-    let placing = space_of(table, header, scene, own, bindings, found);
+    put_classes(
+        table,
+        header_of(table),
+        scene,
+        own,
+        owned,
+        head.bound,
+        known,
+    );
+    let found = started.found;
+    let placing = space_of(own, bindings, head.bound, known, found);
     let mut words: [u32; Session::STRANDS] = [0; Session::STRANDS];
     let mut schemas: [u32; Session::STRANDS] = [0; Session::STRANDS];
-    let mut attributes: [u32; 128] = [0; 128];
     let mut sections: [usize; 16] = [0; 16];
     let decided = decide(
-        table,
-        header,
         index,
         scene,
+        started,
+        placing,
+        head,
         attrs,
-        tag.count,
         codes,
         own,
         bindings,
-        found,
-        placing,
-        head.depth,
-        head.units,
+        known,
         spaces,
         strands,
         &mut words,
         &mut schemas,
-        &mut attributes,
+        attributes,
         &mut sections,
     );
     open_level(
         index,
-        at,
-        tag,
+        started,
         placing,
-        own,
-        owned,
         decided,
+        own,
         &words,
         &schemas,
-        &attributes,
+        attributes,
         &sections,
         head,
         levels,
         bindings,
         spaces,
         strands,
+        rows,
         out,
     )
 }
 
-// A start tag that was read: 5, 6, and what follows.
-fn tag_turn(
-    table: &[u8],
-    header: Header,
-    index: &[u32; 256],
-    scene: &[u8],
-    at: usize,
-    tag: Tag,
-    attrs: &[usize; 80],
-    head: Head,
-    levels: &mut [u32; 3 * Session::DEPTH],
-    bindings: &mut [u32; 4 * Session::BINDINGS],
-    spaces: &mut [u32; 4 * Session::DEPTH],
-    strands: &mut [u32; Session::STRANDS * Session::DEPTH],
-    out: &mut [u8],
-) -> Turn
-    requires { ⌜ TurnReady (now table) header (now index) (now scene) (sessionOf head (now levels) (now bindings) (now spaces) (now strands)) × (at + 1 ≤ length (now scene)) × (tagAt (now scene) (at + 1) .answer ≡ tagged.Got tag) × (now attrs ≡ laid (tagAt (now scene) (at + 1) .attrs) (replicate 80 0)) ⌝ }
-    ensures { λ r. ⌜ (
-        let s = now (scene .entry) in
-        let t = decode (now (table .entry)) in
-        let z = sessionOf head (now (levels .entry)) (now (bindings .entry)) (now (spaces .entry)) (now (strands .entry)) in
-        stepBy r (now (levels .exit)) (now (bindings .exit)) (now (spaces .exit)) (now (strands .exit)) (now (out .exit))
-        ≡ planned (planBy t s z (startRead s at (opensOf (z .scope)) (tagAt s (at + 1)) (tagged.Got tag))) z (now (out .entry))
-        ) ⌝ }
-{
-    let mut own: [u32; 64] = [0; 64];
-    let mut codes: [usize; 16] = [0; 16];
-    let name = tag.name;
-    match meaning(
-        scene,
-        name,
-        attrs,
-        tag.count,
-        &mut own,
-        bindings,
-        head.bound,
-        &mut codes,
-    ) {
-        Meant::Element(found, owned) => element_turn(
-            table,
-            header,
-            index,
-            scene,
-            at,
-            tag,
-            attrs,
-            &codes,
-            &own,
-            owned,
-            found,
-            head,
-            levels,
-            bindings,
-            spaces,
-            strands,
-            out,
-        ),
-        Meant::Undeclared => stop(5, at, head),
-        Meant::Twice => stop(6, at, head),
-    }
-}
-
-// The start tag whose < stands at a place.
+// The start whose < stands at a place.
 pub fn start_turn(
     table: &[u8],
-    header: Header,
     index: &[u32; 256],
     scene: &[u8],
     at: usize,
@@ -185,34 +124,41 @@ pub fn start_turn(
     bindings: &mut [u32; 4 * Session::BINDINGS],
     spaces: &mut [u32; 4 * Session::DEPTH],
     strands: &mut [u32; Session::STRANDS * Session::DEPTH],
+    known: &mut [u64; 2 * Scope::KNOWN],
+    attrs: &mut [usize; 80],
+    own: &mut [u32; 64],
+    attributes: &mut [u32; 128],
+    rows: &mut [u64; 82],
     out: &mut [u8],
 ) -> Turn
-    requires { ⌜ TurnReady (now table) header (now index) (now scene) (sessionOf head (now levels) (now bindings) (now spaces) (now strands)) × (at + 1 ≤ length (now scene)) ⌝ }
+    requires { ⌜ LoopReady (now table) (now index) (now scene) (now known) (sessionOf head (now levels) (now bindings) (now spaces) (now strands)) × (at + 1 ≤ length (now scene)) ⌝ }
     ensures { λ r. ⌜ (
         let s = now (scene .entry) in
-        let t = decode (now (table .entry)) in
         let z = sessionOf head (now (levels .entry)) (now (bindings .entry)) (now (spaces .entry)) (now (strands .entry)) in
-        stepBy r (now (levels .exit)) (now (bindings .exit)) (now (spaces .exit)) (now (strands .exit)) (now (out .exit))
-        ≡ planned (planBy t s z (startRead s at (opensOf (z .scope)) (tagAt s (at + 1)) (tagAt s (at + 1) .answer))) z (now (out .entry))
+        (stepBy r (now (levels .exit)) (now (bindings .exit)) (now (spaces .exit)) (now (strands .exit)) (now (out .exit)) ≡ planned (planBy (decode (now (table .entry))) s z (startRead s at (opensOf (z .scope)) (tagAt s (at + 1)) (tagAt s (at + 1) .answer))) z (now (out .entry)))
+        × Beside (now (table .entry)) s (now (known .exit)) (sessionOf (r .head) (now (levels .exit)) (now (bindings .exit)) (now (spaces .exit)) (now (strands .exit)))
         ) ⌝ }
 {
-    let mut attrs: [usize; 80] = [0; 80];
-    match start_tag(scene, at + 1, &mut attrs) {
-        Tagged::Got(tag) => tag_turn(
+    let mut codes: [usize; 16] = [0; 16];
+    match read_start(scene, at, head, bindings, known, attrs, own, &mut codes) {
+        Reading::Start(started) => element_turn(
             table,
-            header,
             index,
             scene,
-            at,
-            tag,
-            &attrs,
+            started,
             head,
             levels,
             bindings,
             spaces,
             strands,
+            known,
+            attrs,
+            &codes,
+            own,
+            attributes,
+            rows,
             out,
         ),
-        Tagged::Stopped(x) => stopped(scene, x, head),
+        Reading::Refused(number, place) => stop(number, place, head),
     }
 }

@@ -3,16 +3,19 @@ use crate::Advanced;
 use crate::Head;
 use crate::Session;
 use crate::Turn;
-use crate::coherence::coherent;
+use crate::checks::coherent;
 use crate::ends::awaited_turn;
 use crate::ends::end_turn;
 use crate::ends::text_turn;
 use crate::starts::start_turn;
+use attributes::held::put_classes;
 use lexer::Begin;
 use lexer::Stop;
 use lexer::stops::number_of;
 use lexer::stops::place_of;
 use lexer::tags::begin_at;
+use reader::Scope;
+use reader::bindings::put_keys;
 use table::Header;
 use table::index::load;
 ghost use mathlib.Core.Path.{_≡_};
@@ -24,7 +27,7 @@ ghost use Rattle.table.specs.Judge.{Accepted};
 ghost use Rattle.lexer.specs.Stops.{numberOf, stopPlace};
 ghost use Rattle.dispatcher.specs.Sessions.{sessionOf};
 ghost use Rattle.dispatcher.specs.Stepping.{planOf, planned, advanceOf};
-ghost use Rattle.dispatcher.specs.Turns.{TurnReady, Sized, stopTurn, stepBy, advancedBy};
+ghost use Rattle.dispatcher.specs.Turns.{LoopReady, Beside, Sized, stopTurn, stepBy, advancedBy};
 
 // A refusal: the session's numbers stay.
 pub fn stop(number: u8, place: usize, head: Head) -> Turn
@@ -48,7 +51,6 @@ pub fn stopped(scene: &[u8], x: Stop, head: Head) -> Turn
 // One step of a coherent session: its records go to the output from its first byte on.
 fn judged_step(
     table: &[u8],
-    header: Header,
     index: &[u32; 256],
     scene: &[u8],
     head: Head,
@@ -56,13 +58,18 @@ fn judged_step(
     bindings: &mut [u32; 4 * Session::BINDINGS],
     spaces: &mut [u32; 4 * Session::DEPTH],
     strands: &mut [u32; Session::STRANDS * Session::DEPTH],
+    known: &mut [u64; 2 * Scope::KNOWN],
+    attrs: &mut [usize; 80],
+    own: &mut [u32; 64],
+    attributes: &mut [u32; 128],
+    rows: &mut [u64; 82],
     out: &mut [u8],
 ) -> Turn
-    requires { ⌜ TurnReady (now table) header (now index) (now scene) (sessionOf head (now levels) (now bindings) (now spaces) (now strands)) ⌝ }
+    requires { ⌜ LoopReady (now table) (now index) (now scene) (now known) (sessionOf head (now levels) (now bindings) (now spaces) (now strands)) ⌝ }
     ensures { λ r. ⌜ (
         let z = sessionOf head (now (levels .entry)) (now (bindings .entry)) (now (spaces .entry)) (now (strands .entry)) in
-        stepBy r (now (levels .exit)) (now (bindings .exit)) (now (spaces .exit)) (now (strands .exit)) (now (out .exit))
-        ≡ planned (planOf (decode (now (table .entry))) (now (scene .entry)) z) z (now (out .entry))
+        (stepBy r (now (levels .exit)) (now (bindings .exit)) (now (spaces .exit)) (now (strands .exit)) (now (out .exit)) ≡ planned (planOf (decode (now (table .entry))) (now (scene .entry)) z) z (now (out .entry)))
+        × Beside (now (table .entry)) (now (scene .entry)) (now (known .exit)) (sessionOf (r .head) (now (levels .exit)) (now (bindings .exit)) (now (spaces .exit)) (now (strands .exit)))
         ) ⌝ }
 {
     if head.awaited {
@@ -71,7 +78,6 @@ fn judged_step(
     match begin_at(scene, head.place, head.depth != 0, head.closed) {
         Begin::Start(at) => start_turn(
             table,
-            header,
             index,
             scene,
             at,
@@ -80,6 +86,11 @@ fn judged_step(
             bindings,
             spaces,
             strands,
+            known,
+            attrs,
+            own,
+            attributes,
+            rows,
             out,
         ),
         Begin::End(at) => end_turn(scene, at, head, levels, spaces, strands, out),
@@ -92,7 +103,6 @@ fn judged_step(
 // Such steps until one's number is not 0 or there were so many. Each is lent the rest of the output.
 fn judged_steps(
     table: &[u8],
-    header: Header,
     index: &[u32; 256],
     scene: &[u8],
     from: Head,
@@ -100,16 +110,21 @@ fn judged_steps(
     bindings: &mut [u32; 4 * Session::BINDINGS],
     spaces: &mut [u32; 4 * Session::DEPTH],
     strands: &mut [u32; Session::STRANDS * Session::DEPTH],
+    known: &mut [u64; 2 * Scope::KNOWN],
     most: usize,
     out: &mut [u8],
 ) -> Advanced
-    requires { ⌜ TurnReady (now table) header (now index) (now scene) (sessionOf from (now levels) (now bindings) (now spaces) (now strands)) × Sized (now levels) (now bindings) (now spaces) (now strands) ⌝ }
+    requires { ⌜ LoopReady (now table) (now index) (now scene) (now known) (sessionOf from (now levels) (now bindings) (now spaces) (now strands)) × Sized (now levels) (now bindings) (now spaces) (now strands) ⌝ }
     ensures { λ r. ⌜ (
         let z = sessionOf from (now (levels .entry)) (now (bindings .entry)) (now (spaces .entry)) (now (strands .entry)) in
         advancedBy r (now (levels .exit)) (now (bindings .exit)) (now (spaces .exit)) (now (strands .exit)) (now (out .exit))
         ≡ advanceOf most (now (table .entry)) (now (scene .entry)) z (now (out .entry))
         ) ⌝ }
 {
+    let mut attrs: [usize; 80] = [0; 80];
+    let mut own: [u32; 64] = [0; 64];
+    let mut attributes: [u32; 128] = [0; 128];
+    let mut rows: [u64; 82] = [0; 82];
     let mut head = from;
     let mut used = 0;
     let mut events = 0;
@@ -117,7 +132,6 @@ fn judged_steps(
     while events < most {
         let turn = judged_step(
             table,
-            header,
             index,
             scene,
             head,
@@ -125,6 +139,11 @@ fn judged_steps(
             bindings,
             spaces,
             strands,
+            known,
+            &mut attrs,
+            &mut own,
+            &mut attributes,
+            &mut rows,
             &mut out[used..],
         );
         let number = turn.number;
@@ -191,9 +210,11 @@ pub fn steps_from(
         };
     }
     let index = load(table, header);
+    let mut known: [u64; 2 * Scope::KNOWN] = [0; 2 * Scope::KNOWN];
+    put_keys(scene, bindings, from.bound, 0, &mut known);
+    put_classes(table, header, scene, bindings, from.bound, 0, &mut known);
     judged_steps(
         table,
-        header,
         &index,
         scene,
         from,
@@ -201,6 +222,7 @@ pub fn steps_from(
         bindings,
         spaces,
         strands,
+        &mut known,
         most,
         out,
     )

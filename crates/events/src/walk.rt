@@ -20,6 +20,9 @@ use reader::Scope;
 use reader::Span;
 ghost use Prim.Native.Nat.{_+_, _<_};
 ghost use lib.ListN.{length};
+use reader::bindings::at_most;
+use reader::bindings::put_keys;
+use reader::kinds::all_plain;
 use reader::kinds::is_declaration;
 use reader::kinds::kind_of;
 use reader::kinds::minus;
@@ -157,18 +160,22 @@ impl Walk {
 
     fn start_read(self, s: &[u8], at: usize, t: Tag, attrs: &[usize; 80]) -> Walk {
         let mut own = [0u32; 64];
+        let mut known = [0u64; 2 * Scope::KNOWN];
         let mut spaces = [0usize; 16];
         let scope = self.scope;
         let outer = scope.bindings;
-        let bound = scope.bound;
+        let bound = at_most(Scope::BINDINGS, scope.bound);
+        put_keys(s, &outer, bound, 0, &mut known);
         let m = meaning(
             s,
             t.name,
             attrs,
             t.count,
+            all_plain(s, attrs, t.count),
             &mut own,
             &outer,
             bound,
+            &mut known,
             &mut spaces,
         );
         match m {

@@ -11,25 +11,23 @@ use mathlib.Core.Logic.{_⊎_, inl, inr}
 use native.Mathlib.Omega.{arith}
 use borrow.Author.Tests.{lt-ltb, le-ltb, ltb-false}
 use lib.Dec.{ltb}
-use lib.ListN.{length, drop, length-append}
+use lib.ListN.{length, drop}
 use Rattle.laws.specs.Lists.{any, anyPair}
 use Rattle.laws.specs.Gather.{gather}
 use Rattle.laws.specs.Reading.{le-or-lt}
 use Rattle.lexer.specs.declared.Name.{Name}
 use Rattle.lexer.specs.declared.Attr.{Attr}
-use Rattle.lexer.specs.Attrs.{attrIn, attrsIn}
 use Rattle.reader.specs.Spans.{kindOf}
-use Rattle.reader.specs.Namespaces.{declaredBy, declarationsOf, refusedBinding, ofElement, ReadAttribute, attribute, before, resolvedBy, resolved, sameName, sameExpanded, Meaning, refused, meant, meantBy, meaningOf}
-use Rattle.reader.specs.Stored.{atMost, bindingsIn, laidBindings, fitting, foundElement, foundBy, foundAttribute, codeOf, foundIn, storedSpace, codeThen, codesOf, isDeclaration, Coded, coded, clashes, twiceIn, isUnbound, meantOf, codesAfter}
+use Rattle.reader.specs.Namespaces.{declarationsOf, refusedBinding, ofElement, ReadAttribute, attribute, before, resolvedBy, resolved, sameName, sameExpanded, Meaning, refused, meant, meantBy, meaningOf}
+use Rattle.reader.specs.Stored.{bindingsIn, laidBindings, fitting, foundElement, foundBy, foundAttribute, codeOf, foundIn, storedSpace, codeThen, codesOf, isDeclaration, Coded, coded, clashes, twiceIn, isUnbound, meantOf, codesAfter}
 use Rattle.reader.specs.declared.Binding.{Binding}
 use Rattle.reader.specs.declared.Kind.{Kind}
 use Rattle.reader.specs.declared.Kind.the-variants.{Plain, Prefixed, Default, Declares}
 use Rattle.reader.specs.declared.Found.{Found}
 use Rattle.reader.specs.declared.Meant.{Meant}
 use Rattle.reader.specs.declared.Meant.the-variants as told
-use Rattle.reader.proofs.Indexed.{tab-long, at-most-le}
 use Rattle.reader.proofs.Laying.{fitting-whole}
-use Rattle.reader.proofs.Declaring.{at-most-one}
+use Rattle.reader.proofs.Declaring.{declared-few}
 use Rattle.reader.proofs.Numbers.{InRange, attribute-in-range, found-back, then-bound, then-unbound}
 use Rattle.reader.proofs.Whole.{coded-more}
 use Rattle.laws.specs.Members.{All}
@@ -157,16 +155,6 @@ abbrev pub asMeaning : List ℕ → List ℕ → List ReadAttribute → List Bin
 asMeaning own open′ as′ ds (told.Element f owned) = meant (storedSpace own open′ f) as′ ds
 asMeaning own open′ as′ ds told.Undeclared = refused 5
 asMeaning own open′ as′ ds told.Twice = refused 6
-
-declared-few : (s : List ℕ) (l : List Attr) → length (declarationsOf s l) ≤ length l
-unfolding gather
-declared-few s [] = omega arith
-declared-few s (a ∷ l) = omega (arith, length-append (declaredBy (kindOf s (a .name)) a) (declarationsOf s l), at-most-one (kindOf s (a .name)) a, declared-few s l)
-
--- an array holds at most sixteen attributes
-pub attrs-few : (array : List ℕ) (count : ℕ) → length (attrsIn array count) ≤ 16
-unfolding attrsIn
-attrs-few array count = omega (arith, tab-long (attrIn array) 0 (atMost 16 count), at-most-le 16 count (atMost 16 count) refl)
 
 -- by the code's three tests: u, the element's prefix is unbound; t, an attribute's is; w, two attributes clash
 by-tests : (s : List ℕ) (attrs : List Attr) (own open′ : List ℕ) (ds : List Binding) (owned : ℕ) (f : Found) (seen as′ : List ReadAttribute) (u t w : Bool)

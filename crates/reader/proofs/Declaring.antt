@@ -1,7 +1,7 @@
 -- The loop of `declare`: what is held and laid, what a turn does, and the ways out.
 use Prim.Native.Nat.{ℕ, _+_, _*_, _-_, _≤_, _<_}
 use mathlib.Core.Path.{_≡_, refl, sym, ap, _∙_, subst}
-use mathlib.Core.List.{List, [], _++_, append-assoc, append-nil}
+use mathlib.Core.List.{List, [], _∷_, _++_, append-assoc, append-nil}
 use mathlib.Core.Bool.{Bool, true, false, cond, or-true}
 use native.Mathlib.Omega.{arith}
 use lib.ListN.{length, length-append}
@@ -19,7 +19,7 @@ use Rattle.reader.specs.declared.Kind.the-variants.{Plain, Prefixed, Def
 use Rattle.reader.specs.declared.Declared.{Declared}
 use Rattle.reader.specs.declared.Declared.the-variants as declares
 use Rattle.reader.proofs.Any.{any-append}
-use Rattle.reader.proofs.Indexed.{tab-here, tab-out}
+use Rattle.reader.proofs.Indexed.{tab-here, tab-out, tab-long, at-most-le}
 use Rattle.reader.proofs.Laying.{Kept, fitting-all, fitting-some, fitting-whole, laid-none, laid-more}
 
 -- the first i attributes are declared, n declarations held, and with those of the rest they are the tag's
@@ -39,6 +39,19 @@ at-most-one Plain a = omega arith
 at-most-one Prefixed a = omega arith
 at-most-one Default a = omega arith
 at-most-one Declares a = omega arith
+
+pub declared-few : (s : List ℕ) (l : List Attr) → length (declarationsOf s l) ≤ length l
+unfolding gather
+declared-few s [] = omega arith
+declared-few s (a ∷ l) = omega (arith, length-append (declaredBy (kindOf s (a .name)) a) (declarationsOf s l), at-most-one (kindOf s (a .name)) a, declared-few s l)
+
+-- an array holds at most sixteen attributes
+pub attrs-few : (array : List ℕ) (count : ℕ) → length (attrsIn array count) ≤ 16
+unfolding attrsIn
+attrs-few array count = omega (arith, tab-long (attrIn array) 0 (atMost 16 count), at-most-le 16 count (atMost 16 count) refl)
+
+pub declarations-few : (s array : List ℕ) (count : ℕ) → length (declarationsOf s (attrsIn array count)) ≤ 16
+declarations-few s array count = omega (arith, declared-few s (attrsIn array count), attrs-few array count)
 
 module _ (s array : List ℕ) (most : ℕ) (attrs : List Attr) (own₀ : List ℕ) where
   pub begin : (count : ℕ) → attrs ≡ attrsIn array count → most ≡ atMost 16 count → Declaring s array most attrs own₀ own₀ 0 0

@@ -2,10 +2,15 @@ pub mod Any
 pub mod Names
 pub mod Slots
 pub mod Seek
+pub mod PrefixKeys
+pub mod KeySeek
 pub mod Indexed
 pub mod Laying
 pub mod Declaring
 pub mod InForce
+pub mod Known
+pub mod Plain
+pub mod Within
 pub mod Numbers
 pub mod Resolving
 pub mod Uris

@@ -2,32 +2,22 @@
 --     InRange, attribute-in-range      the indices are small
 --     code-small, found-back           so are the numbers, and they tell what was found
 --     then-bound, then-unbound         a number before the others
-use Prim.Native.Nat.{ℕ, zero, suc, _+_, _-_, _≤_, _<_}
+--     codes-within                     the numbers of a tag's attributes
+use Prim.Native.Nat.{ℕ, _+_, _-_, _≤_, _<_}
 use mathlib.Core.Path.{_≡_, refl}
 use mathlib.Core.List.{List, [], _∷_}
-use mathlib.Core.Bool.{Bool, true, false, cond}
+use mathlib.Core.Bool.{true, false}
 use native.Mathlib.Omega.{arith}
 use borrow.Author.Tests.{ne-eqb, lt-ltb, le-ltb}
-use lib.Dec.{eqb}
-use lib.ListN.{length}
-use Rattle.laws.specs.Lists.{sameList}
+use Rattle.laws.specs.Members.{All}
 use Rattle.lexer.specs.declared.Name.{Name}
-use Rattle.reader.specs.Spans.{bytesOf, prefixSpan, xmlPrefix, kindOf}
-use Rattle.reader.specs.Stored.{atMost, bindingIn, lookFrom, foundOf, foundBy, foundAttribute, codeOf, foundIn, codeThen, isUnbound}
-use Rattle.reader.specs.declared.Kind.{Kind}
-use Rattle.reader.specs.declared.Kind.the-variants.{Plain, Prefixed, Default, Declares}
+use Rattle.lexer.specs.declared.Attr.{Attr}
+use Rattle.reader.specs.Stored.{atMost, foundAttribute, codeOf, foundIn, codeThen, codesOf, isUnbound}
+use Rattle.reader.specs.Known.{Within}
 use Rattle.reader.specs.declared.Found.{Found}
 use Rattle.reader.specs.declared.Found.the-variants as found
 use Rattle.reader.proofs.Indexed.{at-most-le}
-
-look-le : (s l : List ℕ) (n : ℕ) (p : List ℕ) → lookFrom s l n p ≤ n
-unfolding lookFrom
-look-le s l zero p = omega arith
-look-le s l (suc n) p = cases (sameList (bytesOf s (bindingIn l n .prefix)) p) (look-le s l n p)
-  where
-    cases : (t : Bool) → lookFrom s l n p ≤ n → cond t (suc n) (lookFrom s l n p) ≤ suc n
-    cases true h = omega arith
-    cases false h = omega arith
+use Rattle.reader.proofs.Within.{attribute-within}
 
 abbrev pub InRange : Found → Type 0
 InRange found.Nothing = Unit {0}
@@ -36,33 +26,18 @@ InRange (found.Own k) = k < 16
 InRange (found.Open k) = k < 64
 InRange found.Unbound = Unit {0}
 
-module _ (s own : List ℕ) (owned : ℕ) (open′ : List ℕ) (bound : ℕ) where
-  found-in-range : (p : List ℕ) → InRange (foundOf s own owned open′ bound p)
-  unfolding foundOf
-  found-in-range p =
-      let a : ℕ = lookFrom s own (atMost 16 owned) p in
-      let b : ℕ = lookFrom s open′ (atMost 64 bound) p in
-      cases (sameList p xmlPrefix) (eqb a 0) (eqb b 0) (eqb (length p) 0) a b
-      (omega (arith, look-le s own (atMost 16 owned) p, at-most-le 16 owned (atMost 16 owned) refl))
-      (omega (arith, look-le s open′ (atMost 64 bound) p, at-most-le 64 bound (atMost 64 bound) refl))
-    where
-      cases : (t u v w : Bool) (a b : ℕ) → a ≤ 16 → b ≤ 64
-          → InRange (cond t found.Xml (cond u (cond v (cond w found.Nothing found.Unbound) (found.Open (b - 1))) (found.Own (a - 1))))
-      cases true u v w a b h k = tt
-      cases false false v w a b h k = omega arith
-      cases false true false w a b h k = omega arith
-      cases false true true true a b h k = tt
-      cases false true true false a b h k = tt
+in-range : (a b : ℕ) (f : Found) → Within a b f → a ≤ 16 → b ≤ 64 → InRange f
+in-range a b found.Nothing h la lb = tt
+in-range a b found.Xml h la lb = tt
+in-range a b (found.Own k) h la lb = omega arith
+in-range a b (found.Open k) h la lb = omega arith
+in-range a b found.Unbound h la lb = tt
 
-  pub attribute-in-range : (n : Name) → InRange (foundAttribute s own owned open′ bound n)
-  unfolding foundAttribute
-  attribute-in-range n = cases (kindOf s n)
-    where
-      cases : (k : Kind) → InRange (foundBy s own owned open′ bound k n)
-      cases Plain = tt
-      cases Prefixed = found-in-range (bytesOf s (prefixSpan n))
-      cases Default = tt
-      cases Declares = tt
+pub attribute-in-range : (s own : List ℕ) (owned : ℕ) (open′ : List ℕ) (bound : ℕ) (n : Name) → InRange (foundAttribute s own owned open′ bound n)
+attribute-in-range s own owned open′ bound n =
+    in-range (atMost 16 owned) (atMost 64 bound) (foundAttribute s own owned open′ bound n) (attribute-within s own owned open′ bound n)
+    (at-most-le 16 owned (atMost 16 owned) refl)
+    (at-most-le 64 bound (atMost 64 bound) refl)
 
 pub code-small : (f : Found) → InRange f → codeOf f < 82
 code-small found.Nothing h = omega arith
@@ -95,3 +70,21 @@ then-unbound found.Xml l h = absurd (let z : _≡_ {A = ℕ} 0 1 = cc in omega a
 then-unbound (found.Own k) l h = absurd (let z : _≡_ {A = ℕ} 0 1 = cc in omega arith)
 then-unbound (found.Open k) l h = absurd (let z : _≡_ {A = ℕ} 0 1 = cc in omega arith)
 then-unbound found.Unbound l h = refl
+
+-- each number stands for a declaration that is there
+module _ (s own : List ℕ) (owned : ℕ) (open′ : List ℕ) (bound : ℕ) where
+  abbrev CodeWithin : ℕ → Type 0
+  CodeWithin c = Within (atMost 16 owned) (atMost 64 bound) (foundIn c)
+
+  then-within : (f : Found) (l : List ℕ) → Within (atMost 16 owned) (atMost 64 bound) f → InRange f → All CodeWithin l → All CodeWithin (codeThen f l)
+  then-within found.Nothing l w h a = (tt, a)
+  then-within found.Xml l w h a = (tt, a)
+  then-within (found.Own k) l w h a = (rw (found-back (found.Own k) h refl) w, a)
+  then-within (found.Open k) l w h a = (rw (found-back (found.Open k) h refl) w, a)
+  then-within found.Unbound l w h a = tt
+
+  pub codes-within : (attrs : List Attr) → All (λ (c : ℕ). Within (atMost 16 owned) (atMost 64 bound) (foundIn c)) (codesOf s own owned open′ bound attrs)
+  unfolding codesOf
+  codes-within [] = tt
+  codes-within (a ∷ l) =
+      then-within (foundAttribute s own owned open′ bound (a .name)) (codesOf s own owned open′ bound l) (attribute-within s own owned open′ bound (a .name)) (attribute-in-range s own owned open′ bound (a .name)) (codes-within l)

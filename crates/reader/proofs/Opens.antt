@@ -46,7 +46,7 @@ name-same l l′ k p q = rw (p, q)
 getD-first : (l l′ : List ℕ) (i i′ : ℕ) → getD l (i + 0) 0 ≡ getD l′ (i′ + 0) 0 → getD l i 0 ≡ getD l′ i′ 0
 getD-first l l′ i i′ h = ap (λ (n : ℕ). getD l n 0) (sym (add-zero i)) ∙ h ∙ ap (λ (n : ℕ). getD l′ n 0) (add-zero i′)
 
-binding-same : (l l′ : List ℕ) (k k′ : ℕ) → ((j : ℕ) → j < 4 → getD l (4 * k + j) 0 ≡ getD l′ (4 * k′ + j) 0) → bindingIn l k ≡ bindingIn l′ k′
+pub binding-same : (l l′ : List ℕ) (k k′ : ℕ) → ((j : ℕ) → j < 4 → getD l (4 * k + j) 0 ≡ getD l′ (4 * k′ + j) 0) → bindingIn l k ≡ bindingIn l′ k′
 unfolding bindingIn
 binding-same l l′ k k′ h =
     rw (getD-first l l′ (4 * k) (4 * k′) (h 0 (omega arith)), h 1 (omega arith), h 2 (omega arith), h 3 (omega arith))
@@ -103,11 +103,11 @@ module _ (sc : Scope) (name : Span) (own : List ℕ) (owned : ℕ) where
         )
 
   module _ (lb : length (sc .bindings) ≡ 256) (lo : length own ≡ 64) (few : owned ≤ 16) (b : sc .bound + owned ≤ 64) where
-    binding-before : (k : ℕ) → k < sc .bound → bindingIn bindings k ≡ bindingIn (sc .bindings) k
+    pub binding-before : (k : ℕ) → k < sc .bound → bindingIn bindings k ≡ bindingIn (sc .bindings) k
     binding-before k l =
         binding-same bindings (sc .bindings) k k (λ j m. getD-over-before (sc .bindings) (4 * sc .bound) (take (4 * owned) own) (4 * k + j) 0 (omega arith) (omega arith))
 
-    binding-own : (k : ℕ) → k < owned → bindingIn bindings (sc .bound + k) ≡ bindingIn own k
+    pub binding-own : (k : ℕ) → k < owned → bindingIn bindings (sc .bound + k) ≡ bindingIn own k
     binding-own k l = binding-same bindings own (sc .bound + k) k at
       where
         at : (j : ℕ) → j < 4 → getD bindings (4 * (sc .bound + k) + j) 0 ≡ getD own (4 * k + j) 0

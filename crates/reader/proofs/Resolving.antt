@@ -24,10 +24,10 @@ module _ (l : List ℕ) where
   unfolding overwrite
   numbers-over ns = let e : length ns ≡ 0 + length ns = omega arith in ap (λ (k : ℕ). ns ++ drop k l) e
 
-  numbers-none : laidNumbers [] l ≡ l
+  pub numbers-none : laidNumbers [] l ≡ l
   numbers-none = numbers-over [] ∙ over-none l 0
 
-  numbers-more : (ns : List ℕ) (i x : ℕ) → length ns ≡ i → i < length l → set (laidNumbers ns l) i x ≡ laidNumbers (ns ++ (x ∷ [])) l
+  pub numbers-more : (ns : List ℕ) (i x : ℕ) → length ns ≡ i → i < length l → set (laidNumbers ns l) i x ≡ laidNumbers (ns ++ (x ∷ [])) l
   numbers-more ns i x e h =
       let z : i ≡ 0 + length ns = omega arith in
       ap (λ (r : List ℕ). set r i x) (numbers-over ns)

@@ -1,7 +1,8 @@
 -- A prefix looked up.
 --     look-none, look-turn                the clauses of `lookFrom`, at the code's `left` and `left - 1`
---     found-xml, found-own, found-open    the ways out of `find`
-use Prim.Native.Nat.{ℕ, suc, _-_}
+--     look-le                             it is one of them
+--     found-xml, found-own, found-open    the ways out of `find_spelled`
+use Prim.Native.Nat.{ℕ, zero, suc, _-_, _≤_}
 use mathlib.Core.Path.{_≡_, sym, ap, _∙_}
 use mathlib.Core.List.{List}
 use mathlib.Core.Bool.{Bool, true, false, cond}
@@ -27,7 +28,16 @@ module _ (s l : List ℕ) (left : ℕ) (prefix : List ℕ) where
       ∙ ap (λ (k : ℕ). cond (sameList (bytesOf s (bindingIn l (left - 1) .prefix)) prefix) k (lookFrom s l (left - 1) prefix)) (sym n)
       ∙ ap (λ (k : ℕ). lookFrom s l k prefix) n
 
--- the ways out of `find`
+pub look-le : (s l : List ℕ) (n : ℕ) (p : List ℕ) → lookFrom s l n p ≤ n
+unfolding lookFrom
+look-le s l zero p = omega arith
+look-le s l (suc n) p = cases (sameList (bytesOf s (bindingIn l n .prefix)) p) (look-le s l n p)
+  where
+    cases : (t : Bool) → lookFrom s l n p ≤ n → cond t (suc n) (lookFrom s l n p) ≤ suc n
+    cases true h = omega arith
+    cases false h = omega arith
+
+-- the ways out of `find_spelled`
 module _ (s own : List ℕ) (owned : ℕ) (open′ : List ℕ) (bound : ℕ) (prefix : List ℕ) (x : Bool) (ex : x ≡ sameList prefix xmlPrefix) where
   pub found-xml : x ≡ true → found.Xml ≡ foundOf s own owned open′ bound prefix
   unfolding foundOf

@@ -1,17 +1,20 @@
--- What a tag means, by the ways out of `meant_by` and of `meaning`.
+-- What a tag means, by the ways out of `meant_by`, of `declare_keys` and of `meaning`.
 use Prim.Native.Nat.{ℕ, _≤_, _<_}
 use mathlib.Core.Path.{_≡_, refl, sym, ap, _∙_}
 use mathlib.Core.List.{List, [], _∷_, _++_}
 use mathlib.Core.Bool.{Bool, true, false, cond, not}
+use mathlib.Core.Logic.{inl}
 use native.Mathlib.Omega.{arith}
 use borrow.Author.Tests.{lt-ltb, le-ltb, eqb-true, eqb-false, not-true, not-false}
 use lib.Dec.{eqb}
 use lib.ListN.{length, drop}
 use Rattle.laws.specs.Lists.{any, anyPair}
+use Rattle.laws.specs.Over.{overwrite}
 use Rattle.lexer.specs.declared.Name.{Name}
 use Rattle.lexer.specs.declared.Attr.{Attr}
 use Rattle.reader.specs.Namespaces.{refusedBinding}
 use Rattle.reader.specs.Stored.{foundElement, foundAttribute, isUnbound, codeThen, codesOf, laidNumbers, laidBindings, fitting, declaredOf, Coded, coded, clashes, twiceIn, meantOf, codesAfter}
+use Rattle.reader.specs.Known.{keysIn, KeysAt}
 use Rattle.reader.specs.declared.Binding.{Binding}
 use Rattle.reader.specs.declared.Found.{Found}
 use Rattle.reader.specs.declared.Found.the-variants as found
@@ -19,6 +22,8 @@ use Rattle.reader.specs.declared.Declared.{Declared}
 use Rattle.reader.specs.declared.Declared.the-variants as declares
 use Rattle.reader.specs.declared.Meant.{Meant}
 use Rattle.reader.specs.declared.Meant.the-variants as meant
+use Rattle.reader.proofs.Laying.{laid-none}
+use Rattle.reader.proofs.Known.{keys-none, keys-laid, keys-kept}
 
 -- numbers behind those of the attributes do not count
 pub coded-more : (l : List Attr) (cs ds : List ℕ) → length l ≤ length cs → coded l (cs ++ ds) ≡ coded l cs
@@ -84,18 +89,54 @@ module _ (s : List ℕ) (ds : List Binding) (r : Declared) (er : r ≡ declaredO
       cases true h = absurd (let z : _≡_ {A = ℕ} 0 1 = cc in omega arith)
       cases false h = let z : k ≡ length ds = cc in (refl, z)
 
-  module _ (own own′ : List ℕ) (eo : own′ ≡ laidBindings (fitting s ds) own) (open′ : List ℕ) (bound : ℕ) (n : Name) (attrs : List Attr) (spaces : List ℕ) where
-    abbrev Whole : Meant → List ℕ → Type 0
-    Whole m l =
-        (m ≡ cond (any (refusedBinding s) ds) meant.Undeclared (meantOf s (laidBindings (fitting s ds) own) (length ds) open′ bound n attrs))
-        × (own′ ≡ laidBindings (fitting s ds) own)
-        × (l ≡ cond (any (refusedBinding s) ds) spaces (codesAfter s (laidBindings (fitting s ds) own) (length ds) open′ bound n attrs spaces))
+  pub owned-few : (k : ℕ) → r ≡ declares.Own k → length ds ≤ 16 → k ≤ 16
+  owned-few k e h = let z : k ≡ length ds = none-refused k e .1 in omega arith
 
-    pub undeclared : r ≡ declares.Refused → Whole meant.Undeclared spaces
-    undeclared e = let t : any (refusedBinding s) ds ≡ true = some-refused e in (rw t, eo, rw t)
+  module _ (own own′ : List ℕ) (eo : own′ ≡ laidBindings (fitting s ds) own) (known : List ℕ) (bound : ℕ) where
+    -- the array of the keys behind it
+    abbrev pub keysAfter : List ℕ
+    keysAfter = cond (any (refusedBinding s) ds) known (overwrite known bound (keysIn s (laidBindings (fitting s ds) own) (length ds)))
 
-    pub declared : (k : ℕ) (m : Meant) (l : List ℕ) → r ≡ declares.Own k → m ≡ meantOf s own′ k open′ bound n attrs → l ≡ codesAfter s own′ k open′ bound n attrs spaces → Whole m l
-    declared k m l e em el =
+    pub keys-refused : r ≡ declares.Refused → known ≡ keysAfter
+    keys-refused e = let t : any (refusedBinding s) ds ≡ true = some-refused e in rw t
+
+    pub keys-declared : (k : ℕ) (known′ : List ℕ) → r ≡ declares.Own k → known′ ≡ overwrite known bound (keysIn s own′ k) → known′ ≡ keysAfter
+    keys-declared k known′ e ek =
         let t : any (refusedBinding s) ds ≡ false = none-refused k e .0 in
         let z : k ≡ length ds = none-refused k e .1 in
-        (rw (t, ← eo, ← z) em, eo, rw (t, ← eo, ← z) el)
+        rw (t, ← eo, ← z) ek
+
+    module _ (known′ : List ℕ) (ek : known′ ≡ keysAfter) where
+      -- the keys of the tag's own declarations stand behind those of the open ones, which stay
+      pub keys-found : (k : ℕ) (open′ : List ℕ) → r ≡ declares.Own k → length ds ≤ 16 → bound ≤ 64 → length known ≡ 160 → KeysAt s open′ bound 0 known
+          → (k ≤ 16) × KeysAt s open′ bound 0 known′ × KeysAt s own′ k bound known′
+      keys-found k open′ e few lb long h =
+          let t : any (refusedBinding s) ds ≡ false = none-refused k e .0 in
+          let z : k ≡ length ds = none-refused k e .1 in
+          let q : known′ ≡ overwrite known bound (keysIn s own′ k) = ek ∙ rw (t, ← eo, ← z) in
+          (owned-few k e few, keys-kept s open′ bound 0 known known′ bound (keysIn s own′ k) (omega arith) (inl (omega arith)) q h, keys-laid s own′ k bound known known′ (omega arith) q)
+
+      module _ (open′ : List ℕ) (n : Name) (attrs : List Attr) (spaces : List ℕ) where
+        abbrev Whole : Meant → List ℕ → Type 0
+        Whole m l =
+            (m ≡ cond (any (refusedBinding s) ds) meant.Undeclared (meantOf s (laidBindings (fitting s ds) own) (length ds) open′ bound n attrs))
+            × (own′ ≡ laidBindings (fitting s ds) own)
+            × (l ≡ cond (any (refusedBinding s) ds) spaces (codesAfter s (laidBindings (fitting s ds) own) (length ds) open′ bound n attrs spaces))
+            × (known′ ≡ keysAfter)
+
+        pub undeclared : r ≡ declares.Refused → Whole meant.Undeclared spaces
+        undeclared e = let t : any (refusedBinding s) ds ≡ true = some-refused e in (rw t, eo, rw t, ek)
+
+        pub declared : (k : ℕ) (m : Meant) (l : List ℕ) → r ≡ declares.Own k → m ≡ meantOf s own′ k open′ bound n attrs → l ≡ codesAfter s own′ k open′ bound n attrs spaces → Whole m l
+        declared k m l e em el =
+            let t : any (refusedBinding s) ds ≡ false = none-refused k e .0 in
+            let z : k ≡ length ds = none-refused k e .1 in
+            (rw (t, ← eo, ← z) em, eo, rw (t, ← eo, ← z) el, ek)
+
+-- a tag that declares nothing
+pub none-declared : (s : List ℕ) (ds : List Binding) (own known : List ℕ) (bound : ℕ) → ds ≡ []
+    → (declares.Own 0 ≡ declaredOf s ds)
+    × (own ≡ laidBindings (fitting s ds) own)
+    × (known ≡ cond (any (refusedBinding s) ds) known (overwrite known bound (keysIn s (laidBindings (fitting s ds) own) (length ds))))
+unfolding any fitting
+none-declared s ds own known bound e = rw e (refl, sym (laid-none own), keys-none s (laidBindings [] own) known bound)

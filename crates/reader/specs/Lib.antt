@@ -7,5 +7,6 @@ pub mod Pushed
 pub mod Counted
 pub mod Held
 pub mod Keys
+pub mod Known
 pub mod Computing
 pub mod Examples

@@ -1,18 +1,23 @@
 // What an attribute's name makes of it, and which declarations 5 refuses.
 use crate::Binding;
 use crate::Kind;
+use crate::bindings::at_most;
 use compare::is_xml_uri;
 use compare::is_xmlns_uri;
 use compare::part_of;
 use compare::same;
+use lexer::Attr;
 use lexer::Name;
+use lexer::tags::attr_in;
 ghost use mathlib.Core.Path.{_≡_};
 ghost use Prim.Native.Nat.{ℕ, _-_};
 ghost use lib.Dec.{eqb};
-ghost use Rattle.laws.specs.Lists.{any};
+ghost use Rattle.laws.specs.Lists.{any, all};
+ghost use Rattle.lexer.specs.Attrs.{attrsIn};
 ghost use Rattle.reader.specs.Spans.{between, bytesOf, wholeSpan, prefixSpan, kindOf};
 ghost use Rattle.reader.specs.Namespaces.{refusedBinding};
 ghost use Rattle.reader.specs.Stored.{isDeclaration};
+ghost use Rattle.reader.specs.Known.{plainAttr};
 
 // a - b, and 0 where b is larger.
 pub fn minus(a: usize, b: usize) -> usize
@@ -95,4 +100,27 @@ pub fn refused_binding(s: &[u8], b: Binding) -> bool
     let reserved = same(prefix, b"xml") | same(prefix, b"xmlns") | (uri.len() == 0);
     let taken = is_xml_uri(uri) | is_xmlns_uri(uri) | has_reference(uri);
     (prefix.len() != 0) & reserved | taken
+}
+
+// Does an attribute's name stand in the scene, without a prefix, and not as long as xmlns?
+fn is_plain(s: &[u8], a: Attr) -> bool
+    ensures { λ r. ⌜ r ≡ plainAttr (now (s .entry)) a ⌝ }
+{
+    let name = a.name;
+    (name.part <= name.at) & (minus(name.end, name.at) != 5) & (name.end <= s.len())
+}
+
+// Is each of a tag's attributes plain, so that it declares nothing and is in no namespace?
+pub fn all_plain(s: &[u8], attrs: &[usize; 80], count: usize) -> bool
+    ensures { λ r. ⌜ r ≡ all (plainAttr (now (s .entry))) (attrsIn (now (attrs .entry)) count) ⌝ }
+{
+    let most = at_most(16, count);
+    let mut i = 0;
+    while i < most {
+        if !is_plain(s, attr_in(attrs, i)) {
+            return false;
+        }
+        i += 1;
+    }
+    true
 }

@@ -1,33 +1,41 @@
 // What a tag means: its element's namespace and its attributes', and its declarations; numbers 5 and 6.
 use crate::Declared;
 use crate::Meant;
+use crate::Scope;
+use crate::bindings::write_keys;
 use crate::clashes::twice;
 use crate::declarations::declare;
 use crate::spaces::find_element;
 use crate::spaces::is_unbound;
-use crate::spaces::resolve;
+use crate::spaces::resolve_all;
 use lexer::Name;
 ghost use mathlib.Core.Path.{_≡_};
-ghost use mathlib.Core.Bool.{cond};
+ghost use mathlib.Core.Bool.{true, cond};
+ghost use Prim.Native.Nat.{ℕ, _≤_};
 ghost use lib.ListN.{length};
-ghost use Rattle.laws.specs.Lists.{any};
+ghost use Rattle.laws.specs.Lists.{any, all};
+ghost use Rattle.laws.specs.Over.{overwrite};
 ghost use Rattle.lexer.specs.Attrs.{attrsIn};
 ghost use Rattle.reader.specs.declared.Meant.the-variants as meant;
 ghost use Rattle.reader.specs.Namespaces.{declarationsOf, refusedBinding};
-ghost use Rattle.reader.specs.Stored.{laidBindings, fitting, meantOf, codesAfter, meantNumber};
+ghost use Rattle.reader.specs.Stored.{laidBindings, fitting, declaredOf, meantOf, codesAfter, meantNumber};
+ghost use Rattle.reader.specs.Known.{keysIn, KeysAt, plainAttr};
 
 // What a tag means whose declarations are laid down.
-pub fn meant_by(
+fn meant_by(
     s: &[u8],
     name: Name,
     attrs: &[usize; 80],
     count: usize,
+    plain: bool,
     own: &[u32; 64],
     owned: usize,
     outer: &[u32; 256],
     bound: usize,
+    known: &[u64; 2 * Scope::KNOWN],
     spaces: &mut [usize; 16],
 ) -> Meant
+    requires { ⌜ (bound ≤ 64) × (owned ≤ 16) × KeysAt (now s) (now outer) bound 0 (now known) × KeysAt (now s) (now own) owned bound (now known) × (plain ≡ true → all (plainAttr (now s)) (attrsIn (now attrs) count) ≡ true) ⌝ }
     ensures { λ r. ⌜ (
         let t = now (s .entry) in
         let all = attrsIn (now (attrs .entry)) count in
@@ -35,11 +43,22 @@ pub fn meant_by(
         × (now (spaces .exit) ≡ codesAfter t (now (own .entry)) owned (now (outer .entry)) bound name all (now (spaces .entry)))
         ) ⌝ }
 {
-    let f = find_element(s, own, owned, outer, bound, name);
+    let f = find_element(s, own, owned, outer, bound, known, name);
     if is_unbound(f) {
         return Meant::Undeclared;
     }
-    if !resolve(s, attrs, count, own, owned, outer, bound, spaces) {
+    if !resolve_all(
+        s,
+        attrs,
+        count,
+        plain,
+        own,
+        owned,
+        outer,
+        bound,
+        known,
+        spaces,
+    ) {
         return Meant::Undeclared;
     }
     if twice(s, attrs, count, own, outer, spaces) {
@@ -48,17 +67,54 @@ pub fn meant_by(
     Meant::Element(f, owned)
 }
 
-// What a tag means. Its declarations are laid down in own, the numbers of its attributes in spaces.
+// A tag's declarations laid down, and their keys behind those of the open ones. Plain attributes declare nothing.
+fn declare_keys(
+    s: &[u8],
+    attrs: &[usize; 80],
+    count: usize,
+    plain: bool,
+    own: &mut [u32; 64],
+    bound: usize,
+    known: &mut [u64; 2 * Scope::KNOWN],
+) -> Declared
+    requires { ⌜ (bound ≤ 64) × (plain ≡ true → all (plainAttr (now s)) (attrsIn (now attrs) count) ≡ true) ⌝ }
+    ensures { λ r. ⌜ (
+        let t = now (s .entry) in
+        let ds = declarationsOf t (attrsIn (now (attrs .entry)) count) in
+        let laid = laidBindings (fitting t ds) (now (own .entry)) in
+        (r ≡ declaredOf t ds)
+        × (now (own .exit) ≡ laid)
+        × (now (known .exit) ≡ cond (any (refusedBinding t) ds) (now (known .entry)) (overwrite (now (known .entry)) bound (keysIn t laid (length ds))))
+        × (length (now (known .entry)) ≡ 160)
+        ) ⌝ }
+{
+    let all: &mut [u64] = known;
+    if plain {
+        return Declared::Own(0);
+    }
+    match declare(s, attrs, count, own) {
+        Declared::Own(owned) => {
+            write_keys(s, own, owned, bound, all);
+            Declared::Own(owned)
+        }
+        Declared::Refused => Declared::Refused,
+    }
+}
+
+// What a tag means. Its declarations are laid down in own, the numbers of its attributes in spaces, the keys of its prefixes behind those of the open ones.
 pub fn meaning(
     s: &[u8],
     name: Name,
     attrs: &[usize; 80],
     count: usize,
+    plain: bool,
     own: &mut [u32; 64],
     outer: &[u32; 256],
     bound: usize,
+    known: &mut [u64; 2 * Scope::KNOWN],
     spaces: &mut [usize; 16],
 ) -> Meant
+    requires { ⌜ (bound ≤ 64) × KeysAt (now s) (now outer) bound 0 (now known) × (plain ≡ true → all (plainAttr (now s)) (attrsIn (now attrs) count) ≡ true) ⌝ }
     ensures { λ r. ⌜ (
         let t = now (s .entry) in
         let all = attrsIn (now (attrs .entry)) count in
@@ -68,10 +124,23 @@ pub fn meaning(
         (r ≡ cond refused meant.Undeclared (meantOf t laid (length ds) (now (outer .entry)) bound name all))
         × (now (own .exit) ≡ laid)
         × (now (spaces .exit) ≡ cond refused (now (spaces .entry)) (codesAfter t laid (length ds) (now (outer .entry)) bound name all (now (spaces .entry))))
+        × (now (known .exit) ≡ cond refused (now (known .entry)) (overwrite (now (known .entry)) bound (keysIn t laid (length ds))))
         ) ⌝ }
 {
-    match declare(s, attrs, count, own) {
-        Declared::Own(owned) => meant_by(s, name, attrs, count, own, owned, outer, bound, spaces),
+    match declare_keys(s, attrs, count, plain, own, bound, known) {
+        Declared::Own(owned) => meant_by(
+            s,
+            name,
+            attrs,
+            count,
+            plain,
+            own,
+            owned,
+            outer,
+            bound,
+            known,
+            spaces,
+        ),
         Declared::Refused => Meant::Undeclared,
     }
 }

@@ -91,6 +91,9 @@ impl Scope {
 
     pub const OWN: usize = 16;
 
+    // So many prefixes are looked up among: those that are open, and a tag's own.
+    pub const KNOWN: usize = Scope::BINDINGS + Scope::OWN;
+
     // Nothing open.
     pub fn fresh() -> Scope
         ensures { λ r. ⌜ r ≡ freshScope ⌝ }

@@ -1,6 +1,7 @@
 // The declaration in force of an element and of each attribute, and its number.
 use crate::Found;
 use crate::Kind;
+use crate::Scope;
 use crate::bindings::at_most;
 use crate::bindings::find;
 use crate::kinds::kind_of;
@@ -9,11 +10,14 @@ use compare::same;
 use lexer::Name;
 use lexer::tags::attr_in;
 ghost use mathlib.Core.Path.{_≡_};
-ghost use Prim.Native.Nat.{_<_};
-ghost use lib.ListN.{length};
+ghost use mathlib.Core.Bool.{true};
+ghost use Prim.Native.Nat.{ℕ, _≤_, _<_};
+ghost use lib.ListN.{length, replicate};
 ghost use lib.Dec.{eqb};
+ghost use Rattle.laws.specs.Lists.{all};
 ghost use Rattle.lexer.specs.Attrs.{attrsIn};
-ghost use Rattle.reader.specs.Stored.{foundElement, foundAttribute, isUnbound, codeOf, foundIn, codesOf, laidNumbers};
+ghost use Rattle.reader.specs.Stored.{atMost, foundElement, foundAttribute, isUnbound, codeOf, foundIn, codesOf, laidNumbers};
+ghost use Rattle.reader.specs.Known.{KeysAt, plainAttr};
 
 // The declaration in force of an element's name.
 pub fn find_element(
@@ -22,8 +26,10 @@ pub fn find_element(
     owned: usize,
     outer: &[u32; 256],
     bound: usize,
+    known: &[u64; 2 * Scope::KNOWN],
     name: Name,
 ) -> Found
+    requires { ⌜ (bound ≤ 64) × (owned ≤ 16) × KeysAt (now s) (now outer) bound 0 (now known) × KeysAt (now s) (now own) owned bound (now known) ⌝ }
     ensures { λ r. ⌜ r ≡ foundElement (now (s .entry)) (now (own .entry)) owned (now (outer .entry)) bound name ⌝ }
 {
     if name.at < name.part {
@@ -31,9 +37,9 @@ pub fn find_element(
         if same(prefix, b"xmlns") {
             return Found::Unbound;
         }
-        return find(s, own, owned, outer, bound, prefix);
+        return find(s, own, owned, outer, bound, known, prefix);
     }
-    find(s, own, owned, outer, bound, b"")
+    find(s, own, owned, outer, bound, known, b"")
 }
 
 // The declaration in force of an attribute's name.
@@ -43,13 +49,15 @@ pub fn find_attribute(
     owned: usize,
     outer: &[u32; 256],
     bound: usize,
+    known: &[u64; 2 * Scope::KNOWN],
     name: Name,
 ) -> Found
+    requires { ⌜ (bound ≤ 64) × (owned ≤ 16) × KeysAt (now s) (now outer) bound 0 (now known) × KeysAt (now s) (now own) owned bound (now known) ⌝ }
     ensures { λ r. ⌜ r ≡ foundAttribute (now (s .entry)) (now (own .entry)) owned (now (outer .entry)) bound name ⌝ }
 {
     match kind_of(s, name) {
         Kind::Plain => Found::Nothing,
-        Kind::Prefixed => find(s, own, owned, outer, bound, prefix_of(s, name)),
+        Kind::Prefixed => find(s, own, owned, outer, bound, known, prefix_of(s, name)),
         Kind::Default => Found::Nothing,
         Kind::Declares => Found::Nothing,
     }
@@ -99,7 +107,7 @@ pub fn found_in(code: usize) -> Found
 }
 
 // The numbers of the attributes, from the array's first place on, up to one whose prefix is unbound; were there none such?
-pub fn resolve(
+fn resolve(
     s: &[u8],
     attrs: &[usize; 80],
     count: usize,
@@ -107,8 +115,10 @@ pub fn resolve(
     owned: usize,
     outer: &[u32; 256],
     bound: usize,
+    known: &[u64; 2 * Scope::KNOWN],
     spaces: &mut [usize; 16],
 ) -> bool
+    requires { ⌜ (bound ≤ 64) × (owned ≤ 16) × KeysAt (now s) (now outer) bound 0 (now known) × KeysAt (now s) (now own) owned bound (now known) ⌝ }
     ensures { λ r. ⌜ (
         let all = attrsIn (now (attrs .entry)) count in
         let codes = codesOf (now (s .entry)) (now (own .entry)) owned (now (outer .entry)) bound all in
@@ -120,7 +130,7 @@ pub fn resolve(
     let mut i = 0;
     while i < most {
         let a = attr_in(attrs, i);
-        let f = find_attribute(s, own, owned, outer, bound, a.name);
+        let f = find_attribute(s, own, owned, outer, bound, known, a.name);
         if is_unbound(f) {
             return false;
         }
@@ -128,4 +138,44 @@ pub fn resolve(
         i += 1;
     }
     true
+}
+
+// The numbers of plain attributes: all 0.
+fn clear_codes(count: usize, spaces: &mut [usize; 16])
+    ensures { λ _. ⌜ now (spaces .exit) ≡ laidNumbers (replicate (atMost 16 count) 0) (now (spaces .entry)) ⌝ }
+{
+    let all: &mut [usize] = spaces;
+    let most = at_most(16, count);
+    let mut i = 0;
+    while i < most {
+        all[i] = 0;
+        i += 1;
+    }
+}
+
+// The numbers of the attributes, as resolve lays them; where all are plain, none is looked up.
+pub fn resolve_all(
+    s: &[u8],
+    attrs: &[usize; 80],
+    count: usize,
+    plain: bool,
+    own: &[u32; 64],
+    owned: usize,
+    outer: &[u32; 256],
+    bound: usize,
+    known: &[u64; 2 * Scope::KNOWN],
+    spaces: &mut [usize; 16],
+) -> bool
+    requires { ⌜ (bound ≤ 64) × (owned ≤ 16) × KeysAt (now s) (now outer) bound 0 (now known) × KeysAt (now s) (now own) owned bound (now known) × (plain ≡ true → all (plainAttr (now s)) (attrsIn (now attrs) count) ≡ true) ⌝ }
+    ensures { λ r. ⌜ (
+        let all = attrsIn (now (attrs .entry)) count in
+        let codes = codesOf (now (s .entry)) (now (own .entry)) owned (now (outer .entry)) bound all in
+        (r ≡ eqb (length codes) (length all)) × (now (spaces .exit) ≡ laidNumbers codes (now (spaces .entry)))
+        ) ⌝ }
+{
+    if plain {
+        clear_codes(count, spaces);
+        return true;
+    }
+    resolve(s, attrs, count, own, owned, outer, bound, known, spaces)
 }

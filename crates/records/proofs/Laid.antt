@@ -44,6 +44,16 @@ module _ (w : Laid) (due : Bool) (r : Row) where
   unfolding laidIf
   if-not e = rw e
 
+pub if-within : (out : List ℕ) (at : ℕ) (due : Bool) (r : Row) (out′ : List ℕ) (at′ : ℕ) → laid out′ at′ ≡ laidIf due (laid out at) r
+    → (length out′ ≡ length out) × (at′ ≤ at + 16)
+if-within out at true r out′ at′ e =
+    let f = e ∙ if-due (laid out at) true r refl in
+    let w = row-within out at r in
+    (ap (λ (x : Laid). length (x .out)) f ∙ w .0, omega (arith, ap (λ (x : Laid). x .at) f, w .2))
+if-within out at false r out′ at′ e =
+    let f = e ∙ if-not (laid out at) false r refl in
+    (ap (λ (x : Laid). length (x .out)) f, omega (arith, ap (λ (x : Laid). x .at) f))
+
 module _ (w : Laid) where
   pub rows-none : laidRows w [] ≡ w
   unfolding laidRows

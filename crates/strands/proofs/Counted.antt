@@ -22,7 +22,7 @@ use Rattle.model.specs.Records.{Body, virtualEnd}
 use Rattle.model.proofs.Count.{attributeCount, length-gathered, length-give, length-attributes}
 use Rattle.strands.specs.Packed.{strandIn, receives, isUnit}
 use Rattle.strands.specs.Rules.{rulesIn, opened, unitsFor}
-use Rattle.strands.specs.Attributes.{Sorted}
+use Rattle.attributes.specs.Attributes.{Sorted}
 use Rattle.strands.specs.Writing.{members, headClass, sortedBodies, unitFor, sectionUnits, strandUnits, keeps, opensWith, elementRecords, sectionCount, elementCount}
 
 -- ---- sums
@@ -39,7 +39,7 @@ module _ {A : Type 0} where
 
 -- ---- the records of attribute units
 -- two records to an attribute
-bodies-length : (l : List Sorted) → length (gather sortedBodies l) ≡ 2 * length l
+pub bodies-length : (l : List Sorted) → length (gather sortedBodies l) ≡ 2 * length l
 unfolding gather
 bodies-length [] = refl
 bodies-length (a ∷ l) = omega (arith, bodies-length l)

@@ -2,14 +2,17 @@
 --     total-next, kept-*                    one more of a list, or of those that pass a test
 --     class-of, section-is, section-not     an attribute's class and section as the arrays hold them
 --     keeps-own, keeps-other                an attribute kept with its element
+--     all-kept, kept-all                    where no attribute has a section
 --     head-*                                the first attribute of a section
 --     load-few                              the most records of a section
 --     sum-*, sections-*, entries-*          sums over the strands and the sections so far
---     counted-*, *-in-mode, element-*       what one section, one strand, one element adds
-use Prim.Native.Nat.{ℕ, _+_, _-_, _*_, _%_, _≤_, _<_}
+--     counted-*, *-in-mode, element-with    what one section, one strand, one element adds
+--     with-*                                an element along a strand, by its tests
+--     no-sections                           nothing where there are none
+use Prim.Native.Nat.{ℕ, zero, suc, _+_, _-_, _*_, _%_, _≤_, _<_}
 use mathlib.Core.Path.{_≡_, refl, sym, ap, _∙_}
 use mathlib.Core.List.{List, [], _∷_, _++_}
-use mathlib.Core.Bool.{Bool, true, false}
+use mathlib.Core.Bool.{Bool, true, false, cond}
 use native.Mathlib.Nat.{add-zero, zero-add, mul-le-mul}
 use native.Mathlib.Omega.{arith}
 use borrow.Author.Tests.{eq-eqb, ne-eqb}
@@ -17,14 +20,14 @@ use lib.ListN.{length, getD, length-append}
 use lib.Dec.{eqb}
 use Rattle.laws.specs.Lists.{tabulate, keep}
 use Rattle.laws.specs.Gather.{total}
-use Rattle.laws.proofs.Lists.{tabulate-here, tabulate-done, keep-append}
+use Rattle.laws.proofs.Lists.{tabulate-here, tabulate-done, length-tabulate, keep-append}
 use Rattle.laws.proofs.Gather.{total-append}
 use Rattle.reader.proofs.Tabulated.{tabulate-append}
 use Rattle.model.specs.Stream.{Entry}
 use Rattle.strands.specs.Packed.{strandIn, receives, isUnit}
 use Rattle.strands.specs.Rules.{keepsClass, unitsFor}
 use Rattle.strands.specs.Entries.{entryIn, entriesIn}
-use Rattle.strands.specs.Attributes.{Sorted, givenIn, sortedIn}
+use Rattle.attributes.specs.Attributes.{Sorted, givenIn, sortedIn, allSorted}
 use Rattle.strands.specs.Writing.{members, headClass, keeps, sectionCount, elementCount}
 
 module _ {A : Type 0} (f : ℕ → A) where
@@ -98,6 +101,23 @@ module _ (attributes sections : List ℕ) (k : ℕ) where
     pub keeps-other : (v : Bool) (class : ℕ) → eqb (sortedIn attributes sections k .section) 0 ≡ false → class ≡ sortedIn attributes sections k .class
         → v ≡ keepsClass index mode class → v ≡ keeps index mode (sortedIn attributes sections k)
     keeps-other v class e c h = h ∙ rw (e, c)
+
+-- where no attribute has a section, every one is kept
+keep-each : {A : Type 0} (p : A → Bool) (f : ℕ → A) (k n : ℕ) → ((i : ℕ) → i < n → p (f (k + i)) ≡ true) → keep p (tabulate f k n) ≡ tabulate f k n
+unfolding keep tabulate
+keep-each p f k zero h = refl
+keep-each {A} p f k (suc n) h =
+    let e : p (f k) ≡ true = ap (λ (i : ℕ). p (f i)) (sym (add-zero k)) ∙ h 0 (omega arith) in
+    rw e (ap (λ (l : List A). f k ∷ l) (keep-each p f (suc k) n (λ (i : ℕ) (q : i < n). ap (λ (j : ℕ). p (f j)) (omega arith) ∙ h (suc i) (omega arith))))
+
+module _ (attributes sections : List ℕ) (n : ℕ) (zeros : (k : ℕ) → k < n → getD sections k 0 ≡ 0) (index : List ℕ) where
+  pub all-kept : (mode : ℕ) → keep (keeps index mode) (allSorted attributes sections n) ≡ allSorted attributes sections n
+  all-kept mode =
+      keep-each (keeps index mode) (sortedIn attributes sections) 0 n
+      (λ (i : ℕ) (q : i < n). sym (keeps-own attributes sections (0 + i) index mode (section-is attributes sections (0 + i) (getD sections (0 + i) 0) 0 refl (zeros (0 + i) (omega arith)))))
+
+  pub kept-all : (mode : ℕ) → n ≡ length (keep (keeps index mode) (allSorted attributes sections n))
+  kept-all mode = sym (ap length (all-kept mode) ∙ length-tabulate (sortedIn attributes sections) 0 n)
 
 pub head-start : (f : ℕ → Sorted) (j n : ℕ) → headClass (members (tabulate f 0 (n - 0)) j) ≡ headClass (members (tabulate f 0 n) j)
 head-start f j n =
@@ -180,17 +200,29 @@ module _ (index : List ℕ) (l : List Sorted) where
     pub records-in-mode : v ≡ total (sectionCount index mode l) js → v ≡ total (sectionCount index (strandIn w .mode) l) js
     records-in-mode e = e ∙ ap (λ (x : ℕ). total (sectionCount index x l) js) m
 
-  -- the element along a strand
-  module _ (w schema : ℕ) where
-    pub element-none : isUnit (receives (strandIn w)) ≡ false → 0 ≡ elementCount index l (record { strand = strandIn w; schema = schema })
-    element-none e = rw e
+  -- the element along a strand that keeps so many attributes
+  pub element-with : (w schema mode kept r : ℕ) → mode ≡ strandIn w .mode → kept ≡ length (keep (keeps index mode) l)
+      → r ≡ cond (isUnit (receives (strandIn w))) (cond (strandIn w .here) 1 0 + (1 + 2 * kept)) 0 → r ≡ elementCount index l (record { strand = strandIn w; schema = schema })
+  element-with w schema mode kept r m k e =
+      let f : kept ≡ length (keep (keeps index (strandIn w .mode)) l) = k ∙ ap (λ (x : ℕ). length (keep (keeps index x) l)) m in
+      e ∙ ap (λ (x : ℕ). cond (isUnit (receives (strandIn w))) (cond (strandIn w .here) 1 0 + (1 + 2 * x)) 0) f
 
-    module _ (e : isUnit (receives (strandIn w)) ≡ true) (mode kept : ℕ) (m : mode ≡ strandIn w .mode) (k : kept ≡ length (keep (keeps index mode) l)) where
-      kept-is : kept ≡ length (keep (keeps index (strandIn w .mode)) l)
-      kept-is = k ∙ ap (λ (x : ℕ). length (keep (keeps index x) l)) m
+module _ (w kept : ℕ) where
+  pub with-none : isUnit (receives (strandIn w)) ≡ false → 0 ≡ cond (isUnit (receives (strandIn w))) (cond (strandIn w .here) 1 0 + (1 + 2 * kept)) 0
+  with-none e = rw e
 
-      pub element-here : strandIn w .here ≡ true → 2 + 2 * kept ≡ elementCount index l (record { strand = strandIn w; schema = schema })
-      element-here h = rw (e, h) (omega (arith, kept-is))
+  module _ (e : isUnit (receives (strandIn w)) ≡ true) where
+    pub with-here : strandIn w .here ≡ true → 2 + 2 * kept ≡ cond (isUnit (receives (strandIn w))) (cond (strandIn w .here) 1 0 + (1 + 2 * kept)) 0
+    with-here h = rw (e, h) (omega arith)
 
-      pub element-past : strandIn w .here ≡ false → 1 + 2 * kept ≡ elementCount index l (record { strand = strandIn w; schema = schema })
-      element-past h = rw (e, h) (omega (arith, kept-is))
+    pub with-past : strandIn w .here ≡ false → 1 + 2 * kept ≡ cond (isUnit (receives (strandIn w))) (cond (strandIn w .here) 1 0 + (1 + 2 * kept)) 0
+    with-past h = rw (e, h) (omega arith)
+
+-- no sections, no units
+none-total : (g : ℕ → ℕ → ℕ) (ws : List ℕ) → 0 ≡ total (λ (w : ℕ). total (g w) (tabulate (λ (j : ℕ). j) 1 0)) ws
+unfolding tabulate total
+none-total g [] = refl
+none-total g (w ∷ ws) = omega (arith, none-total g ws)
+
+pub no-sections : (g : ℕ → ℕ → ℕ) (m : ℕ) (ws : List ℕ) → m ≡ 0 → 0 ≡ total (λ (w : ℕ). total (g w) (tabulate (λ (j : ℕ). j) 1 m)) ws
+no-sections g m ws e = none-total g ws ∙ ap (λ (i : ℕ). total (λ (w : ℕ). total (g w) (tabulate (λ (j : ℕ). j) 1 i)) ws) (sym e)

@@ -25,12 +25,12 @@ use Rattle.records.specs.Rows.{Laid, laidRow, laidIf, laidRows}
 use Rattle.records.proofs.Laid.{rows-none, rows-append, rows-if}
 use Rattle.strands.specs.Packed.{strandIn, receives, isUnit, targetIn}
 use Rattle.strands.specs.Entries.{entryIn, entriesIn}
-use Rattle.strands.specs.Attributes.{Sorted}
+use Rattle.attributes.specs.Attributes.{Sorted}
 use Rattle.strands.specs.Writing.{rowFor, rowOf, keeps, opensWith, sortedBodies, elementRecords}
 use Rattle.strands.proofs.UnitRows.{held-rows, rows-cons, rows-on, rows-done}
 
 -- ---- the unit that gets them
-give-none : (o : Option ℕ) (ps : List (Piece Body)) → isUnit o ≡ false → give o ps ≡ []
+pub give-none : (o : Option ℕ) (ps : List (Piece Body)) → isUnit o ≡ false → give o ps ≡ []
 give-none none ps e = refl
 give-none (some u) ps e = absurd (differ e)
 
@@ -41,7 +41,7 @@ receiver-some Unwrap b u e = absurd (differ (sym e))
 receiver-some Validate true u e = refl
 receiver-some Validate false u e = absurd (differ (sym e))
 
-receives-target : (w : ℕ) → isUnit (receives (strandIn w)) ≡ true → receives (strandIn w) ≡ some (targetIn w)
+pub receives-target : (w : ℕ) → isUnit (receives (strandIn w)) ≡ true → receives (strandIn w) ≡ some (targetIn w)
 unfolding strandIn
 receives-target w e = receiver-some (actionOf (w / 2 ^ 5 % 2 ^ 2)) (eqb (w / 2 ^ 8 % 2) 1) (targetIn w) e
 

@@ -10,10 +10,8 @@ pub mod Counted
 pub mod Ruled
 pub mod UnitRows
 pub mod ElementRows
-pub mod Giving
-pub mod Numbering
-pub mod Sorted
 pub mod Laying
 pub mod Taking
 pub mod UnitNumbers
 pub mod Entered
+pub mod Copies

@@ -26,7 +26,7 @@ use Rattle.reader.specs.Namespaces as scene
 use Rattle.reader.specs.Events.{Start}
 use Rattle.model.specs.Elements.{Space, Attribute, Element, sameSpace, stays, spaceOf, attributeOf, elementOf}
 use Rattle.model.specs.Groups.{AttributeGroup, groupsOf}
-use Rattle.strands.specs.Attributes.{Sorted, sectionPlace, sortedOf}
+use Rattle.attributes.specs.Attributes.{Sorted, sectionPlace, sortedOf}
 use Rattle.strands.specs.Writing.{members, headClass}
 use Rattle.strands.proofs.ListLaws.{keep-both}
 use Rattle.strands.proofs.Grouped.{has, alike, Formed, others, leaving, sections-of}

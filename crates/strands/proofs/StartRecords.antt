@@ -33,7 +33,7 @@ use Rattle.model.specs.Dispatch.{dispatch}
 use Rattle.model.proofs.Lists.{gather-same, gather-map}
 use Rattle.strands.specs.Rules.{rulesIn, keepsClass}
 use Rattle.strands.specs.Packed.{receives}
-use Rattle.strands.specs.Attributes.{Sorted, sectionPlace, sortedOf}
+use Rattle.attributes.specs.Attributes.{Sorted, sectionPlace, sortedOf}
 use Rattle.strands.specs.Writing.{sortedBodies, unitFor, sectionUnits, strandUnits, tagUnits, keeps, opensWith, elementRecords}
 use Rattle.strands.proofs.ListLaws.{gather-places, keep-each, any-and}
 use Rattle.strands.proofs.Grouped.{has, Formed, leaving, sections-of}

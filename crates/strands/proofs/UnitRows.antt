@@ -32,7 +32,7 @@ use Rattle.records.specs.Rows.{Laid, laidRow, laidIf, laidRows}
 use Rattle.records.proofs.Laid.{rows-none, rows-append}
 use Rattle.strands.specs.Packed.{strandIn}
 use Rattle.strands.specs.Rules.{rulesIn}
-use Rattle.strands.specs.Attributes.{Sorted, givenIn, sortedIn}
+use Rattle.attributes.specs.Attributes.{Sorted, givenIn, sortedIn}
 use Rattle.strands.specs.Writing.{rowFor, rowOf, members, headClass, sortedBodies, unitFor, sectionUnits, strandUnits}
 use Rattle.strands.proofs.Ruled.{left as rulesLeft, At, left-first, at-here, left-next, at-end}
 

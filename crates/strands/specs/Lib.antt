@@ -1,5 +1,4 @@
 pub mod Packed
 pub mod Rules
 pub mod Entries
-pub mod Attributes
 pub mod Writing

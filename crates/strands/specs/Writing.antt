@@ -20,7 +20,7 @@ use Rattle.records.specs.declared.Row.{Row}
 use Rattle.strands.specs.declared.Begun.{Begun}
 use Rattle.strands.specs.Packed.{strandIn, receives, isUnit}
 use Rattle.strands.specs.Rules.{rulesIn, keepsClass, unitsFor}
-use Rattle.strands.specs.Attributes.{Sorted}
+use Rattle.attributes.specs.Attributes.{Sorted}
 
 -- a record as a row
 abbrev pub rowFor : ℕ → Body → Row
@@ -91,6 +91,13 @@ unfoldable pub elementRecords : List ℕ → ℕ → Body → List Sorted → En
 elementRecords index at begun l e =
     give (receives (e .strand))
     (opensWith at (e .schema) (e .strand .here) ++ map holds (begun ∷ gather sortedBodies (keep (keeps index (e .strand .mode)) l)))
+
+-- the same where every attribute is kept: of the start and of all attributes
+abbrev pub wholeBodies : Body → List Sorted → List Body
+wholeBodies begun l = begun ∷ gather sortedBodies l
+
+unfoldable pub wholeRecords : ℕ → List Body → Entry → List (Record Body ℕ)
+wholeRecords at bodies e = give (receives (e .strand)) (opensWith at (e .schema) (e .strand .here) ++ map holds bodies)
 
 -- ---- how many
 -- the records of the attribute units of a section, each 4 and 2 for an attribute

@@ -7,15 +7,16 @@ use crate::rules::keeps_class;
 use crate::rules::units_for;
 ghost use mathlib.Core.Path.{_≡_};
 ghost use mathlib.Core.List.{List};
-ghost use Prim.Native.Nat.{ℕ, _*_, _≤_, _<_};
+ghost use mathlib.Core.Bool.{cond};
+ghost use Prim.Native.Nat.{ℕ, _+_, _*_, _≤_, _<_};
 ghost use lib.ListN.{length, getD};
 ghost use Rattle.laws.specs.Lists.{tabulate, keep};
 ghost use Rattle.laws.specs.Gather.{total};
 ghost use Rattle.model.specs.Stream.{Entry};
-ghost use Rattle.strands.specs.Packed.{strandIn};
+ghost use Rattle.strands.specs.Packed.{strandIn, receives, isUnit};
 ghost use Rattle.strands.specs.Rules.{unitsFor};
 ghost use Rattle.strands.specs.Entries.{entriesIn};
-ghost use Rattle.strands.specs.Attributes.{Sorted, sortedIn, allSorted};
+ghost use Rattle.attributes.specs.Attributes.{Sorted, sortedIn, allSorted};
 ghost use Rattle.strands.specs.Writing.{members, headClass, keeps, sectionCount, elementCount};
 
 // The class of the k-th attribute's namespace.
@@ -117,6 +118,9 @@ pub fn load_all(
 {
     let mut units = 0;
     let mut records = 0;
+    if m == 0 {
+        return Load { units, records };
+    }
     let mut k = 0;
     while k < count {
         let one = load_of(index, attributes, sections, n, m, mode_of(words[k]));
@@ -166,25 +170,36 @@ pub(crate) fn kept_count(
     m
 }
 
-// How many records the element makes along a strand.
+// How many records the element makes along a strand that keeps so many attributes.
+fn count_with(w: u32, kept: usize) -> usize
+    requires { ⌜ kept ≤ 16 ⌝ }
+    ensures { λ r. ⌜ (r ≡ cond (isUnit (receives (strandIn w))) (cond (strandIn w .here) 1 0 + (1 + 2 * kept)) 0) × (r ≤ 34) ⌝ }
+{
+    if !delivers(w) {
+        return 0;
+    }
+    if is_here(w) {
+        return 2 + 2 * kept;
+    }
+    1 + 2 * kept
+}
+
+// How many records the element makes along a strand. Where there are no sections every attribute is kept.
 fn element_count(
     index: &[u32; 256],
     w: u32,
     attributes: &[u32; 128],
     sections: &[usize; 16],
     n: usize,
+    m: usize,
 ) -> usize
-    requires { ⌜ n ≤ 16 ⌝ }
+    requires { ⌜ (n ≤ 16) × (m ≡ 0 → (k : ℕ) → k < n → getD (now sections) k 0 ≡ 0) ⌝ }
     ensures { λ r. ⌜ ((schema : ℕ) → r ≡ elementCount (now (index .entry)) (allSorted (now (attributes .entry)) (now (sections .entry)) n) (record { strand = strandIn w; schema = schema })) × (r ≤ 34) ⌝ }
 {
-    if !delivers(w) {
-        return 0;
+    if m == 0 {
+        return count_with(w, n);
     }
-    let kept = kept_count(index, mode_of(w), attributes, sections, n);
-    if is_here(w) {
-        return 2 + 2 * kept;
-    }
-    1 + 2 * kept
+    count_with(w, kept_count(index, mode_of(w), attributes, sections, n))
 }
 
 // How many records the element makes along all strands.
@@ -195,15 +210,16 @@ pub fn elements_count(
     attributes: &[u32; 128],
     sections: &[usize; 16],
     n: usize,
+    m: usize,
 ) -> usize
-    requires { ⌜ (n ≤ 16) × (count ≤ 16) ⌝ }
+    requires { ⌜ (n ≤ 16) × (count ≤ 16) × (m ≡ 0 → (k : ℕ) → k < n → getD (now sections) k 0 ≡ 0) ⌝ }
     ensures { λ r. ⌜ ((schemas : List ℕ) → r ≡ total (elementCount (now (index .entry)) (allSorted (now (attributes .entry)) (now (sections .entry)) n)) (entriesIn (now (words .entry)) schemas count)) × (r ≤ 544) ⌝ }
 {
-    let mut m = 0;
+    let mut r = 0;
     let mut k = 0;
     while k < count {
-        m += element_count(index, words[k], attributes, sections, n);
+        r += element_count(index, words[k], attributes, sections, n, m);
         k += 1;
     }
-    m
+    r
 }

@@ -1,20 +1,11 @@
 // The strands of an element, its attribute sections, and the records of an event, over arrays of numbers.
-pub mod attributes;
 pub mod counts;
 pub mod elements;
 pub mod entries;
 pub mod events;
 pub mod packed;
 pub mod rules;
-pub mod sections;
 pub mod units;
-
-// A namespace as a record has it: its class, and for class 255 where its URI stands.
-pub struct Placing {
-    pub class: u8,
-    pub at: usize,
-    pub len: usize,
-}
 
 // Attribute units: how many, and how many records they have.
 pub struct Load {

@@ -21,7 +21,7 @@ ghost use Rattle.model.specs.Theory.{Validate};
 ghost use Rattle.model.specs.Stream.{attributesFrom};
 ghost use Rattle.records.specs.Rows.{laid, laidIf, laidRows};
 ghost use Rattle.strands.specs.Packed.{strandIn};
-ghost use Rattle.strands.specs.Attributes.{Sorted, sortedIn, allSorted};
+ghost use Rattle.attributes.specs.Attributes.{Sorted, sortedIn, allSorted};
 ghost use Rattle.strands.specs.Writing.{rowFor, rowOf, members, sortedBodies, unitFor, sectionUnits, strandUnits};
 
 // The two rows of the k-th attribute, if they are due.

@@ -7,16 +7,13 @@ use Rattle.capi.proofs.Filled.{fill-end}
 use Rattle.capi.proofs.layout.bindings_in.Statement.{statement}
 use Rattle.capi.proofs.layout.bindings_in.Tie as tie
 
-slice-aggregate-words-in : tie.Need-slice-aggregate-words-in
-slice-aggregate-words-in c = search needs
-
 words-in-requires : tie.Need-words-in-requires
 words-in-requires c κs = search needs
 
 returns : tie.Need-returns
 returns c =
-    let b = c .before .before .before .before .args .b .now in
-    fill-end (λ (i : ℕ). word4 b (bindingAt i)) _ _ 256 256 (search needs) refl (c .before .words-in .ensures)
+    let b = c .before .before .before .args .b .now in
+    fill-end (λ (i : ℕ). word4 b (bindingAt i)) _ _ 256 256 (search needs) refl (c .words-in .ensures)
 
 pub bindings-in-spec : {M : Type 1} → statement M
-bindings-in-spec = tie.close (tie.spec slice-aggregate-words-in words-in-requires returns)
+bindings-in-spec = tie.close (tie.spec words-in-requires returns)

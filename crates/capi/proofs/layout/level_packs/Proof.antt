@@ -1,64 +1,61 @@
--- `capi::layout::level_packs` meets its contract: the answer so far is that of the first j numbers.
-use mathlib.Core.Path.{_≡_, ap, _∙_}
-use Prim.Native.Nat.{ℕ, _+_, _-_, _*_, _≤_}
+-- `capi::layout::level_packs` meets its contract: the first four numbers, then the other twelve.
+use mathlib.Core.Path.{sym, ap, _∙_}
+use Prim.Native.Nat.{ℕ, _+_, _*_}
 use native.Mathlib.Omega.{arith}
 use borrow.Author.Needs.{needs}
+use borrow.Author.Tests.{not-true, not-false}
+use lib.Dec.{eqb}
 use Rattle.capi.specs.Layout.{word4, packs}
-use Rattle.capi.proofs.Tested.{asked, asked-none, asked-more, asked-all}
+use Rattle.capi.proofs.Packs.{zero-packs}
+use Rattle.capi.proofs.Tested.{first-fail, then-last, asked-less}
 use Rattle.capi.proofs.layout.level_packs.Statement.{statement}
 use Rattle.capi.proofs.layout.level_packs.Tie as tie
 
-abbrev Inv-loop : tie.InvT-loop
-Inv-loop b at all₀ j₀ all j = (j ≤ 16) × (all ≡ asked (λ (i : ℕ). packs (word4 b (at + 4 * i))) 0 j)
+words-pack-requires : tie.Need-words-pack-requires
+words-pack-requires c κs = search needs
 
-abbrev μ-loop : tie.MeasureT-loop
-μ-loop b at all₀ j₀ all j = 16 - j
-
-loop-holds : tie.Need-loop-holds Inv-loop μ-loop
-loop-holds c = let a = c .before .args in (omega arith, asked-none (λ (i : ℕ). packs (word4 (a .b .now) (a .at + 4 * i))))
-
-mul-word4-at : tie.Need-mul-word4-at Inv-loop μ-loop
-mul-word4-at c = search needs
-
-add-word4-at : tie.Need-add-word4-at Inv-loop μ-loop
-add-word4-at c = search needs
-
-word4-at-requires : tie.Need-word4-at-requires Inv-loop μ-loop
-word4-at-requires c κs = search needs
-
-packs-strand-requires : tie.Need-packs-strand-requires Inv-loop μ-loop
-packs-strand-requires c κs = search needs
-
-add-j : tie.Need-add-j Inv-loop μ-loop
-add-j c = search needs
-
-loop-less : tie.Need-loop-less Inv-loop μ-loop
-loop-less c = search needs
-
-loop-again : tie.Need-loop-again Inv-loop μ-loop
-loop-again c =
-    let a = c .before .before .before .before .before .args in
-    let l = c .before .before .before .loop in
-    (omega arith, asked-more (λ (i : ℕ). packs (word4 (a .b .now) (a .at + 4 * i))) (l .all) (c .packs-strand .result) (l .j) (l .inv .1) (c .packs-strand .ensures ∙ ap packs (c .before .word4-at .ensures)))
-
-returns : tie.Need-returns Inv-loop μ-loop
+returns : tie.Need-returns
 returns c =
     let a = c .before .before .before .args in
-    let l = c .before .loop in
-    asked-all (λ (i : ℕ). packs (word4 (a .b .now) (a .at + 4 * i))) (l .all) (l .j) 16 (omega arith) (l .inv .1)
+    first-fail (λ (j : ℕ). packs (word4 (a .b .now) (a .at + 4 * j))) (λ (j : ℕ). packs (word4 (a .b .now) (a .at + 16 + 4 * j))) 4 12
+    (λ j h. ap (λ (at : ℕ). packs (word4 (a .b .now) at)) (omega arith)) (sym (c .before .words-pack .ensures) ∙ not-true _ (c .if1 .taken))
+
+add-words-zero : tie.Need-add-words-zero
+add-words-zero c = search needs
+
+words-zero-requires : tie.Need-words-zero-requires
+words-zero-requires c κs = search needs
+
+returns-2 : tie.Need-returns-2
+returns-2 c =
+    let a = c .before .before .before .before .before .args in
+    let last : ℕ → ℕ = λ (j : ℕ). word4 (a .b .now) (a .at + 16 + 4 * j) in
+    sym (asked-less (λ (j : ℕ). eqb (last j) 0) (λ (j : ℕ). packs (last j)) 12 (λ j. zero-packs (last j)) (sym (c .before .words-zero .ensures) ∙ c .if2 .taken))
+    ∙ then-last (λ (j : ℕ). packs (word4 (a .b .now) (a .at + 4 * j))) (λ (j : ℕ). packs (last j)) 4 12
+    (λ j h. ap (λ (at : ℕ). packs (word4 (a .b .now) at)) (omega arith)) (sym (c .before .before .before .words-pack .ensures) ∙ not-false _ (c .before .before .if1 .left))
+
+add-words-pack : tie.Need-add-words-pack
+add-words-pack c = search needs
+
+words-pack-requires-2 : tie.Need-words-pack-requires-2
+words-pack-requires-2 c κs = search needs
+
+returns-3 : tie.Need-returns-3
+returns-3 c =
+    let a = c .before .before .before .before .before .before .args in
+    c .words-pack2 .ensures
+    ∙ then-last (λ (j : ℕ). packs (word4 (a .b .now) (a .at + 4 * j))) (λ (j : ℕ). packs (word4 (a .b .now) (a .at + 16 + 4 * j))) 4 12
+    (λ j h. ap (λ (at : ℕ). packs (word4 (a .b .now) at)) (omega arith)) (sym (c .before .before .before .before .words-pack .ensures) ∙ not-false _ (c .before .before .before .if1 .left))
 
 pub level-packs-spec : {M : Type 1} → statement M
 level-packs-spec =
     tie.close
     (tie.spec
-    Inv-loop
-    μ-loop
-    loop-holds
-    mul-word4-at
-    add-word4-at
-    word4-at-requires
-    packs-strand-requires
-    add-j
-    loop-less
-    loop-again
-    returns)
+    words-pack-requires
+    returns
+    add-words-zero
+    words-zero-requires
+    returns-2
+    add-words-pack
+    words-pack-requires-2
+    returns-3)

@@ -1,8 +1,10 @@
 -- `dispatcher::decisions::decide` meets its contract: from what its callees ensure.
+use native.Mathlib.Omega.{arith}
 use borrow.Author.Needs.{needs}
 use denote.Ref.{now}
 use Rattle.dispatcher.proofs.Sorting.{sections-few}
-use Rattle.dispatcher.proofs.DecideWays.{decided-23, decided-on}
+use Rattle.dispatcher.proofs.NoneForeign.{zeros-laid, zeros-plain}
+use Rattle.dispatcher.proofs.DecideWays.{decided-23, decided-plain, decided-held}
 use Rattle.dispatcher.proofs.decisions.decide.Statement.{statement}
 use Rattle.dispatcher.proofs.decisions.decide.Tie as tie
 
@@ -13,28 +15,51 @@ only-requires : tie.Need-only-requires
 only-requires c κs = search needs
 
 returns : tie.Need-returns
-returns c z at tag ds es er eb ed eu ec ready told placed =
-    let a = c .before .before .before .before .before .before .before .args in
-    decided-23 (now (a .table)) (a .header) (now (a .index)) (now (a .scene)) (now (a .attrs)) (now (a .codes)) (now (a .own)) (now (a .outer)) (now (a .spaces)) (now (a .strands)) (a .tagged) (a .depth) (a .units) (a .found) (a .placing)
-    z at tag ds (record { spaces-are = es; strands-are = er; depth-is = ed; units-are = eu; tagged-is = ec; ready = ready; told = told; placed = placed })
+returns c table levels header ready beside classes met placed =
+    let a = c .before .before .before .before .before .before .args in
+    decided-23 table levels header (now (a .index)) (now (a .scene)) (now (a .attrs)) (now (a .codes)) (now (a .own)) (now (a .outer)) (now (a .known)) (now (a .spaces)) (now (a .strands)) (a .started) (a .placing) (a .head)
+    (record { ready = ready; beside = beside; own-classes = classes; met = met; placed = placed })
     _ _ _ _ _ _ _ _ (c .before .before .next-strands .ensures) (c .before .if1 .taken) (c .only .ensures)
 
-hold-requires : tie.Need-hold-requires
-hold-requires c κs = search needs
-
-number-sections-requires : tie.Need-number-sections-requires
-number-sections-requires c κs = c .before .before .hold .ensures .1
+hold-plain-requires : tie.Need-hold-plain-requires
+hold-plain-requires c κs = search needs
 
 weigh-requires : tie.Need-weigh-requires
 weigh-requires c κs =
-    (c .before .before .before .before .before .before .hold .ensures .1, sections-few _ _ _ _ _ _ _ (c .before .before .before .before .before .before .hold .ensures .1) (c .before .before .before .number-sections .ensures .0), c .before .before .before .before .before .before .before .before .if1 .left, c .before .before .before .before .before .before .before .before .before .before .before .before .before .before .pre .1)
+    let a = c .before .before .before .before .before .before .before .before .before .before .before .before .before .args in
+    let p = c .before .before .before .before .before .before .before .before .before .before .before .before .before .pre in
+    let h = c .before .before .before .hold-plain .ensures in
+    (h .0, omega arith, c .before .before .before .before .before .before .before .before .if1 .left, p .1, λ q. zeros-plain (now (a .scene)) (now (a .attrs)) (a .started .tag .count) _ _ _ _ _ (h .1) (p .5 (c .before .before .before .before .before .before .if2 .taken)))
 
 returns-2 : tie.Need-returns-2
-returns-2 c z at tag ds es er eb ed eu ec ready told placed =
-    let a = c .before .before .before .before .before .before .before .before .before .before .before .before .before .before .before .args in
-    decided-on (now (a .table)) (a .header) (now (a .index)) (now (a .scene)) (now (a .attrs)) (now (a .codes)) (now (a .own)) (now (a .outer)) (now (a .spaces)) (now (a .strands)) (a .tagged) (a .depth) (a .units) (a .found) (a .placing)
-    z at tag ds (record { spaces-are = es; strands-are = er; depth-is = ed; units-are = eu; tagged-is = ec; ready = ready; told = told; placed = placed })
-    _ _ _ _ _ _ _ _ _ _ _ _ _ (c .before .before .before .before .before .before .before .before .before .before .next-strands .ensures) (c .before .before .before .before .before .before .before .before .before .if1 .left) (c .before .before .before .before .before .before .before .hold .ensures) (c .before .before .before .before .number-sections .ensures) (c .weigh .ensures)
+returns-2 c table levels header ready beside classes met placed =
+    let a = c .before .before .before .before .before .before .before .before .before .before .before .before .before .before .args in
+    let h = c .before .before .before .before .hold-plain .ensures in
+    decided-plain table levels header (now (a .index)) (now (a .scene)) (now (a .attrs)) (now (a .codes)) (now (a .own)) (now (a .outer)) (now (a .known)) (now (a .spaces)) (now (a .strands)) (a .started) (a .placing) (a .head)
+    (record { ready = ready; beside = beside; own-classes = classes; met = met; placed = placed })
+    _ _ _ _ _ _ _ _ _ _ _ _ (c .before .before .before .before .before .before .before .before .before .before .next-strands .ensures) (c .before .before .before .before .before .before .before .before .before .if1 .left) (h .0) (c .before .before .before .before .before .before .before .if2 .taken) (h .1) (c .weigh .ensures)
+
+hold-requires : tie.Need-hold-requires
+hold-requires c κs =
+    let p = c .before .before .before .before .before .before .before .before .pre in
+    (p .3, p .4)
+
+number-sections-requires : tie.Need-number-sections-requires
+number-sections-requires c κs = c .before .before .hold .ensures .0
+
+weigh-requires-2 : tie.Need-weigh-requires-2
+weigh-requires-2 c κs =
+    let few = c .before .before .before .before .before .before .hold .ensures .0 in
+    let n = c .before .before .before .number-sections .ensures in
+    (few, sections-few _ _ _ _ _ _ _ few (n .0), c .before .before .before .before .before .before .before .before .before .before .if1 .left, c .before .before .before .before .before .before .before .before .before .before .before .before .before .before .before .pre .1, zeros-laid _ _ _ _ _ _ _ _ _ (n .0) (n .1))
+
+returns-3 : tie.Need-returns-3
+returns-3 c table levels header ready beside classes met placed =
+    let a = c .before .before .before .before .before .before .before .before .before .before .before .before .before .before .before .before .args in
+    let h = c .before .before .before .before .before .before .before .hold .ensures in
+    decided-held table levels header (now (a .index)) (now (a .scene)) (now (a .attrs)) (now (a .codes)) (now (a .own)) (now (a .outer)) (now (a .known)) (now (a .spaces)) (now (a .strands)) (a .started) (a .placing) (a .head)
+    (record { ready = ready; beside = beside; own-classes = classes; met = met; placed = placed })
+    _ _ _ _ _ _ _ _ _ _ _ _ (c .before .before .before .before .before .before .before .before .before .before .before .before .next-strands .ensures) (c .before .before .before .before .before .before .before .before .before .before .before .if1 .left) (h .0) _ (h .1) (c .before .before .before .before .number-sections .ensures) (c .weigh2 .ensures)
 
 pub decide-spec : {M : Type 1} → statement M
 decide-spec =
@@ -43,7 +68,10 @@ decide-spec =
     next-strands-requires
     only-requires
     returns
+    hold-plain-requires
+    weigh-requires
+    returns-2
     hold-requires
     number-sections-requires
-    weigh-requires
-    returns-2)
+    weigh-requires-2
+    returns-3)

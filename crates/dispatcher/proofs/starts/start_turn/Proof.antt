@@ -1,64 +1,69 @@
--- `starts::start_turn` meets its contract, by what reading the tag answers.
-use mathlib.Core.Path.{sym, ap, _∙_}
-use Rattle.table.specs.Table.{decode}
+-- `starts::start_turn` meets its contract, by what reading the tag comes to.
+use Prim.Native.Nat.{_+_}
+use Rattle.table.specs.Table.{headerOf}
+use Rattle.lexer.specs.Tags.{tagAt}
 use Rattle.dispatcher.specs.Sessions.{sessionOf}
-use Rattle.dispatcher.specs.Turns.{stepBy}
-use Rattle.dispatcher.specs.declared.Turn.{Turn}
-use Rattle.dispatcher.proofs.EventTurns.{stopped-step}
-use Rattle.dispatcher.proofs.StartTurns.{start-read-step}
+use Rattle.dispatcher.proofs.StartTurns.{few-bound}
+use Rattle.dispatcher.proofs.Classed.{start-met, start-turned, refused-start-turned}
 use borrow.Author.Needs.{needs}
 use Rattle.dispatcher.proofs.starts.start_turn.Statement.{statement}
 use Rattle.dispatcher.proofs.starts.start_turn.Tie as tie
 
-add-start-tag : tie.Need-add-start-tag
-add-start-tag c = search needs
+read-start-requires : tie.Need-read-start-requires
+read-start-requires c κs =
+    let b = c .before .before .before .before .before .before .before .before in
+    let a = b .args in
+    let h = b .pre in
+    (h .1, few-bound (a .table .now) (headerOf (a .table .now)) (a .index .now) (a .scene .now) (a .head) (a .levels .now) (a .bindings .now) (a .spaces .now) (a .strands .now) (h .0 .ready), h .0 .beside .keys)
 
-start-tag-requires : tie.Need-start-tag-requires
-start-tag-requires c κs = search needs
+enum-known-started : tie.Need-enum-known-started
+enum-known-started c = search needs
 
-enum-known-tag : tie.Need-enum-known-tag
-enum-known-tag c = search needs
+element-turn-requires : tie.Need-element-turn-requires
+element-turn-requires c κs =
+    let b = c .before .before .before .before .before .before .before .before .before .before .before .before .before .before .before .before .before .before .before .before .before .before .before in
+    let a = b .args in
+    let h = b .pre in
+    let z = sessionOf (a .head) (a .levels .now) (a .bindings .now) (a .spaces .now) (a .strands .now) in
+    let r = c .before .before .before .before .before .before .before .before .before .before .before .before .before .before .read-start .ensures (a .table .now) (a .index .now) (a .levels .now) (a .spaces .now) (a .strands .now) (headerOf (a .table .now)) (h .0 .ready) (h .0 .beside) in
+    start-met (a .table .now) (a .index .now) (a .scene .now) z (a .at) (tagAt (a .scene .now) (a .at + 1) .answer) _ _ _ _ (c .before .before .before .before .before .before .before .before .before .before .before .before .before .before .read-start .result) (h .0 .ready) r _ (c .before .before .before .before .before .before .before .before .before .before .before .before .started .given .1)
 
-tag-turn-requires : tie.Need-tag-turn-requires
-tag-turn-requires c κs =
-    let b = c .before .before .before .before .before .before .before .before .before .before .before .before .before .before in
-    let r = c .before .before .before .before .before .before .before .before .before .start-tag in
-    (b .pre .0, b .pre .1, sym (r .ensures .0) ∙ c .before .before .before .before .before .before .before .tag .given .1, r .ensures .1)
+enum-known-number : tie.Need-enum-known-number
+enum-known-number c = search needs
 
-enum-known-x : tie.Need-enum-known-x
-enum-known-x c = search needs
-
-stopped-requires : tie.Need-stopped-requires
-stopped-requires c κs = search needs
+stop-requires : tie.Need-stop-requires
+stop-requires c κs = search needs
 
 same-length : tie.Need-same-length
 same-length c = search needs
 
 returns : tie.Need-returns
 returns c =
-    let a = c .before .before .before .before .before .before .before .before .before .before .before .before .before .before .before .before .before .args in
-    let r = c .before .before .before .before .before .before .before .before .before .before .before .before .start-tag in
-    start-read-step (decode (a .table .now)) (a .scene .now) (sessionOf (a .head) (a .levels .now) (a .bindings .now) (a .spaces .now) (a .strands .now)) (a .out .now) _ (a .at) (r .result) _ (r .ensures .0) (c .before .before .before .before .before .before .before .before .before .before .tag .given .1) (c .before .before .tag-turn .ensures)
+    let b = c .before .before .before .before .before .before .before .before .before .before .before .before .before .before .before .before .before .before .before .before .before .before .before .before .before .before in
+    let a = b .args in
+    let h = b .pre in
+    let z = sessionOf (a .head) (a .levels .now) (a .bindings .now) (a .spaces .now) (a .strands .now) in
+    let r = c .before .before .before .before .before .before .before .before .before .before .before .before .before .before .before .before .before .read-start .ensures (a .table .now) (a .index .now) (a .levels .now) (a .spaces .now) (a .strands .now) (headerOf (a .table .now)) (h .0 .ready) (h .0 .beside) in
+    let e = c .before .before .element-turn .ensures in
+    (start-turned (a .table .now) (a .scene .now) z (a .at) (tagAt (a .scene .now) (a .at + 1) .answer) _ _ _ _ (c .before .before .before .before .before .before .before .before .before .before .before .before .before .before .before .before .before .read-start .result) r _ (c .before .before .before .before .before .before .before .before .before .before .before .before .before .before .before .started .given .1) (a .out .now) _ (e .0), e .1)
 
 returns-2 : tie.Need-returns-2
 returns-2 c =
-    let a = c .before .before .before .before .before .before .before .before .before .args in
-    let r = c .before .before .before .before .start-tag in
-    let x = c .before .before .x .given in
-    start-read-step (decode (a .table .now)) (a .scene .now) (sessionOf (a .head) (a .levels .now) (a .bindings .now) (a .spaces .now) (a .strands .now)) (a .out .now) _ (a .at) (r .result) _ (r .ensures .0) (x .1)
-    (ap (λ (y : Turn). stepBy y (a .levels .now) (a .bindings .now) (a .spaces .now) (a .strands .now) (a .out .now)) (c .stopped .ensures)
-    ∙ stopped-step (a .scene .now) (x .0 .0) (a .head) (a .levels .now) (a .bindings .now) (a .spaces .now) (a .strands .now) (a .out .now))
+    let b = c .before .before .before .before .before .before .before .before .before .before .before .before .before in
+    let a = b .args in
+    let h = b .pre in
+    let r = c .before .before .before .before .read-start .ensures (a .table .now) (a .index .now) (a .levels .now) (a .spaces .now) (a .strands .now) (headerOf (a .table .now)) (h .0 .ready) (h .0 .beside) in
+    refused-start-turned (a .table .now) (a .scene .now) (a .head) (a .levels .now) (a .bindings .now) (a .spaces .now) (a .strands .now) (a .at) (tagAt (a .scene .now) (a .at + 1) .answer) _ _ _ _ (c .before .before .before .before .read-start .result) r _ _ (c .before .before .number .given .1) (a .out .now) (c .stop .result) (c .stop .ensures)
 
 pub start-turn-spec : {M : Type 1} → statement M
 start-turn-spec =
     tie.close
     (tie.spec
-    add-start-tag
-    start-tag-requires
-    enum-known-tag
-    tag-turn-requires
-    enum-known-x
-    stopped-requires
+    read-start-requires
+    enum-known-started
+    element-turn-requires
+    enum-known-number
+    stop-requires
     same-length
     returns
     returns-2)

@@ -1,6 +1,9 @@
 -- `steps::steps_from` meets its contract: 20, or the steps of a coherent session.
+use native.Mathlib.Omega.{arith}
 use Rattle.dispatcher.specs.Sessions.{sessionOf}
 use Rattle.dispatcher.proofs.RunTurns.{from-refused, from-ready}
+use Rattle.dispatcher.proofs.Classed.{from-loop}
+use Rattle.dispatcher.proofs.StartTurns.{few-bound}
 use borrow.Author.Needs.{needs}
 use Rattle.dispatcher.proofs.steps.steps_from.Statement.{statement}
 use Rattle.dispatcher.proofs.steps.steps_from.Tie as tie
@@ -18,12 +21,29 @@ returns c =
 load-requires : tie.Need-load-requires
 load-requires c κs = search needs
 
+put-keys-requires : tie.Need-put-keys-requires
+put-keys-requires c κs =
+    let a = c .before .before .before .before .before .before .before .before .before .before .before .before .before .args in
+    let p = c .before .before .before .before .before .before .before .before .before .before .before .before .before .pre in
+    let z = sessionOf (a .from) (a .levels .now) (a .bindings .now) (a .spaces .now) (a .strands .now) in
+    let r = from-ready (a .table .now) (a .scene .now) (a .header) z (p .1) (p .0) (p .2) (c .before .before .before .before .before .coherent .result) (c .before .before .before .before .before .coherent .ensures) (c .before .before .before .load .result) (c .before .before .before .before .if1 .left) (c .before .before .before .load .ensures) in
+    omega (arith, few-bound (a .table .now) (a .header) (c .before .before .before .load .result) (a .scene .now) (a .from) (a .levels .now) (a .bindings .now) (a .spaces .now) (a .strands .now) r)
+
+put-classes-requires : tie.Need-put-classes-requires
+put-classes-requires c κs =
+    let a = c .before .before .before .before .before .before .before .before .before .before .before .before .before .before .before .before .before .args in
+    let p = c .before .before .before .before .before .before .before .before .before .before .before .before .before .before .before .before .before .pre in
+    let z = sessionOf (a .from) (a .levels .now) (a .bindings .now) (a .spaces .now) (a .strands .now) in
+    let r = from-ready (a .table .now) (a .scene .now) (a .header) z (p .1) (p .0) (p .2) (c .before .before .before .before .before .before .before .before .before .coherent .result) (c .before .before .before .before .before .before .before .before .before .coherent .ensures) (c .before .before .before .before .before .before .before .load .result) (c .before .before .before .before .before .before .before .before .if1 .left) (c .before .before .before .before .before .before .before .load .ensures) in
+    omega (arith, few-bound (a .table .now) (a .header) (c .before .before .before .before .before .before .before .load .result) (a .scene .now) (a .from) (a .levels .now) (a .bindings .now) (a .spaces .now) (a .strands .now) r)
+
 judged-steps-requires : tie.Need-judged-steps-requires
 judged-steps-requires c κs =
-    let a = c .before .before .before .before .before .before .before .before .before .before .before .before .before .before .before .before .args in
-    let p = c .before .before .before .before .before .before .before .before .before .before .before .before .before .before .before .before .pre in
+    let a = c .before .before .before .before .before .before .before .before .before .before .before .before .before .before .before .before .before .before .before .before .before .before .before .before .before .args in
+    let p = c .before .before .before .before .before .before .before .before .before .before .before .before .before .before .before .before .before .before .before .before .before .before .before .before .before .pre in
     let z = sessionOf (a .from) (a .levels .now) (a .bindings .now) (a .spaces .now) (a .strands .now) in
-    (from-ready (a .table .now) (a .scene .now) (a .header) z (p .1) (p .0) (p .2) (c .before .before .before .before .before .before .before .before .coherent .result) (c .before .before .before .before .before .before .before .before .coherent .ensures) (c .before .before .before .before .before .before .load .result) (c .before .before .before .before .before .before .before .if1 .left) (c .before .before .before .before .before .before .load .ensures), p .4)
+    let r = from-ready (a .table .now) (a .scene .now) (a .header) z (p .1) (p .0) (p .2) (c .before .before .before .before .before .before .before .before .before .before .before .before .before .before .before .before .before .coherent .result) (c .before .before .before .before .before .before .before .before .before .before .before .before .before .before .before .before .before .coherent .ensures) (c .before .before .before .before .before .before .before .before .before .before .before .before .before .before .before .load .result) (c .before .before .before .before .before .before .before .before .before .before .before .before .before .before .before .before .if1 .left) (c .before .before .before .before .before .before .before .before .before .before .before .before .before .before .before .load .ensures) in
+    (from-loop (a .table .now) (a .header) (c .before .before .before .before .before .before .before .before .before .before .before .before .before .before .before .load .result) (a .scene .now) (a .from) (a .levels .now) (a .bindings .now) (a .spaces .now) (a .strands .now) r (p .4 .bindings-long) _ _ (c .before .before .before .before .before .before .before .before .before .before .before .put-keys .ensures) (c .before .before .before .before .before .before .before .put-classes .ensures), p .4)
 
 same-length : tie.Need-same-length
 same-length c = search needs
@@ -32,4 +52,4 @@ returns-2 : tie.Need-returns-2
 returns-2 c = search needs
 
 pub steps-from-spec : {M : Type 1} → statement M
-steps-from-spec = tie.close (tie.spec coherent-requires returns load-requires judged-steps-requires same-length returns-2)
+steps-from-spec = tie.close (tie.spec coherent-requires returns load-requires put-keys-requires put-classes-requires judged-steps-requires same-length returns-2)

@@ -15,13 +15,13 @@ returns : tie.Need-returns
 returns c =
     no-element _ _ _ _ _ _ _ _ _ _ (c .before .before .find-element .ensures) (c .before .is-unbound .ensures) (c .if1 .taken)
 
-resolve-requires : tie.Need-resolve-requires
-resolve-requires c κs = search needs
+resolve-all-requires : tie.Need-resolve-all-requires
+resolve-all-requires c κs = search needs
 
 returns-2 : tie.Need-returns-2
 returns-2 c =
     let p = c .before .before .before in
-    let r = c .before .resolve .ensures in
+    let r = c .before .resolve-all .ensures in
     no-attribute _ _ _ _ _ _ _ _ _ _ (p .before .before .find-element .ensures) (p .before .is-unbound .ensures) _ _ (p .if1 .left) (r .0) (r .1) (c .if2 .taken)
 
 twice-requires : tie.Need-twice-requires
@@ -30,13 +30,13 @@ twice-requires c κs = search needs
 returns-3 : tie.Need-returns-3
 returns-3 c =
     let p = c .before .before .before .before .before .before in
-    let r = c .before .before .before .before .resolve .ensures in
+    let r = c .before .before .before .before .resolve-all .ensures in
     element _ _ _ _ _ _ _ _ _ _ (p .before .before .find-element .ensures) (p .before .is-unbound .ensures) _ _ (p .if1 .left) (r .0) (r .1) (c .before .before .before .if2 .left) _ _ (c .before .twice .ensures) (search tests)
 
 returns-4 : tie.Need-returns-4
 returns-4 c =
     let p = c .before .before .before .before .before .before in
-    let r = c .before .before .before .before .resolve .ensures in
+    let r = c .before .before .before .before .resolve-all .ensures in
     element _ _ _ _ _ _ _ _ _ _ (p .before .before .find-element .ensures) (p .before .is-unbound .ensures) _ _ (p .if1 .left) (r .0) (r .1) (c .before .before .before .if2 .left) _ _ (c .before .twice .ensures) (search tests)
 
 pub meant-by-spec : {M : Type 1} → statement M
@@ -46,7 +46,7 @@ meant-by-spec =
     find-element-requires
     is-unbound-requires
     returns
-    resolve-requires
+    resolve-all-requires
     returns-2
     twice-requires
     returns-3

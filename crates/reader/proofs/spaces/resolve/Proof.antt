@@ -13,10 +13,10 @@ use Rattle.reader.proofs.spaces.resolve.Statement.{statement}
 use Rattle.reader.proofs.spaces.resolve.Tie as tie
 
 abbrev Inv-loop : tie.InvT-loop
-Inv-loop s attrs count own owned outer bound all₀ most i₀ all i = (length all₀ ≡ 16) × (most ≤ 16) × Resolving (codesOf s own owned outer bound) attrs most (attrsIn attrs count) all₀ all i
+Inv-loop s attrs count own owned outer bound known all₀ most i₀ all i = (length all₀ ≡ 16) × (most ≤ 16) × Resolving (codesOf s own owned outer bound) attrs most (attrsIn attrs count) all₀ all i
 
 abbrev μ-loop : tie.MeasureT-loop
-μ-loop s attrs count own owned outer bound all₀ most i₀ all i = most - i
+μ-loop s attrs count own owned outer bound known all₀ most i₀ all i = most - i
 
 at-most-requires : tie.Need-at-most-requires Inv-loop μ-loop
 at-most-requires c κs = search needs

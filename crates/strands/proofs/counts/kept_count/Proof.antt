@@ -6,7 +6,7 @@ use native.Mathlib.Omega.{arith}
 use borrow.Author.Needs.{needs}
 use lib.ListN.{length}
 use Rattle.laws.specs.Lists.{keep}
-use Rattle.strands.specs.Attributes.{sortedIn, allSorted}
+use Rattle.attributes.specs.Attributes.{sortedIn, allSorted}
 use Rattle.strands.specs.Writing.{keeps}
 use Rattle.strands.proofs.Counting.{kept-start, kept-next, kept-past, kept-end}
 use Rattle.strands.proofs.counts.kept_count.Statement.{statement}

@@ -1,16 +1,16 @@
--- `strands::counts::load_all` meets its contract: the units and records of the strands so far.
+-- `strands::counts::load_all` meets its contract: the units and records of the strands so far; none where there are no sections.
 use Prim.Native.Nat.{ℕ, _-_, _*_, _≤_}
 use mathlib.Core.Path.{_≡_}
 use native.Mathlib.Omega.{arith}
-use borrow.Author.Needs.{needs}
 use lib.ListN.{getD}
 use Rattle.laws.specs.Lists.{tabulate}
 use Rattle.laws.specs.Gather.{total}
 use Rattle.strands.specs.Packed.{strandIn}
 use Rattle.strands.specs.Rules.{unitsFor}
-use Rattle.strands.specs.Attributes.{allSorted}
+use Rattle.attributes.specs.Attributes.{allSorted}
 use Rattle.strands.specs.Writing.{members, headClass, sectionCount}
-use Rattle.strands.proofs.Counting.{total-start, sum-next, sum-end, units-in-mode, records-in-mode}
+use Rattle.strands.proofs.Counting.{total-start, sum-next, sum-end, units-in-mode, records-in-mode, no-sections}
+use borrow.Author.Needs.{needs}
 use Rattle.strands.proofs.counts.load_all.Statement.{statement}
 use Rattle.strands.proofs.counts.load_all.Tie as tie
 
@@ -22,6 +22,13 @@ Inv-loop index attributes sections n m words count units₀ records₀ k₀ unit
 
 abbrev μ-loop : tie.MeasureT-loop
 μ-loop index attributes sections n m words count units₀ records₀ k₀ units records k = count - k
+
+returns : tie.Need-returns Inv-loop μ-loop
+returns c =
+    let a = c .before .args in
+    let l = allSorted (a .attributes .now) (a .sections .now) (a .n) in
+    let ws = tabulate (λ (i : ℕ). getD (a .words .now) i 0) 0 (a .count) in
+    (no-sections (λ (w j : ℕ). unitsFor (a .index .now) (strandIn w .mode) (headClass (members l j))) (a .m) ws (c .if1 .taken), no-sections (λ (w : ℕ). sectionCount (a .index .now) (strandIn w .mode) l) (a .m) ws (c .if1 .taken), omega arith, omega arith)
 
 loop-holds : tie.Need-loop-holds Inv-loop μ-loop
 loop-holds c = (omega arith, omega arith, omega arith, total-start _ _ 0, total-start _ _ 0)
@@ -63,12 +70,12 @@ loop-again c =
       sum-next _ _ (l .k) (l .records) (i .4) _ (records-in-mode _ _ _ _ _ _ m (o .1)),
     )
 
-returns : tie.Need-returns Inv-loop μ-loop
-returns c =
+returns-2 : tie.Need-returns-2 Inv-loop μ-loop
+returns-2 c =
     let l = c .before .loop in
     let i = l .inv in
-    let e : l .k ≡ c .before .before .args .count = omega (arith, i .0, c .loop-test .left) in
-    (sum-end _ _ (l .k) (l .units) (i .3) (c .before .before .args .count) e, sum-end _ _ (l .k) (l .records) (i .4) (c .before .before .args .count) e, omega (arith, i .0, i .1), omega (arith, i .0, i .2))
+    let e : l .k ≡ c .before .before .before .args .count = omega (arith, i .0, c .loop-test .left) in
+    (sum-end _ _ (l .k) (l .units) (i .3) (c .before .before .before .args .count) e, sum-end _ _ (l .k) (l .records) (i .4) (c .before .before .before .args .count) e, omega (arith, i .0, i .1), omega (arith, i .0, i .2))
 
 pub load-all-spec : {M : Type 1} → statement M
 load-all-spec =
@@ -76,6 +83,7 @@ load-all-spec =
     (tie.spec
     Inv-loop
     μ-loop
+    returns
     loop-holds
     mul-mode-of
     element-copy-out-mode-of
@@ -86,4 +94,4 @@ load-all-spec =
     add-k
     loop-less
     loop-again
-    returns)
+    returns-2)

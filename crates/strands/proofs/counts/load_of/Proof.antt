@@ -6,7 +6,7 @@ use borrow.Author.Needs.{needs}
 use Rattle.laws.specs.Lists.{tabulate}
 use Rattle.laws.specs.Gather.{total}
 use Rattle.strands.specs.Rules.{unitsFor}
-use Rattle.strands.specs.Attributes.{allSorted}
+use Rattle.attributes.specs.Attributes.{allSorted}
 use Rattle.strands.specs.Writing.{members, headClass, sectionCount}
 use Rattle.strands.proofs.Counting.{total-start, load-few, sections-next, sections-end, counted-units, counted-records}
 use Rattle.strands.proofs.counts.load_of.Statement.{statement}

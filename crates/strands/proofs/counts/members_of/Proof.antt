@@ -6,7 +6,7 @@ use mathlib.Core.List.{List}
 use native.Mathlib.Omega.{arith}
 use borrow.Author.Needs.{needs}
 use lib.ListN.{length}
-use Rattle.strands.specs.Attributes.{sortedIn, allSorted}
+use Rattle.attributes.specs.Attributes.{sortedIn, allSorted}
 use Rattle.strands.specs.Writing.{members}
 use Rattle.strands.proofs.Counting.{section-is, section-not, kept-start, kept-next, kept-past, kept-end}
 use Rattle.strands.proofs.counts.members_of.Statement.{statement}

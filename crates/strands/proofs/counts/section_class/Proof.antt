@@ -4,7 +4,7 @@ use mathlib.Core.Path.{_≡_, refl, _∙_}
 use native.Mathlib.Omega.{arith}
 use borrow.Author.Needs.{needs}
 use Rattle.laws.specs.Lists.{tabulate}
-use Rattle.strands.specs.Attributes.{sortedIn, allSorted}
+use Rattle.attributes.specs.Attributes.{sortedIn, allSorted}
 use Rattle.strands.specs.Writing.{members, headClass}
 use Rattle.strands.proofs.Counting.{section-is, section-not, head-start, head-here, head-past, head-end}
 use Rattle.strands.proofs.counts.section_class.Statement.{statement}

@@ -1,7 +1,7 @@
 -- `write_element` lays the rows of the element along a strand, if a unit gets them.
 use borrow.Author.Needs.{needs}
 use Rattle.records.specs.Rows.{laid}
-use Rattle.strands.specs.Attributes.{allSorted}
+use Rattle.attributes.specs.Attributes.{allSorted}
 use Rattle.strands.specs.Writing.{begunBody}
 use Rattle.strands.proofs.ElementRows.{element-none, element-laid}
 use Rattle.strands.proofs.elements.write_element.Statement.{statement}

@@ -1,89 +1,70 @@
--- `write_elements` lays the rows of the element along each strand: those from the k-th on are left.
-use Prim.Native.Nat.{_-_}
-use mathlib.Core.Path.{_≡_, refl}
+-- `write_elements` lays the rows of the element along each strand, by copies where every attribute is kept and they fit.
+use Prim.Native.Nat.{_+_, _*_}
+use mathlib.Core.Path.{sym, ap, _∙_}
 use mathlib.Core.List.{map}
 use native.Mathlib.Omega.{arith}
+use borrow.Author.Tests.{eqb-true, leb-true}
+use lib.Dec.{eqb}
 use lib.ListN.{length}
-use borrow.Author.Needs.{needs}
-use Rattle.laws.specs.Gather.{gather}
+use Rattle.laws.proofs.Flags.{and-left, and-right}
 use Rattle.records.specs.Rows.{laid, laidRows}
 use Rattle.strands.specs.Entries.{entriesIn}
-use Rattle.strands.specs.Attributes.{allSorted}
-use Rattle.strands.specs.Writing.{rowOf, begunBody, elementRecords}
-use Rattle.strands.proofs.ElementRows.{elementRows, elements-holds, elements-on, elements-done}
+use Rattle.strands.specs.Writing.{rowOf, begunBody}
+use Rattle.strands.proofs.Copies.{elements-whole, bytes-few}
+use borrow.Author.Needs.{needs}
 use Rattle.strands.proofs.elements.write_elements.Statement.{statement}
 use Rattle.strands.proofs.elements.write_elements.Tie as tie
 
-abbrev Inv-loop : tie.InvT-loop
-Inv-loop index attributes sections n words schemas count begun out₀ from used₀ k₀ out used k =
-    let records = elementRecords index (begun .tag) (begunBody begun) (allSorted attributes sections n) in
-    (length out ≡ length out₀)
-    × (laidRows (laid out used) (elementRows records words schemas count k) ≡ laidRows (laid out₀ from) (map rowOf (gather records (entriesIn words schemas count))))
+add-has-room : tie.Need-add-has-room
+add-has-room c = search needs
 
-abbrev μ-loop : tie.MeasureT-loop
-μ-loop index attributes sections n words schemas count begun out₀ from used₀ k₀ out used k = count - k
+mul-has-room : tie.Need-mul-has-room
+mul-has-room c = search needs
 
-loop-holds : tie.Need-loop-holds Inv-loop μ-loop
-loop-holds c =
-    let a = c .before .args in
-    let records = elementRecords (a .index .now) (a .begun .tag) (begunBody (a .begun)) (allSorted (a .attributes .now) (a .sections .now) (a .n)) in
-    (refl, elements-holds records (a .words .now) (a .schemas .now) (a .count) (laid (a .out .now) (a .from)))
+mul-has-room-2 : tie.Need-mul-has-room-2
+mul-has-room-2 c = let p = c .before .pre in let a = c .before .args in omega (arith, bytes-few (a .count) (a .n) (p .1) (p .0))
 
-mul-write-element : tie.Need-mul-write-element Inv-loop μ-loop
-mul-write-element c = search needs
+has-room-requires : tie.Need-has-room-requires
+has-room-requires c κs = search needs
 
-element-copy-out-write-element : tie.Need-element-copy-out-write-element Inv-loop μ-loop
-element-copy-out-write-element c = search needs
+write-copies-requires : tie.Need-write-copies-requires
+write-copies-requires c κs =
+    let p = c .before .before .before .before .before .pre in
+    let a = c .before .before .before .before .before .args in
+    let r = c .before .before .before .has-room in
+    (p .0, p .1, p .2, leb-true (a .from + a .count * (32 * (a .n + 1))) (length (a .out .now)) (sym (r .ensures) ∙ and-right (eqb (a .m) 0) (r .result) (c .before .before .if1 .taken)))
 
-mul-write-element-2 : tie.Need-mul-write-element-2 Inv-loop μ-loop
-mul-write-element-2 c = search needs
-
-element-copy-out-write-element-2 : tie.Need-element-copy-out-write-element-2 Inv-loop μ-loop
-element-copy-out-write-element-2 c = search needs
-
-write-element-requires : tie.Need-write-element-requires Inv-loop μ-loop
-write-element-requires c κs =
-    let p = c .before .before .before .before .before .before .pre in
-    (p .0, p .2 (c .before .before .before .before .loop .k) (c .before .before .before .loop-test .taken))
-
-add-k : tie.Need-add-k Inv-loop μ-loop
-add-k c = search needs
-
-loop-less : tie.Need-loop-less Inv-loop μ-loop
-loop-less c = search needs
-
-loop-again : tie.Need-loop-again Inv-loop μ-loop
-loop-again c =
-    let a = c .before .before .before .before .before .before .before .before .before .args in
-    let l = c .before .before .before .before .before .before .before .loop in
-    let records = elementRecords (a .index .now) (a .begun .tag) (begunBody (a .begun)) (allSorted (a .attributes .now) (a .sections .now) (a .n)) in
-    let w = c .before .before .write-element in
-    (omega (arith, l .inv .0, w .kept .1 .1 .1 .1 .1 .1 .1 .0), elements-on records (a .words .now) (a .schemas .now) (a .count) _ (laid (l .out) (l .used)) _ (l .k) (l .inv .1) (c .before .before .before .before .before .before .loop-test .taken) (w .ensures))
-
-same-length : tie.Need-same-length Inv-loop μ-loop
+same-length : tie.Need-same-length
 same-length c = search needs
 
-returns : tie.Need-returns Inv-loop μ-loop
+returns : tie.Need-returns
 returns c =
-    let a = c .before .before .before .args in
-    let l = c .before .loop in
-    let records = elementRecords (a .index .now) (a .begun .tag) (begunBody (a .begun)) (allSorted (a .attributes .now) (a .sections .now) (a .n)) in
-    elements-done records (a .words .now) (a .schemas .now) (a .count) _ (laid (l .out) (l .used)) (l .k) (l .inv .1) (c .loop-test .left)
+    let a = c .before .before .before .before .before .before .before .before .args in
+    let z = eqb-true (a .m) 0 (and-left (eqb (a .m) 0) (c .before .before .before .before .before .before .has-room .result) (c .before .before .before .before .before .if1 .taken)) in
+    c .before .before .write-copies .ensures (a .sections .now)
+    ∙ ap (λ rs. laidRows (laid (a .out .now) (a .from)) (map rowOf rs))
+    (elements-whole (a .attributes .now) (a .sections .now) (a .n) (c .before .before .before .before .before .before .before .before .pre .3 z) (a .index .now) (a .begun .tag) (begunBody (a .begun)) (entriesIn (a .words .now) (a .schemas .now) (a .count)))
+
+write-each-requires : tie.Need-write-each-requires
+write-each-requires c κs = search needs
+
+same-length-2 : tie.Need-same-length-2
+same-length-2 c = search needs
+
+returns-2 : tie.Need-returns-2
+returns-2 c = c .before .before .write-each .ensures
 
 pub write-elements-spec : {M : Type 1} → statement M
 write-elements-spec =
     tie.close
     (tie.spec
-    Inv-loop
-    μ-loop
-    loop-holds
-    mul-write-element
-    element-copy-out-write-element
-    mul-write-element-2
-    element-copy-out-write-element-2
-    write-element-requires
-    add-k
-    loop-less
-    loop-again
+    add-has-room
+    mul-has-room
+    mul-has-room-2
+    has-room-requires
+    write-copies-requires
     same-length
-    returns)
+    returns
+    write-each-requires
+    same-length-2
+    returns-2)

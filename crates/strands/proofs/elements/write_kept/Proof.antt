@@ -7,7 +7,7 @@ use borrow.Author.Needs.{needs}
 use Rattle.laws.specs.Lists.{keep}
 use Rattle.laws.specs.Gather.{gather}
 use Rattle.records.specs.Rows.{laid, laidRows}
-use Rattle.strands.specs.Attributes.{sortedIn, allSorted}
+use Rattle.attributes.specs.Attributes.{sortedIn, allSorted}
 use Rattle.strands.specs.Writing.{rowFor, sortedBodies, keeps}
 use Rattle.strands.proofs.UnitRows.{keptRows, kept-holds, kept-on, kept-done}
 use Rattle.strands.proofs.elements.write_kept.Statement.{statement}

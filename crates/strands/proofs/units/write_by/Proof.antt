@@ -2,7 +2,7 @@
 use native.Mathlib.Omega.{arith}
 use borrow.Author.Needs.{needs}
 use Rattle.records.specs.Rows.{laid}
-use Rattle.strands.specs.Attributes.{allSorted}
+use Rattle.attributes.specs.Attributes.{allSorted}
 use Rattle.strands.specs.Writing.{members}
 use Rattle.strands.proofs.UnitRows.{by-attach, by-unwrap, one-unit, by-validate}
 use Rattle.strands.proofs.units.write_by.Statement.{statement}

@@ -7,7 +7,7 @@ use borrow.Author.Needs.{needs}
 use lib.Dec.{eqb}
 use Rattle.laws.specs.Gather.{gather}
 use Rattle.records.specs.Rows.{laid, laidRows}
-use Rattle.strands.specs.Attributes.{Sorted, sortedIn, allSorted}
+use Rattle.attributes.specs.Attributes.{Sorted, sortedIn, allSorted}
 use Rattle.strands.specs.Writing.{rowFor, sortedBodies, members}
 use Rattle.strands.proofs.UnitRows.{keptRows, kept-holds, kept-done, member-on}
 use Rattle.strands.proofs.units.write_members.Statement.{statement}

@@ -5,7 +5,7 @@ use native.Mathlib.Omega.{arith}
 use lib.ListN.{length}
 use borrow.Author.Needs.{needs}
 use Rattle.records.specs.Rows.{laid}
-use Rattle.strands.specs.Attributes.{allSorted}
+use Rattle.attributes.specs.Attributes.{allSorted}
 use Rattle.strands.specs.Writing.{sectionUnits}
 use Rattle.strands.proofs.Ruled.{left, At, at-first, at-next, next-on}
 use Rattle.strands.proofs.UnitRows.{Going, going-holds, byRules, rules-all, rule-fits, rule-on, rule-done}

@@ -5,7 +5,7 @@ use native.Mathlib.Omega.{arith}
 use lib.ListN.{length}
 use borrow.Author.Needs.{needs}
 use Rattle.records.specs.Rows.{laid}
-use Rattle.strands.specs.Attributes.{allSorted}
+use Rattle.attributes.specs.Attributes.{allSorted}
 use Rattle.strands.specs.Writing.{sectionUnits, strandUnits}
 use Rattle.strands.proofs.UnitRows.{Going, going-holds, unitsFrom, all-sections, part-fits, part-on, part-done}
 use Rattle.strands.proofs.units.write_sections.Statement.{statement}

@@ -7,7 +7,7 @@ use borrow.Author.Needs.{needs}
 use Rattle.laws.specs.Lists.{tabulate}
 use Rattle.laws.specs.Gather.{gather}
 use Rattle.records.specs.Rows.{laid}
-use Rattle.strands.specs.Attributes.{allSorted}
+use Rattle.attributes.specs.Attributes.{allSorted}
 use Rattle.strands.proofs.UnitRows.{Going, going-holds, wordIn, wordUnits, unitsFrom, all-units, part-done, strand-fits, strand-on}
 use Rattle.strands.proofs.units.write_units.Statement.{statement}
 use Rattle.strands.proofs.units.write_units.Tie as tie

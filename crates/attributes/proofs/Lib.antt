@@ -1,0 +1,5 @@
+pub mod Giving
+pub mod Numbering
+pub mod Known
+pub mod Plain
+pub mod Sorted

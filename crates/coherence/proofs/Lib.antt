@@ -1,0 +1,4 @@
+pub mod Chain
+pub mod NameChecks
+pub mod CheckTurns
+pub mod CheckWays

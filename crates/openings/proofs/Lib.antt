@@ -1,0 +1,3 @@
+pub mod Deciding
+pub mod Stores
+pub mod Openings
