@@ -1,17 +1,23 @@
 -- A session's numbers and arrays, read from bytes, and what some steps make of them.
-use Prim.Native.Nat.{ℕ}
-use mathlib.Core.Path.{_≡_, ap, _∙_}
+use Prim.Native.Nat.{ℕ, _+_, _*_, _/_, _%_, _≤_, _<_}
+use mathlib.Core.Path.{_≡_, sym, ap, _∙_}
 use mathlib.Core.List.{List}
+use native.Mathlib.Nat.{zero-add, mod-lt, div-lt-iff-lt-mul}
+use native.Mathlib.Omega.{arith}
 use lib.Dec.{eqb}
 use lib.ListN.{length, getD}
-use Rattle.laws.proofs.Lists.{length-tabulate}
+use Rattle.laws.specs.Lists.{tabulate}
+use Rattle.laws.proofs.Lists.{length-tabulate, getD-tabulate}
 use Rattle.table.specs.declared.Answer.{Answer}
-use Rattle.dispatcher.specs.Sessions.{headOf, sessionOf}
+use Rattle.reader.proofs.Tabulated.{tabulate-same}
+use Rattle.strands.specs.Levels.{ofEach, levelNames, levelSpaces, levelStrands}
+use Rattle.dispatcher.specs.Sessions.{headOf, sessionAt}
 use Rattle.dispatcher.specs.Stepping.{Step, handed}
-use Rattle.dispatcher.specs.Turns.{Sized, advancedAnswer, advancedBy}
+use Rattle.dispatcher.specs.Turns.{Sized, advancedAnswer, advancedIn}
 use Rattle.dispatcher.specs.declared.Session.{Session}
 use Rattle.dispatcher.specs.declared.Head.{Head}
 use Rattle.dispatcher.specs.declared.Advanced.{Advanced}
+use Rattle.dispatcher.proofs.RunTurns.{parted}
 use Rattle.capi.specs.Layout.{word4, word8, levelAt, bindingAt, spaceAt, strandAt, sessionIn}
 
 pub head-read : (b : List ℕ) (place units depth bound : ℕ) → place ≡ word8 b 8 → units ≡ word8 b 16 → depth ≡ word8 b 24 → bound ≡ word8 b 32
@@ -19,30 +25,47 @@ pub head-read : (b : List ℕ) (place units depth bound : ℕ) → place ≡ wor
 unfolding sessionIn
 head-read b place units depth bound e₁ e₂ e₃ e₄ = cc
 
-module _ (z : Session) (head : Head) (levels bindings spaces strands : List ℕ) where
-  pub parts-joined : head ≡ headOf z → levels ≡ z .scope .levels → bindings ≡ z .scope .bindings → spaces ≡ z .spaces → strands ≡ z .strands
-      → sessionOf head levels bindings spaces strands ≡ z
-  parts-joined e₁ e₂ e₃ e₄ e₅ =
-      ap (λ (x : Head). sessionOf x levels bindings spaces strands) e₁
-      ∙ ap (λ (x : List ℕ). sessionOf (headOf z) x bindings spaces strands) e₂
-      ∙ ap (λ (x : List ℕ). sessionOf (headOf z) (z .scope .levels) x spaces strands) e₃
-      ∙ ap (λ (x : List ℕ). sessionOf (headOf z) (z .scope .levels) (z .scope .bindings) x strands) e₄
-      ∙ ap (λ (x : List ℕ). sessionOf (headOf z) (z .scope .levels) (z .scope .bindings) (z .spaces) x) e₅
+pub parts-joined : (z : Session) (head : Head) (levels bindings : List ℕ) → head ≡ headOf z → levelNames levels ≡ z .scope .levels → bindings ≡ z .scope .bindings → levelSpaces levels ≡ z .spaces
+    → levelStrands levels ≡ z .strands → sessionAt head levels bindings ≡ z
+parts-joined z head levels bindings e₁ e₂ e₃ e₄ e₅ =
+    ap (λ (x : Head). sessionAt x levels bindings) e₁
+    ∙ ap (λ (x : List ℕ). sessionAt (headOf z) levels x) e₃
+    ∙ sym (parted (headOf z) levels (z .scope .levels) (z .scope .bindings) (z .spaces) (z .strands) (sym e₂) (sym e₄) (sym e₅))
 
-module _ (b levels bindings spaces strands : List ℕ) where
-  pub arrays-sized : levels ≡ sessionIn b .scope .levels → bindings ≡ sessionIn b .scope .bindings → spaces ≡ sessionIn b .spaces → strands ≡ sessionIn b .strands
-      → Sized levels bindings spaces strands
-  unfolding sessionIn
-  arrays-sized e₁ e₂ e₃ e₄ =
-      record {
-        levels-long = ap length e₁ ∙ length-tabulate (λ (i : ℕ). word4 b (levelAt i)) 0 192;
-        bindings-long = ap length e₂ ∙ length-tabulate (λ (i : ℕ). word4 b (bindingAt i)) 0 256;
-        spaces-long = ap length e₃ ∙ length-tabulate (λ (i : ℕ). word4 b (spaceAt i)) 0 256;
-        strands-long = ap length e₄ ∙ length-tabulate (λ (i : ℕ). word4 b (strandAt i)) 0 1024;
-      }
+-- the numbers of each level, read from bytes
+module _ (b : List ℕ) where
+  abbrev read : List ℕ
+  read = tabulate (λ (i : ℕ). word4 b (1064 + 4 * i)) 0 1536
 
-pub lent-handed : (r : Advanced) (a : Answer) (levels bindings spaces strands out : List ℕ) (x : Step) → a ≡ advancedAnswer r
-    → advancedBy r levels bindings spaces strands out ≡ x
-    → handed (record { answer = a; session = sessionOf (r .head) levels bindings spaces strands }) out ≡ x
-lent-handed r a levels bindings spaces strands out x e q =
-    ap (λ (y : Answer). handed (record { answer = y; session = sessionOf (r .head) levels bindings spaces strands }) out) e ∙ q
+  each-read : (wide from : ℕ) (at : ℕ → ℕ) → 0 < wide → from + wide ≤ 24 → ((i : ℕ) → 1064 + 4 * (24 * (i / wide) + from + i % wide) ≡ at i) → ofEach wide from read ≡ tabulate (λ (i : ℕ). word4 b (at i)) 0 (64 * wide)
+  unfolding ofEach
+  each-read wide from at some inside same = tabulate-same (λ (i : ℕ). getD read (24 * (i / wide) + from + i % wide) 0) (λ (i : ℕ). word4 b (at i)) 0 0 (64 * wide) number
+    where
+      number : (i : ℕ) → i < 64 * wide → getD read (24 * ((0 + i) / wide) + from + (0 + i) % wide) 0 ≡ word4 b (at (0 + i))
+      number i h =
+          let k : i / wide < 64 = div-lt-iff-lt-mul some .1 h in
+          let r : i % wide < wide = mod-lt i some in
+          rw (zero-add i)
+          (getD-tabulate (λ (j : ℕ). word4 b (1064 + 4 * j)) 0 1536 (24 * (i / wide) + from + i % wide) 0 (omega arith)
+          ∙ ap (λ (j : ℕ). word4 b (1064 + 4 * j)) (zero-add (24 * (i / wide) + from + i % wide))
+          ∙ ap (word4 b) (same i))
+
+  module _ (levels : List ℕ) (e : levels ≡ read) where
+    pub levels-read : (levelNames levels ≡ sessionIn b .scope .levels) × (levelSpaces levels ≡ sessionIn b .spaces) × (levelStrands levels ≡ sessionIn b .strands)
+    unfolding sessionIn
+    levels-read = (
+      ap levelNames e ∙ each-read 3 0 levelAt (omega arith) (omega arith) (λ i. omega arith),
+      ap levelSpaces e ∙ each-read 4 3 spaceAt (omega arith) (omega arith) (λ i. omega arith),
+      ap levelStrands e ∙ each-read 16 8 strandAt (omega arith) (omega arith) (λ i. omega arith),
+    )
+
+    pub arrays-sized : (bindings : List ℕ) → bindings ≡ tabulate (λ (i : ℕ). word4 b (bindingAt i)) 0 256 → Sized levels bindings
+    arrays-sized bindings f =
+        record {
+          levels-long = ap length e ∙ length-tabulate (λ (i : ℕ). word4 b (1064 + 4 * i)) 0 1536;
+          bindings-long = ap length f ∙ length-tabulate (λ (i : ℕ). word4 b (bindingAt i)) 0 256;
+        }
+
+pub lent-handed : (r : Advanced) (a : Answer) (levels bindings out : List ℕ) (x : Step) → a ≡ advancedAnswer r → advancedIn r levels bindings out ≡ x
+    → handed (record { answer = a; session = sessionAt (r .head) levels bindings }) out ≡ x
+lent-handed r a levels bindings out x e q = ap (λ (y : Answer). handed (record { answer = y; session = sessionAt (r .head) levels bindings }) out) e ∙ q

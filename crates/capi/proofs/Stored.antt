@@ -3,6 +3,7 @@ use Prim.Native.Nat.{ℕ, zero, suc, _+_, _*_, _≤_, _<_}
 use mathlib.Core.Path.{_≡_, refl, sym, ap, _∙_}
 use mathlib.Core.List.{List, [], _∷_, _++_, append-assoc, append-nil}
 use mathlib.Core.Bool.{Bool, true, false}
+use native.Mathlib.Nat.{add-zero}
 use native.Mathlib.Numerals.{add-one}
 use native.Mathlib.Omega.{arith}
 use lib.ListN.{length, getD, set, take, drop, length-append, length-drop}
@@ -12,7 +13,10 @@ use Rattle.laws.specs.Gather.{gather}
 use Rattle.laws.specs.Over.{overwrite}
 use Rattle.laws.proofs.Gather.{gather-none, gather-more, gather-append}
 use Rattle.laws.proofs.Over.{over-none, over-set, over-over, set-over}
+use Rattle.strands.specs.Levels.{levelNames, levelSpaces, levelStrands}
+use Rattle.strands.proofs.LevelNumbers.{each-long}
 use Rattle.dispatcher.specs.declared.Session.{Session}
+use Rattle.dispatcher.proofs.LevelArrays.{each-row}
 use Rattle.capi.specs.Layout.{flag, bytes4, bytes8, sessionBytes}
 use Rattle.capi.specs.Parts.{headBytes, levelWords}
 use Rattle.capi.proofs.Filled.{tabulate-more}
@@ -120,6 +124,20 @@ module _ (levels spaces strands : List ℕ) (k : ℕ) (m : 3 * k + 3 ≤ length 
       let f₃ : b₃ ≡ overwrite b at (one ++ two ++ bytes4 0) = over-chain b b₂ b₃ at (at + 28) (one ++ two) (bytes4 0) h (omega arith) f₂ e₃ in
       over-chain b b₃ b₄ at (at + 32) (one ++ two ++ bytes4 0) three h (omega arith) f₃ e₄
       ∙ ap (overwrite b at) (append-assoc (one ++ two) (bytes4 0) three)
+
+-- and from the one array of levels
+pub level-stored : (l : List ℕ) (k : ℕ) → length l ≡ 1536 → k < 64 → (b b₁ b₂ b₃ b₄ : List ℕ) (at : ℕ) → at ≤ length b
+    → b₁ ≡ overwrite b at (gather bytes4 (take 3 (drop (24 * k) l)))
+    → b₂ ≡ overwrite b₁ (at + 12) (gather bytes4 (take 4 (drop (24 * k + 3) l)))
+    → b₃ ≡ overwrite b₂ (at + 28) (bytes4 0)
+    → b₄ ≡ overwrite b₃ (at + 32) (gather bytes4 (take 16 (drop (24 * k + 8) l)))
+    → b₄ ≡ overwrite b at (levelWords (levelNames l) (levelSpaces l) (levelStrands l) k)
+level-stored l k long h b b₁ b₂ b₃ b₄ at room e₁ e₂ e₃ e₄ =
+    level-end (levelNames l) (levelSpaces l) (levelStrands l) k (omega (arith, each-long 3 0 l)) (omega (arith, each-long 4 3 l)) (omega (arith, each-long 16 8 l)) b b₁ b₂ b₃ b₄ at room
+    (e₁ ∙ ap (λ (ws : List ℕ). overwrite b at (gather bytes4 ws)) (ap (λ (i : ℕ). take 3 (drop i l)) (sym (add-zero (24 * k))) ∙ each-row l 3 0 long (omega arith) k h))
+    (e₂ ∙ ap (λ (ws : List ℕ). overwrite b₁ (at + 12) (gather bytes4 ws)) (each-row l 4 3 long (omega arith) k h))
+    e₃
+    (e₄ ∙ ap (λ (ws : List ℕ). overwrite b₃ (at + 32) (gather bytes4 ws)) (each-row l 16 8 long (omega arith) k h))
 
 -- the levels, one after the other
 pub gather-upto : (f : ℕ → List ℕ) (k : ℕ) → gather f (tabulate (λ (i : ℕ). i) 0 (k + 1)) ≡ gather f (tabulate (λ (i : ℕ). i) 0 k) ++ f k

@@ -1,5 +1,6 @@
 // A session in a host's bytes: tested, read and stored.
 use dispatcher::Head;
+use strands::LEVELS;
 use table::words::word;
 ghost use mathlib.Core.Path.{_≡_};
 ghost use Prim.Native.Nat.{ℕ, _+_, _*_, _≤_, _<_};
@@ -8,8 +9,10 @@ ghost use lib.Dec.{eqb};
 ghost use Rattle.laws.specs.Lists.{all, tabulate};
 ghost use Rattle.laws.specs.Gather.{gather};
 ghost use Rattle.laws.specs.Over.{overwrite};
-ghost use Rattle.dispatcher.specs.Sessions.{freshOf, headOf, sessionOf};
-ghost use Rattle.capi.specs.Layout.{sessionSize, word4, word8, bytes4, bytes8, flag, bindingAt, levelAt, spaceAt, strandAt, sessionIn, packs, holdsSession, sessionBytes};
+ghost use Rattle.strands.specs.Levels.{levelNames, levelSpaces, levelStrands};
+ghost use Rattle.dispatcher.specs.Sessions.{freshOf, headOf, sessionAt};
+ghost use Rattle.dispatcher.specs.Turns.{Sized};
+ghost use Rattle.capi.specs.Layout.{sessionSize, word4, word8, bytes4, bytes8, flag, bindingAt, strandAt, sessionIn, packs, holdsSession, sessionBytes};
 ghost use Rattle.capi.specs.Parts.{headBytes, levelWords};
 
 // The number in four bytes.
@@ -42,16 +45,12 @@ fn words_in(b: &[u8], at: usize, words: &mut [u32], from: usize, n: usize)
     }
 }
 
-fn levels_in(b: &[u8], words: &mut [u32; 192])
+fn levels_in(b: &[u8], words: &mut [u32; LEVELS])
     requires { ⌜ sessionSize ≤ length (now b) ⌝ }
-    ensures { λ _. ⌜ now (words .exit) ≡ tabulate (λ (i : ℕ). word4 (now (b .entry)) (levelAt i)) 0 192 ⌝ }
+    ensures { λ _. ⌜ now (words .exit) ≡ tabulate (λ (i : ℕ). word4 (now (b .entry)) (1064 + 4 * i)) 0 1536 ⌝ }
 {
     let all: &mut [u32] = words;
-    let mut k = 0;
-    while k < 64 {
-        words_in(b, 1064 + 96 * k, all, 3 * k, 3);
-        k += 1;
-    }
+    words_in(b, 1064, all, 0, LEVELS);
 }
 
 fn bindings_in(b: &[u8], words: &mut [u32; 256])
@@ -62,48 +61,20 @@ fn bindings_in(b: &[u8], words: &mut [u32; 256])
     words_in(b, 40, all, 0, 256);
 }
 
-fn spaces_in(b: &[u8], words: &mut [u32; 256])
-    requires { ⌜ sessionSize ≤ length (now b) ⌝ }
-    ensures { λ _. ⌜ now (words .exit) ≡ tabulate (λ (i : ℕ). word4 (now (b .entry)) (spaceAt i)) 0 256 ⌝ }
-{
-    let all: &mut [u32] = words;
-    let mut k = 0;
-    while k < 64 {
-        words_in(b, 1064 + 96 * k + 12, all, 4 * k, 4);
-        k += 1;
-    }
-}
-
-fn strands_in(b: &[u8], words: &mut [u32; 1024])
-    requires { ⌜ sessionSize ≤ length (now b) ⌝ }
-    ensures { λ _. ⌜ now (words .exit) ≡ tabulate (λ (i : ℕ). word4 (now (b .entry)) (strandAt i)) 0 1024 ⌝ }
-{
-    let all: &mut [u32] = words;
-    let mut k = 0;
-    while k < 64 {
-        words_in(b, 1064 + 96 * k + 32, all, 16 * k, 16);
-        k += 1;
-    }
-}
-
-// The arrays of the session that the bytes hold.
-pub(crate) fn arrays_in(
-    b: &[u8],
-    levels: &mut [u32; 192],
-    bindings: &mut [u32; 256],
-    spaces: &mut [u32; 256],
-    strands: &mut [u32; 1024],
-)
+// The arrays of the session that the bytes hold, its levels in one.
+pub(crate) fn arrays_in(b: &[u8], levels: &mut [u32; LEVELS], bindings: &mut [u32; 256])
     requires { ⌜ sessionSize ≤ length (now b) ⌝ }
     ensures { λ _. ⌜ (
         let z = sessionIn (now (b .entry)) in
-        (now (levels .exit) ≡ z .scope .levels) × (now (bindings .exit) ≡ z .scope .bindings) × (now (spaces .exit) ≡ z .spaces) × (now (strands .exit) ≡ z .strands)
+        Sized (now (levels .exit)) (now (bindings .exit))
+        × (levelNames (now (levels .exit)) ≡ z .scope .levels)
+        × (now (bindings .exit) ≡ z .scope .bindings)
+        × (levelSpaces (now (levels .exit)) ≡ z .spaces)
+        × (levelStrands (now (levels .exit)) ≡ z .strands)
         ) ⌝ }
 {
     levels_in(b, levels);
     bindings_in(b, bindings);
-    spaces_in(b, spaces);
-    strands_in(b, strands);
 }
 
 // Its numbers.
@@ -301,27 +272,25 @@ fn put_head(
 }
 
 // The 96 bytes of the k-th level.
-fn put_level(b: &mut [u8], k: usize, levels: &[u32], spaces: &[u32], strands: &[u32])
-    requires { ⌜ (k < 64) × (sessionSize ≤ length (now b)) × (length (now levels) ≡ 192) × (length (now spaces) ≡ 256) × (length (now strands) ≡ 1024) ⌝ }
-    ensures { λ _. ⌜ now (b .exit) ≡ overwrite (now (b .entry)) (1064 + 96 * k) (levelWords (now (levels .entry)) (now (spaces .entry)) (now (strands .entry)) k) ⌝ }
+fn put_level(b: &mut [u8], k: usize, levels: &[u32])
+    requires { ⌜ (k < 64) × (sessionSize ≤ length (now b)) × (length (now levels) ≡ 1536) ⌝ }
+    ensures { λ _. ⌜ now (b .exit) ≡ overwrite (now (b .entry)) (1064 + 96 * k) (levelWords (levelNames (now (levels .entry))) (levelSpaces (now (levels .entry))) (levelStrands (now (levels .entry))) k) ⌝ }
 {
     let at = 1064 + 96 * k;
-    put_words(b, at, levels, 3 * k, 3);
-    put_words(b, at + 12, spaces, 4 * k, 4);
+    put_words(b, at, levels, 24 * k, 3);
+    put_words(b, at + 12, levels, 24 * k + 3, 4);
     put4(b, at + 28, 0);
-    put_words(b, at + 32, strands, 16 * k, 16);
+    put_words(b, at + 32, levels, 24 * k + 8, 16);
 }
 
-fn put_levels(b: &mut [u8], levels: &[u32; 192], spaces: &[u32; 256], strands: &[u32; 1024])
+fn put_levels(b: &mut [u8], levels: &[u32; LEVELS])
     requires { ⌜ sessionSize ≤ length (now b) ⌝ }
-    ensures { λ _. ⌜ now (b .exit) ≡ overwrite (now (b .entry)) 1064 (gather (levelWords (now (levels .entry)) (now (spaces .entry)) (now (strands .entry))) (tabulate (λ (k : ℕ). k) 0 64)) ⌝ }
+    ensures { λ _. ⌜ now (b .exit) ≡ overwrite (now (b .entry)) 1064 (gather (levelWords (levelNames (now (levels .entry))) (levelSpaces (now (levels .entry))) (levelStrands (now (levels .entry)))) (tabulate (λ (k : ℕ). k) 0 64)) ⌝ }
 {
-    let names: &[u32] = levels;
-    let uris: &[u32] = spaces;
-    let packed: &[u32] = strands;
+    let all: &[u32] = levels;
     let mut k = 0;
     while k < 64 {
-        put_level(b, k, names, uris, packed);
+        put_level(b, k, all);
         k += 1;
     }
 }
@@ -335,16 +304,9 @@ fn put_bindings(b: &mut [u8], bindings: &[u32; 256])
 }
 
 // The bytes of a session's numbers and arrays, laid over the first of `b`.
-pub(crate) fn put_session(
-    b: &mut [u8],
-    head: Head,
-    levels: &[u32; 192],
-    bindings: &[u32; 256],
-    spaces: &[u32; 256],
-    strands: &[u32; 1024],
-)
+pub(crate) fn put_session(b: &mut [u8], head: Head, levels: &[u32; LEVELS], bindings: &[u32; 256])
     requires { ⌜ sessionSize ≤ length (now b) ⌝ }
-    ensures { λ _. ⌜ now (b .exit) ≡ overwrite (now (b .entry)) 0 (sessionBytes (sessionOf head (now (levels .entry)) (now (bindings .entry)) (now (spaces .entry)) (now (strands .entry)))) ⌝ }
+    ensures { λ _. ⌜ now (b .exit) ≡ overwrite (now (b .entry)) 0 (sessionBytes (sessionAt head (now (levels .entry)) (now (bindings .entry)))) ⌝ }
 {
     put_head(
         b,
@@ -356,7 +318,7 @@ pub(crate) fn put_session(
         head.bound,
     );
     put_bindings(b, bindings);
-    put_levels(b, levels, spaces, strands);
+    put_levels(b, levels);
 }
 
 // A fresh session's: a 1, the others 0.

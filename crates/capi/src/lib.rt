@@ -9,6 +9,7 @@ use crate::layout::put_session;
 use dispatcher::Session;
 use dispatcher::advance_in;
 use dispatcher::answer_of;
+use strands::LEVELS;
 use table::Answer;
 use table::judge;
 use uris::Source;
@@ -137,25 +138,15 @@ fn advance_bytes(
     if !holds_session(session) {
         return no_session(table, scene);
     }
-    let mut levels: [u32; 192] = [0; 192];
+    let mut levels: [u32; LEVELS] = [0; LEVELS];
     let mut bindings: [u32; 256] = [0; 256];
-    let mut spaces: [u32; 256] = [0; 256];
-    let mut strands: [u32; 1024] = [0; 1024];
-    arrays_in(
-        session,
-        &mut levels,
-        &mut bindings,
-        &mut spaces,
-        &mut strands,
-    );
+    arrays_in(session, &mut levels, &mut bindings);
     let advanced = advance_in(
         table,
         scene,
         head_in(session),
         &mut levels,
         &mut bindings,
-        &mut spaces,
-        &mut strands,
         most,
         out,
     );
@@ -163,14 +154,7 @@ fn advance_bytes(
     if a.events == 0 {
         return a;
     }
-    put_session(
-        session,
-        advanced.head,
-        &levels,
-        &bindings,
-        &spaces,
-        &strands,
-    );
+    put_session(session, advanced.head, &levels, &bindings);
     a
 }
 

@@ -2,7 +2,6 @@
 --     inside-short, inside-said               a span
 --     strand-said                             a strand of a word
 --     strands-done, strands-not, strands-on   the loop over a level's strands
---     words-part                              the strands of a level, as a part of the array
 --     listed-*                                the loop that counts the URIs of a table
 --     counts-over, counts-on, counts-end      the loop that adds up the levels' counts
 use Prim.Native.Nat.{ℕ, zero, suc, _+_, _-_, _*_, _/_, _%_, _≤_, _<_}
@@ -16,7 +15,6 @@ use native.Mathlib.Numerals.{add-one}
 use native.Mathlib.Nat.{add-zero}
 use borrow.Author.Tests.{ne-eqb, lt-ltb, le-ltb, le-leb, lt-leb, leb-true}
 use lib.ListN.{length, getD, take, drop, length-map, List·getD-eq-default}
-use lib.Seq.{drop-cons}
 use lib.Dec.{leb, ltb, eqb}
 use Rattle.laws.specs.Reading.{le-or-lt, drop-here, drop-out}
 use Rattle.laws.specs.Lists.{all, tabulate}
@@ -98,12 +96,6 @@ module _ (modes units : ℕ) (words : List ℕ) (i : ℕ) (v : Bool) (inv : all 
 
     pub strands-on : not r ≡ false → all (strandFits modes units) (map strandIn (drop (i + 1) words)) ≡ v
     strands-on = chain-on r _ _ v e here
-
-pub words-part : (l : List ℕ) (i n : ℕ) → i + n ≤ length l → tabulate (λ (k : ℕ). getD l k 0) i n ≡ take n (drop i l)
-unfolding tabulate
-words-part l i zero h = refl
-words-part l i (suc n) h =
-    ap (λ (r : List ℕ). getD l i 0 ∷ r) (words-part l (suc i) n (omega arith)) ∙ sym (ap (take (suc n)) (drop-cons l i 0 (omega arith)))
 
 -- ---- the URIs of a table
 places-some : (n p : ℕ) (l : List ℕ) (i : ℕ) → i < length (placesFrom n p l) → getD (placesFrom n p l) i (placed 0 0) .at ≡ 0 → ⊥

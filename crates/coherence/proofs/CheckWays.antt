@@ -6,8 +6,8 @@ use Prim.Native.Nat.{ℕ, _+_, _-_, _*_, _≤_, _<_}
 use mathlib.Core.Path.{_≡_, refl, sym, ap, ap₂, _∙_}
 use mathlib.Core.List.{List, map}
 use mathlib.Core.Bool.{Bool, true, false, not, _&&_, _||_}
+use native.Mathlib.Nat.{add-zero, sub-zero}
 use native.Mathlib.Omega.{arith}
-use native.Mathlib.Nat.{sub-zero}
 use borrow.Author.Tests.{eq-eqb, ne-eqb, lt-leb, le-leb, not-true, not-false}
 use lib.ListN.{length, getD, take, drop, List·getD-eq-default}
 use lib.Dec.{leb, eqb}
@@ -28,7 +28,6 @@ use Rattle.strands.specs.Packed.{strandIn, wordsAt}
 use Rattle.coherence.specs.Fitting.{spanInside, prefixFits}
 use Rattle.coherence.specs.Checks.{bindingFits, nameFits, classFits, strandFits, strandsFit, levelFits, arraysFit}
 use Rattle.coherence.proofs.Chain.{chain-out, chain-on, chain-met, chain-unmet}
-use Rattle.coherence.proofs.CheckTurns.{words-part}
 
 -- ---- a name
 module _ (s : List ℕ) (w : Span) (a : Bool) (ea : a ≡ spanInside s w) where
@@ -120,9 +119,9 @@ module _ (s : List ℕ) (listed modes units : ℕ) (levels spaces strands : List
     pub level-name : not a ≡ true → false ≡ v
     level-name = chain-out a _ _ v named chain
 
-    module _ (fa : not a ≡ false) (class : ℕ) (ec : class ≡ getD spaces (4 * k) 0) (b : Bool) (eb : b ≡ classFits listed class) where
+    module _ (fa : not a ≡ false) (class : ℕ) (ec : class ≡ getD spaces (4 * k + 0) 0) (b : Bool) (eb : b ≡ classFits listed class) where
       classed : b ≡ classFits listed (getD spaces (4 * k) 0)
-      classed = eb ∙ ap (classFits listed) ec
+      classed = eb ∙ ap (classFits listed) (ec ∙ ap (λ (i : ℕ). getD spaces i 0) (add-zero (4 * k)))
 
       chain₂ : (classFits listed (getD spaces (4 * k) 0) && (spanInside s uri && strandsFit modes units strands k count)) ≡ v
       chain₂ = chain-on a _ _ v named chain fa
@@ -154,12 +153,11 @@ module _ (s : List ℕ) (listed modes units : ℕ) (levels spaces strands : List
             pub level-many : 16 < n → false ≡ v
             level-many l = chain-out false _ _ v (sym (lt-leb n 16 l)) chain₅ refl
 
-            -- the part of the array from 16 * k up to 16 * k + n
-            pub level-strands : n ≤ 16 → length strands ≡ 1024 → k < 64 → (r : Bool) → r ≡ all (strandFits modes units) (map strandIn (take (16 * k + n - 16 * k) (drop (16 * k) strands))) → r ≡ v
-            level-strands few long lt r er =
-                let m : 16 * k + n - 16 * k ≡ n = omega arith in
+            -- the words that are tested
+            pub level-strands : n ≤ 16 → (ws : List ℕ) → ws ≡ wordsAt strands k n → (r : Bool) → r ≡ all (strandFits modes units) (map strandIn ws) → r ≡ v
+            level-strands few ws e r er =
                 er
-                ∙ ap (λ (x : List ℕ). all (strandFits modes units) (map strandIn x)) (ap (λ (i : ℕ). take i (drop (16 * k) strands)) m ∙ sym (words-part strands (16 * k) n (omega arith)))
+                ∙ ap (λ (x : List ℕ). all (strandFits modes units) (map strandIn x)) e
                 ∙ chain-on true _ _ v (sym (le-leb n 16 few)) chain₅ refl
 
 -- ---- the levels

@@ -4,7 +4,11 @@ use crate::names::inside;
 use crate::names::name_fits;
 use reader::Scope;
 use reader::Span;
-use reader::scopes::name_in;
+use strands::LEVELS;
+use strands::levels::count_at;
+use strands::levels::name_at;
+use strands::levels::owned_at;
+use strands::levels::space_at;
 use table::Header;
 use table::uris::place_of;
 ghost use mathlib.Core.Path.{_≡_};
@@ -16,6 +20,7 @@ ghost use Rattle.laws.specs.Lists.{all, tabulate};
 ghost use Rattle.table.specs.Table.{tableOf};
 ghost use Rattle.reader.specs.Counted.{countOf};
 ghost use Rattle.strands.specs.Packed.{strandIn};
+ghost use Rattle.strands.specs.Levels.{levelNames, levelSpaces, levelStrands};
 ghost use Rattle.coherence.specs.Checks.{classFits, strandFits, levelFits};
 
 // How many URIs stand whole in the table.
@@ -61,55 +66,42 @@ fn strands_fit(words: &[u32], modes: u8, units: usize) -> bool
     true
 }
 
-// The number at a place; 0 past the end.
-fn number_in(l: &[u32], i: usize) -> usize
-    ensures { λ r. ⌜ r ≡ getD (now (l .entry)) i 0 ⌝ }
-{
-    if i < l.len() {
-        return l[i] as usize;
-    }
-    0
-}
-
 // Does the k-th level fit?
 fn level_fits(
     scene: &[u8],
     listed: u8,
     modes: u8,
     units: usize,
-    levels: &[u32; 3 * Scope::DEPTH],
-    spaces: &[u32; 4 * Scope::DEPTH],
-    strands: &[u32; STRANDS * Scope::DEPTH],
+    levels: &[u32; LEVELS],
     k: usize,
 ) -> bool
-    ensures { λ r. ⌜ r ≡ levelFits (now (scene .entry)) listed modes units (now (levels .entry)) (now (spaces .entry)) (now (strands .entry)) k ⌝ }
+    ensures { λ r. ⌜ r ≡ levelFits (now (scene .entry)) listed modes units (levelNames (now (levels .entry))) (levelSpaces (now (levels .entry))) (levelStrands (now (levels .entry))) k ⌝ }
 {
-    let numbers: &[u32] = spaces;
     if Scope::DEPTH <= k {
         return false;
     }
-    if !name_fits(scene, name_in(levels, k)) {
+    if !name_fits(scene, name_at(levels, k)) {
         return false;
     }
-    if !class_fits(listed, number_in(numbers, 4 * k)) {
+    if !class_fits(listed, space_at(levels, k, 0) as usize) {
         return false;
     }
-    let at = number_in(numbers, 4 * k + 1);
-    let len = number_in(numbers, 4 * k + 2);
+    let at = space_at(levels, k, 1) as usize;
+    let len = space_at(levels, k, 2) as usize;
     if !inside(scene, Span { at, len }) {
         return false;
     }
-    let n = number_in(numbers, 4 * k + 3);
+    let n = count_at(levels, k);
     if n == 0 {
         return false;
     }
     if STRANDS < n {
         return false;
     }
-    let words: &[u32] = strands;
-    let from = 16 * k;
+    let all: &[u32] = levels;
+    let from = 24 * k + 8;
     let to = from + n;
-    strands_fit(&words[from..to], modes, units)
+    strands_fit(&all[from..to], modes, units)
 }
 
 // Do the first so many levels fit?
@@ -118,16 +110,14 @@ pub fn levels_fit(
     listed: u8,
     modes: u8,
     units: usize,
-    levels: &[u32; 3 * Scope::DEPTH],
-    spaces: &[u32; 4 * Scope::DEPTH],
-    strands: &[u32; STRANDS * Scope::DEPTH],
+    levels: &[u32; LEVELS],
     depth: usize,
 ) -> bool
-    ensures { λ r. ⌜ r ≡ all (levelFits (now (scene .entry)) listed modes units (now (levels .entry)) (now (spaces .entry)) (now (strands .entry))) (tabulate (λ (k : ℕ). k) 0 depth) ⌝ }
+    ensures { λ r. ⌜ r ≡ all (levelFits (now (scene .entry)) listed modes units (levelNames (now (levels .entry))) (levelSpaces (now (levels .entry))) (levelStrands (now (levels .entry)))) (tabulate (λ (k : ℕ). k) 0 depth) ⌝ }
 {
     let mut k = 0;
     while k < depth {
-        if !level_fits(scene, listed, modes, units, levels, spaces, strands, k) {
+        if !level_fits(scene, listed, modes, units, levels, k) {
             return false;
         }
         k += 1;
@@ -136,19 +126,18 @@ pub fn levels_fit(
 }
 
 // How many bindings the k-th level has.
-fn count_in(levels: &[u32; 3 * Scope::DEPTH], k: usize) -> usize
-    ensures { λ r. ⌜ r ≡ getD (now (levels .entry)) (3 * k + 2) 0 ⌝ }
+fn count_in(levels: &[u32; LEVELS], k: usize) -> usize
+    ensures { λ r. ⌜ r ≡ getD (levelNames (now (levels .entry))) (3 * k + 2) 0 ⌝ }
 {
-    let all: &[u32] = levels;
     if Scope::DEPTH <= k {
         return 0;
     }
-    number_in(all, 3 * k + 2)
+    owned_at(levels, k)
 }
 
 // Do the levels' counts of bindings add up?
-pub fn counts_add_up(levels: &[u32; 3 * Scope::DEPTH], depth: usize, bound: usize) -> bool
-    ensures { λ r. ⌜ r ≡ eqb (countOf (now (levels .entry)) depth) bound ⌝ }
+pub fn counts_add_up(levels: &[u32; LEVELS], depth: usize, bound: usize) -> bool
+    ensures { λ r. ⌜ r ≡ eqb (countOf (levelNames (now (levels .entry))) depth) bound ⌝ }
 {
     let mut left = bound;
     let mut k = 0;

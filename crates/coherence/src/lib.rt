@@ -8,9 +8,11 @@ use crate::levels::counts_add_up;
 use crate::levels::levels_fit;
 use crate::levels::listed_in;
 use reader::Scope;
+use strands::LEVELS;
 use table::Header;
 ghost use mathlib.Core.Path.{_≡_};
 ghost use Rattle.table.specs.Table.{tableOf};
+ghost use Rattle.strands.specs.Levels.{levelNames, levelSpaces, levelStrands};
 ghost use Rattle.coherence.specs.Checks.{arraysFit};
 
 // The most strands of a level.
@@ -24,12 +26,10 @@ pub fn arrays_fit(
     units: usize,
     depth: usize,
     bound: usize,
-    levels: &[u32; 3 * Scope::DEPTH],
+    levels: &[u32; LEVELS],
     bindings: &[u32; 4 * Scope::BINDINGS],
-    spaces: &[u32; 4 * Scope::DEPTH],
-    strands: &[u32; STRANDS * Scope::DEPTH],
 ) -> bool
-    ensures { λ r. ⌜ r ≡ arraysFit (tableOf (now (table .entry)) header) (now (scene .entry)) units depth bound (now (levels .entry)) (now (bindings .entry)) (now (spaces .entry)) (now (strands .entry)) ⌝ }
+    ensures { λ r. ⌜ r ≡ arraysFit (tableOf (now (table .entry)) header) (now (scene .entry)) units depth bound (levelNames (now (levels .entry))) (now (bindings .entry)) (levelSpaces (now (levels .entry))) (levelStrands (now (levels .entry))) ⌝ }
 {
     if !counts_add_up(levels, depth, bound) {
         return false;
@@ -38,14 +38,5 @@ pub fn arrays_fit(
         return false;
     }
     let listed = listed_in(table, header);
-    levels_fit(
-        scene,
-        listed,
-        header.modes,
-        units,
-        levels,
-        spaces,
-        strands,
-        depth,
-    )
+    levels_fit(scene, listed, header.modes, units, levels, depth)
 }

@@ -6,7 +6,7 @@ use mathlib.Core.Bool.{Bool, true, false, not}
 use native.Mathlib.Omega.{arith}
 use borrow.Author.Tests.{lt-ltb, le-ltb, ltb-true, ltb-false, eq-eqb, ne-eqb, eqb-false, not-true, not-false}
 use lib.Dec.{eqb, ltb}
-use lib.ListN.{length, take, drop, length-drop, length-append}
+use lib.ListN.{length, take, drop, replicate, length-drop, length-append}
 use lib.Seq.{length-take-le}
 use Rattle.laws.proofs.Holds.{holds-cond}
 use Rattle.table.specs.Table.{headerOf, tableOf, decode}
@@ -14,14 +14,16 @@ use Rattle.table.specs.Index.{indexOf}
 use Rattle.table.specs.declared.Answer.{Answer}
 use Rattle.table.specs.declared.Header.{Header}
 use Rattle.table.specs.Judge.{judged, Accepted}
-use Rattle.dispatcher.specs.Sessions.{freshOf, headOf, sessionOf}
+use Rattle.strands.specs.Levels.{levelNames, levelSpaces, levelStrands}
+use Rattle.strands.proofs.LevelNumbers.{each-long}
+use Rattle.dispatcher.specs.Sessions.{freshOf, headOf, sessionOf, sessionAt}
 use Rattle.dispatcher.specs.Coherence.{coherent}
 use Rattle.dispatcher.specs.Stepping.{planOf, planned, Step, answered, refusedStep, stepOf, advanceOf, handed, runBy, runOf, ran}
-use Rattle.dispatcher.specs.Turns.{TurnReady, Sized, advancedAnswer, advancedBy}
+use Rattle.dispatcher.specs.Turns.{TurnReady, Sized, advancedAnswer, advancedIn}
 use Rattle.dispatcher.specs.declared.Session.{Session}
 use Rattle.dispatcher.specs.declared.Head.{Head}
-use Rattle.dispatcher.specs.declared.Stepped.{Stepped}
 use Rattle.dispatcher.specs.declared.Advanced.{Advanced}
+use Rattle.dispatcher.proofs.LevelArrays.{each-zero}
 use Rattle.dispatcher.proofs.Sound.{Sound}
 use Rattle.dispatcher.proofs.SoundCoherent.{sound-coherent}
 use Rattle.dispatcher.proofs.CoherentSound.{coherent-sound}
@@ -133,8 +135,10 @@ module _ (table s : List ℕ) (z₀ : Session) (out₀ : List ℕ) (most : ℕ) 
   going-turned = record { room = turn-room; stops = turn-stops; goes = turn-goes }
 
 -- ---- before the first turn
-pub sized-sound : (table : List ℕ) (header : Header) (index s : List ℕ) (z : Session) → TurnReady table header index s z → Sized (z .scope .levels) (z .scope .bindings) (z .spaces) (z .strands) → Sound (decode table) s z
-sized-sound table header index s z r l = coherent-sound (decode table) s z (l .levels-long) (l .bindings-long) (l .spaces-long) (l .strands-long) (r .coherent′)
+pub sized-sound : (table : List ℕ) (header : Header) (index s : List ℕ) (head : Head) (levels bindings : List ℕ)
+    → TurnReady table header index s (sessionAt head levels bindings) → Sized levels bindings → Sound (decode table) s (sessionAt head levels bindings)
+sized-sound table header index s head levels bindings r l =
+    coherent-sound (decode table) s (sessionAt head levels bindings) (each-long 3 0 levels) (l .bindings-long) (each-long 4 3 levels) (each-long 16 8 levels) (r .coherent′)
 
 -- ---- a first step that is refused
 -- any advance by some step is it
@@ -160,16 +164,25 @@ module _ (table s : List ℕ) (header : Header) (z : Session) (head-is : header 
   pub from-ready : (index : List ℕ) → not r ≡ false → index ≡ indexOf table header → TurnReady table header index s z
   from-ready index n e = record { accepted = accepted; header-is = head-is; index-is = e; short = short; coherent′ = sym judged-coherent ∙ not-false r n }
 
--- the numbers and the arrays of a session, and what some steps make of them
-pub next-advanced : (most : ℕ) (table s : List ℕ) (z : Session) (head : Head) (r : Advanced) (a : Answer) (z′ : Session) (levels bindings spaces strands out′ out : List ℕ)
-    → head ≡ headOf z → a ≡ advancedAnswer r → z′ ≡ sessionOf (r .head) levels bindings spaces strands
-    → advancedBy r levels bindings spaces strands out′ ≡ advanceOf most table s (sessionOf head (z .scope .levels) (z .scope .bindings) (z .spaces) (z .strands)) out
+-- a session's arrays, from the one that holds its levels
+pub parted : (head : Head) (all levels bindings spaces strands : List ℕ) → levels ≡ levelNames all → spaces ≡ levelSpaces all → strands ≡ levelStrands all → sessionOf head levels bindings spaces strands ≡ sessionAt head all bindings
+parted head all levels bindings spaces strands en es ew =
+    ap (λ (x : List ℕ). sessionOf head x bindings spaces strands) en
+    ∙ ap (λ (x : List ℕ). sessionOf head (levelNames all) bindings x strands) es
+    ∙ ap (λ (x : List ℕ). sessionOf head (levelNames all) bindings (levelSpaces all) x) ew
+
+-- the numbers and the arrays of a session, its levels joined, and what some steps make of them
+pub next-advanced : (most : ℕ) (table s : List ℕ) (z : Session) (head : Head) (all : List ℕ) (r : Advanced) (a : Answer) (z′ : Session) (levels bindings out′ out : List ℕ)
+    → head ≡ headOf z → levelNames all ≡ z .scope .levels → levelSpaces all ≡ z .spaces → levelStrands all ≡ z .strands
+    → a ≡ advancedAnswer r → z′ ≡ sessionAt (r .head) levels bindings
+    → advancedIn r levels bindings out′ ≡ advanceOf most table s (sessionAt head all (z .scope .bindings)) out
     → handed (record { answer = a; session = z′ }) out′ ≡ advanceOf most table s z out
-next-advanced most table s z head r a z′ levels bindings spaces strands out′ out eh ea ez q =
+next-advanced most table s z head all r a z′ levels bindings out′ out eh en es ew ea ez q =
     ap (λ (x : Answer). handed (record { answer = x; session = z′ }) out′) ea
     ∙ ap (λ (x : Session). handed (record { answer = advancedAnswer r; session = x }) out′) ez
     ∙ q
-    ∙ ap (λ (h : Head). advanceOf most table s (sessionOf h (z .scope .levels) (z .scope .bindings) (z .spaces) (z .strands)) out) eh
+    ∙ ap (λ (h : Head). advanceOf most table s (sessionAt h all (z .scope .bindings)) out) eh
+    ∙ ap (λ (x : Session). advanceOf most table s x out) (sym (parted (headOf z) all (z .scope .levels) (z .scope .bindings) (z .spaces) (z .strands) (sym en) (sym es) (sym ew)))
 
 -- ---- before that
 module _ (table s : List ℕ) (a : Answer) (q : a ≡ judged table) where
@@ -198,11 +211,11 @@ unfolding advanceOf
 advance-none table s z out most b m e = ap (λ (x : Answer). handed (record { answer = x; session = z }) out) e ∙ ap (λ (n : ℕ). advanceOf n table s z out) (sym m)
 
 -- no step: numbers and arrays as they were
-pub none-advanced : (r : Advanced) (head : Head) (levels bindings spaces strands out : List ℕ) (x : Step) → r .head ≡ head
-    → handed (record { answer = advancedAnswer r; session = sessionOf head levels bindings spaces strands }) out ≡ x
-    → advancedBy r levels bindings spaces strands out ≡ x
-none-advanced r head levels bindings spaces strands out x e q =
-    ap (λ (h : Head). handed (record { answer = advancedAnswer r; session = sessionOf h levels bindings spaces strands }) out) e ∙ q
+pub none-advanced : (r : Advanced) (head : Head) (levels bindings out : List ℕ) (x : Step) → r .head ≡ head
+    → handed (record { answer = advancedAnswer r; session = sessionAt head levels bindings }) out ≡ x
+    → advancedIn r levels bindings out ≡ x
+none-advanced r head levels bindings out x e q =
+    ap (λ (h : Head). handed (record { answer = advancedAnswer r; session = sessionAt h levels bindings }) out) e ∙ q
 
 -- ---- a run
 too-long-stops : (table s : List ℕ) (z : Session) (out : List ℕ) → 16777215 < length s → stepOf table s z out .answer .number ≡ 0 → ⊥
@@ -211,12 +224,24 @@ too-long-stops table s z out h =
     rw (lt-ltb 16777215 (length s) h)
     (holds-cond (λ (r : Step). r .answer .number ≡ 0 → ⊥) (not (eqb (judged table .number) 0)) (λ n. eqb-false (judged table .number) 0 (not-true (eqb (judged table .number) 0) n)) (λ _ e. absurd (omega arith)))
 
+-- arrays of zeros are a fresh session's
+fresh-arrays : sessionAt (headOf freshOf) (replicate 1536 0) (replicate 256 0) ≡ freshOf
+fresh-arrays =
+    sym
+    (parted (headOf freshOf) (replicate 1536 0) (replicate 192 0) (replicate 256 0) (replicate 256 0) (replicate 1024 0)
+    (sym (each-zero 3 0 1536)) (sym (each-zero 4 3 1536)) (sym (each-zero 16 8 1536)))
+
 -- a scene that is too long is refused by the first step, so that any number of them will do
-pub run-within : (table s out : List ℕ) (most : ℕ) → 1 ≤ most → (length s ≤ 16777215 → most ≡ 2 * length s + 2) → (z : Session) → z ≡ freshOf → (r : Stepped) (out′ : List ℕ)
-    → handed r out′ ≡ advanceOf most table s z out → ran (r .answer) out′ ≡ runOf table s out
+pub run-within : (table s out : List ℕ) (most : ℕ) → 1 ≤ most → (length s ≤ 16777215 → most ≡ 2 * length s + 2) → (head : Head) → head ≡ headOf freshOf → (r : Advanced) (a : Answer) (levels bindings out′ : List ℕ)
+    → a ≡ advancedAnswer r → advancedIn r levels bindings out′ ≡ advanceOf most table s (sessionAt head (replicate 1536 0) (replicate 256 0)) out → ran a out′ ≡ runOf table s out
 unfolding runOf
-run-within table s out most some enough z fresh r out′ q =
-    ap runBy (q ∙ ap (λ (x : Session). advanceOf most table s x out) fresh ∙ by (ltb 16777215 (length s)) refl)
+run-within table s out most some enough head fresh r a levels bindings out′ ea q =
+    ap (λ (x : Answer). ran x out′) ea
+    ∙ ap runBy
+    (q
+    ∙ ap (λ (h : Head). advanceOf most table s (sessionAt h (replicate 1536 0) (replicate 256 0)) out) fresh
+    ∙ ap (λ (x : Session). advanceOf most table s x out) fresh-arrays
+    ∙ by (ltb 16777215 (length s)) refl)
   where
     by : (b : Bool) → ltb 16777215 (length s) ≡ b → advanceOf most table s freshOf out ≡ advanceOf (2 * length s + 2) table s freshOf out
     by true e =

@@ -20,6 +20,7 @@ use Rattle.model.specs.Records.{OpenElement}
 use Rattle.model.specs.Stream.{Level, State, HeldStrand}
 use Rattle.model.specs.Dispatch.{dispatch}
 use Rattle.strands.specs.Packed.{strandIn, packed}
+use Rattle.strands.specs.Levels.{levelNames, levelSpaces, levelStrands}
 use Rattle.dispatcher.specs.declared.Session.{Session}
 use Rattle.dispatcher.specs.declared.Head.{Head}
 
@@ -102,6 +103,10 @@ sessionOf h levels bindings spaces strands =
       spaces = spaces;
       strands = strands;
     }
+
+-- its numbers, its levels in one array and its bindings
+abbrev pub sessionAt : Head → List ℕ → List ℕ → Session
+sessionAt h levels bindings = sessionOf h (levelNames levels) bindings (levelSpaces levels) (levelStrands levels)
 
 -- the session behind a text, an end and a start: what is not named keeps its value
 abbrev pub withPlace : Session → ℕ → Session

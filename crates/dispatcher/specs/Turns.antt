@@ -36,9 +36,10 @@ use Rattle.model.specs.Dispatch.{dispatch}
 use Rattle.records.specs.declared.Row.{Row}
 use Rattle.attributes.specs.Known.{ClassesAt}
 use Rattle.strands.specs.Packed.{packed}
+use Rattle.strands.specs.Levels.{levelNames, levelSpaces, levelStrands}
 use Rattle.strands.specs.Entries.{entriesIn}
 use Rattle.attributes.specs.Attributes.{namespaceOf, delivered, allSorted, sortedOf}
-use Rattle.dispatcher.specs.Sessions.{sessionOf, stateOf}
+use Rattle.dispatcher.specs.Sessions.{sessionOf, sessionAt, stateOf}
 use Rattle.dispatcher.specs.Coherence.{coherent}
 use Rattle.table.specs.declared.Answer.{Answer}
 use Rattle.dispatcher.specs.Stepping.{Plan, refused, startPlan, planBy, Step, answered}
@@ -68,17 +69,17 @@ stepBy r levels bindings spaces strands out =
       output = out;
     }
 
+-- the same, the levels in one array
+abbrev pub stepIn : Turn → List ℕ → List ℕ → List ℕ → Step
+stepIn r levels bindings out = stepBy r (levelNames levels) bindings (levelSpaces levels) (levelStrands levels) out
+
 -- some steps and the arrays behind them, as what an advance hands back
 abbrev pub advancedAnswer : Advanced → Answer
 advancedAnswer r = answered (r .number) (r .place) (r .events) (r .records)
 
-abbrev pub advancedBy : Advanced → List ℕ → List ℕ → List ℕ → List ℕ → List ℕ → Step
-advancedBy r levels bindings spaces strands out =
-    record {
-      answer = advancedAnswer r;
-      session = sessionOf (r .head) levels bindings spaces strands;
-      output = out;
-    }
+abbrev pub advancedIn : Advanced → List ℕ → List ℕ → List ℕ → Step
+advancedIn r levels bindings out =
+    record { answer = advancedAnswer r; session = sessionAt (r .head) levels bindings; output = out }
 
 -- what a text and an end need of the innermost level
 pub record Innermost (s : List ℕ) (head : Head) (levels spaces : List ℕ) : Type 0 where
@@ -139,12 +140,10 @@ pub record LoopReady (table index s known : List ℕ) (z : Session) : Type 0 whe
   pub ready : TurnReady table (headerOf table) index s z
   pub beside : Beside table s known z
 
--- the session's arrays have the lengths of their types
-pub record Sized (levels bindings spaces strands : List ℕ) : Type 0 where
-  pub levels-long : length levels ≡ 192
+-- the arrays have the lengths of their types
+pub record Sized (levels bindings : List ℕ) : Type 0 where
+  pub levels-long : length levels ≡ 1536
   pub bindings-long : length bindings ≡ 256
-  pub spaces-long : length spaces ≡ 256
-  pub strands-long : length strands ≡ 1024
 
 -- ---- a start
 -- the start that a tag makes, with its own declarations, the open ones and the codes of its attributes as the arrays have them

@@ -2,10 +2,11 @@
 use crate::Head;
 use crate::Session;
 use coherence::arrays_fit;
+use strands::LEVELS;
 use table::Header;
 ghost use mathlib.Core.Path.{_≡_};
 ghost use Rattle.table.specs.Table.{tableOf};
-ghost use Rattle.dispatcher.specs.Sessions.{sessionOf};
+ghost use Rattle.dispatcher.specs.Sessions.{sessionAt};
 ghost use Rattle.dispatcher.specs.Coherence.{coherent};
 ghost use Rattle.dispatcher.specs.Checks.{headFits};
 
@@ -26,12 +27,10 @@ pub fn coherent(
     header: Header,
     scene: &[u8],
     head: Head,
-    levels: &[u32; 3 * Session::DEPTH],
+    levels: &[u32; LEVELS],
     bindings: &[u32; 4 * Session::BINDINGS],
-    spaces: &[u32; 4 * Session::DEPTH],
-    strands: &[u32; Session::STRANDS * Session::DEPTH],
 ) -> bool
-    ensures { λ r. ⌜ r ≡ coherent (tableOf (now (table .entry)) header) (now (scene .entry)) (sessionOf head (now (levels .entry)) (now (bindings .entry)) (now (spaces .entry)) (now (strands .entry))) ⌝ }
+    ensures { λ r. ⌜ r ≡ coherent (tableOf (now (table .entry)) header) (now (scene .entry)) (sessionAt head (now (levels .entry)) (now (bindings .entry))) ⌝ }
 {
     if !head_fits(scene.len(), head) {
         return false;
@@ -45,7 +44,5 @@ pub fn coherent(
         head.bound,
         levels,
         bindings,
-        spaces,
-        strands,
     )
 }

@@ -11,6 +11,7 @@ use openings::entering::next_strands;
 use openings::weighing::only;
 use openings::weighing::weigh;
 use reader::Scope;
+use strands::LEVELS;
 ghost use mathlib.Core.Path.{_≡_};
 ghost use mathlib.Core.List.{List};
 ghost use mathlib.Core.Bool.{true};
@@ -26,7 +27,8 @@ ghost use Rattle.reader.specs.Known.{plainAttr};
 ghost use Rattle.model.specs.Elements as elements;
 ghost use Rattle.attributes.specs.Known.{ClassesAt};
 ghost use Rattle.attributes.specs.Attributes.{placingOf};
-ghost use Rattle.dispatcher.specs.Sessions.{sessionOf};
+ghost use Rattle.strands.specs.Levels.{levelSpaces};
+ghost use Rattle.dispatcher.specs.Sessions.{sessionAt};
 ghost use Rattle.dispatcher.specs.Turns.{TurnReady, Beside, Met, DecidedAs, startOf};
 
 // What a start makes.
@@ -41,18 +43,17 @@ pub fn decide(
     own: &[u32; 64],
     outer: &[u32; 4 * Session::BINDINGS],
     known: &[u64; 2 * Scope::KNOWN],
-    spaces: &[u32; 4 * Session::DEPTH],
-    strands: &[u32; Session::STRANDS * Session::DEPTH],
+    levels: &[u32; LEVELS],
     words: &mut [u32; Session::STRANDS],
     schemas: &mut [u32; Session::STRANDS],
     attributes: &mut [u32; 128],
     sections: &mut [usize; 16],
 ) -> Decided
-    requires { ⌜ (head .depth < 64) × (head .units ≤ 65536) × (1 ≤ head .depth → getD (now spaces) (4 * (head .depth - 1) + 3) 0 ≤ 16) × (head .bound ≤ 64) × All (λ (c : Coded). c .code < 82) (coded (attrsIn (now attrs) (started .tag .count)) (now codes)) × (started .plain ≡ true → all (plainAttr (now scene)) (attrsIn (now attrs) (started .tag .count)) ≡ true) ⌝ }
-    ensures { λ r. ⌜ ((table levels : List ℕ) (header : Header) → (
+    requires { ⌜ (head .depth < 64) × (head .units ≤ 65536) × (1 ≤ head .depth → getD (levelSpaces (now levels)) (4 * (head .depth - 1) + 3) 0 ≤ 16) × (head .bound ≤ 64) × All (λ (c : Coded). c .code < 82) (coded (attrsIn (now attrs) (started .tag .count)) (now codes)) × (started .plain ≡ true → all (plainAttr (now scene)) (attrsIn (now attrs) (started .tag .count)) ≡ true) ⌝ }
+    ensures { λ r. ⌜ ((table : List ℕ) (header : Header) → (
         let s = now (scene .entry) in
         let t = decode table in
-        let z = sessionOf head levels (now (outer .entry)) (now (spaces .entry)) (now (strands .entry)) in
+        let z = sessionAt head (now (levels .entry)) (now (outer .entry)) in
         let e = startOf s (now (outer .entry)) (now (own .entry)) (now (attrs .entry)) (now (codes .entry)) (started .at) (started .tag) (started .found) in
         TurnReady table header (now (index .entry)) s z
         → Beside table s (now (known .entry)) z
@@ -71,8 +72,7 @@ pub fn decide(
         found,
         placing,
         head.depth,
-        spaces,
-        strands,
+        levels,
         words,
         schemas,
     );

@@ -11,16 +11,18 @@ use lexer::Ended;
 use lexer::Read;
 use lexer::tags::end_tag;
 use lexer::values::text_end;
-use openings::levels::count_at;
-use openings::levels::space_at;
 use reader::Span;
 use reader::kinds::minus;
-use reader::scopes::name_in;
 use reader::scopes::part_in;
 use reader::scopes::same_name;
 use records::Row;
+use strands::LEVELS;
 use strands::events::event_count;
 use strands::events::write_event;
+use strands::levels::count_at;
+use strands::levels::name_at;
+use strands::levels::owned_at;
+use strands::levels::space_at;
 ghost use mathlib.Core.Path.{_≡_};
 ghost use mathlib.Core.List.{List};
 ghost use mathlib.Core.Bool.{true};
@@ -42,25 +44,20 @@ ghost use Rattle.model.specs.Records.{textBody};
 ghost use Rattle.model.specs.Dispatch.{dispatch};
 ghost use Rattle.strands.specs.Packed.{wordsAt};
 ghost use Rattle.strands.specs.Writing.{rowFor, eventCount};
-ghost use Rattle.dispatcher.specs.Sessions.{sessionOf, readerOf, stateOf, withPlace, withEnd};
+ghost use Rattle.strands.specs.Levels.{levelNames, levelSpaces, levelStrands};
+ghost use Rattle.dispatcher.specs.Sessions.{sessionAt, readerOf, stateOf, withPlace, withEnd};
 ghost use Rattle.dispatcher.specs.Stepping.{planBy, planOf, planned, eventStep};
-ghost use Rattle.dispatcher.specs.Turns.{Innermost, closesAt, endRow, closedHead, stepBy};
+ghost use Rattle.dispatcher.specs.Turns.{Innermost, closesAt, endRow, closedHead, stepIn};
 
 // Is an output of this length too short for the records of n strands of a level? They are counted where two for each would not fit.
-fn is_full(
-    len: usize,
-    strands: &[u32; Session::STRANDS * Session::DEPTH],
-    level: usize,
-    n: usize,
-    closes: bool,
-) -> bool
+fn is_full(len: usize, levels: &[u32; LEVELS], level: usize, n: usize, closes: bool) -> bool
     requires { ⌜ (level < 64) × (n ≤ 16) ⌝ }
-    ensures { λ r. ⌜ r ≡ ltb (len / 16) (total (eventCount closes) (wordsAt (now (strands .entry)) level n)) ⌝ }
+    ensures { λ r. ⌜ r ≡ ltb (len / 16) (total (eventCount closes) (wordsAt (levelStrands (now (levels .entry))) level n)) ⌝ }
 {
     if len >= 32 * n {
         return false;
     }
-    len / 16 < event_count(strands, level, n, closes)
+    len / 16 < event_count(levels, level, n, closes)
 }
 
 fn text_row(at: usize, end: usize) -> Row
@@ -79,27 +76,20 @@ fn text_row(at: usize, end: usize) -> Row
 }
 
 // A text that was read: 25, or its records.
-fn text_event(
-    at: usize,
-    end: usize,
-    head: Head,
-    spaces: &[u32; 4 * Session::DEPTH],
-    strands: &[u32; Session::STRANDS * Session::DEPTH],
-    out: &mut [u8],
-) -> Turn
-    requires { ⌜ (1 ≤ head .depth) × (head .depth ≤ 64) × (getD (now spaces) (4 * (head .depth - 1) + 3) 0 ≤ 16) × (at < 4294967296) × (end < 4294967296) ⌝ }
-    ensures { λ r. ⌜ ((t : Table) (s levels bindings : List ℕ) → (
-        let z = sessionOf head levels bindings (now (spaces .entry)) (now (strands .entry)) in
-        stepBy r levels bindings (now (spaces .entry)) (now (strands .entry)) (now (out .exit))
+fn text_event(at: usize, end: usize, head: Head, levels: &[u32; LEVELS], out: &mut [u8]) -> Turn
+    requires { ⌜ (1 ≤ head .depth) × (head .depth ≤ 64) × (getD (levelSpaces (now levels)) (4 * (head .depth - 1) + 3) 0 ≤ 16) × (at < 4294967296) × (end < 4294967296) ⌝ }
+    ensures { λ r. ⌜ ((t : Table) (s bindings : List ℕ) → (
+        let z = sessionAt head (now (levels .entry)) bindings in
+        stepIn r (now (levels .entry)) bindings (now (out .exit))
         ≡ eventStep at (written (dispatch t) (stateOf t s z) (text (between at end))) (withPlace z end) z (now (out .entry))
         )) ⌝ }
 {
     let level = head.depth - 1;
-    let n = count_at(spaces, level);
-    if is_full(out.len(), strands, level, n, false) {
+    let n = count_at(levels, level);
+    if is_full(out.len(), levels, level, n, false) {
         return stop(25, at, head);
     }
-    let used = write_event(strands, level, n, text_row(at, end), false, out);
+    let used = write_event(levels, level, n, text_row(at, end), false, out);
     let next = Head {
         place: end,
         units: head.units,
@@ -121,45 +111,43 @@ pub fn text_turn(
     scene: &[u8],
     at: usize,
     head: Head,
-    spaces: &[u32; 4 * Session::DEPTH],
-    strands: &[u32; Session::STRANDS * Session::DEPTH],
+    levels: &[u32; LEVELS],
     out: &mut [u8],
 ) -> Turn
-    requires { ⌜ (length (now scene) ≤ 16777215) × (1 ≤ head .depth) × (head .depth ≤ 64) × (getD (now spaces) (4 * (head .depth - 1) + 3) 0 ≤ 16) × (at ≤ length (now scene)) ⌝ }
-    ensures { λ r. ⌜ ((t : Table) (levels bindings : List ℕ) → (
+    requires { ⌜ (length (now scene) ≤ 16777215) × (1 ≤ head .depth) × (head .depth ≤ 64) × (getD (levelSpaces (now levels)) (4 * (head .depth - 1) + 3) 0 ≤ 16) × (at ≤ length (now scene)) ⌝ }
+    ensures { λ r. ⌜ ((t : Table) (bindings : List ℕ) → (
         let s = now (scene .entry) in
-        let z = sessionOf head levels bindings (now (spaces .entry)) (now (strands .entry)) in
-        stepBy r levels bindings (now (spaces .entry)) (now (strands .entry)) (now (out .exit))
+        let z = sessionAt head (now (levels .entry)) bindings in
+        stepIn r (now (levels .entry)) bindings (now (out .exit))
         ≡ planned (planBy t s z (textRead s (readerOf z) at (textEnd s at))) z (now (out .entry))
         )) ⌝ }
 {
     match text_end(scene, at) {
-        Read::End(end) => text_event(at, end, head, spaces, strands, out),
+        Read::End(end) => text_event(at, end, head, levels, out),
         Read::Stopped(x) => stopped(scene, x, head),
     }
 }
 
-fn end_row(part: Span, spaces: &[u32; 4 * Session::DEPTH], level: usize) -> Row
+fn end_row(part: Span, levels: &[u32; LEVELS], level: usize) -> Row
     requires { ⌜ level < 64 ⌝ }
-    ensures { λ r. ⌜ r ≡ endRow part (now (spaces .entry)) level ⌝ }
+    ensures { λ r. ⌜ r ≡ endRow part (levelSpaces (now (levels .entry))) level ⌝ }
 {
     Row {
         unit: 0,
         kind: 5,
-        class: (space_at(spaces, level, 0) % 256) as u8,
+        class: (space_at(levels, level, 0) % 256) as u8,
         at: narrow(part.at),
         len: narrow(part.len),
-        uri_at: space_at(spaces, level, 1),
-        uri_len: space_at(spaces, level, 2),
+        uri_at: space_at(levels, level, 1),
+        uri_len: space_at(levels, level, 2),
     }
 }
 
 // The session's numbers behind the end of the innermost level.
-fn closed_head(head: Head, place: usize, levels: &[u32; 3 * Session::DEPTH]) -> Head
+fn closed_head(head: Head, place: usize, levels: &[u32; LEVELS]) -> Head
     requires { ⌜ (1 ≤ head .depth) × (head .depth ≤ 64) ⌝ }
-    ensures { λ r. ⌜ r ≡ closedHead head place (now (levels .entry)) ⌝ }
+    ensures { λ r. ⌜ r ≡ closedHead head place (levelNames (now (levels .entry))) ⌝ }
 {
-    let all: &[u32] = levels;
     let level = head.depth - 1;
     Head {
         place,
@@ -167,7 +155,7 @@ fn closed_head(head: Head, place: usize, levels: &[u32; 3 * Session::DEPTH]) -> 
         closed: level == 0,
         awaited: false,
         depth: level,
-        bound: minus(head.bound, all[3 * level + 2] as usize),
+        bound: minus(head.bound, owned_at(levels, level)),
     }
 }
 
@@ -177,24 +165,22 @@ fn end_event(
     at: usize,
     place: usize,
     head: Head,
-    levels: &[u32; 3 * Session::DEPTH],
-    spaces: &[u32; 4 * Session::DEPTH],
-    strands: &[u32; Session::STRANDS * Session::DEPTH],
+    levels: &[u32; LEVELS],
     out: &mut [u8],
 ) -> Turn
-    requires { ⌜ (1 ≤ head .depth) × (head .depth ≤ 64) × (getD (now spaces) (4 * (head .depth - 1) + 3) 0 ≤ 16) × (getD (now spaces) (4 * (head .depth - 1)) 0 < 256) × (part .at < 4294967296) × (part .len < 4294967296) ⌝ }
+    requires { ⌜ (1 ≤ head .depth) × (head .depth ≤ 64) × (getD (levelSpaces (now levels)) (4 * (head .depth - 1) + 3) 0 ≤ 16) × (getD (levelSpaces (now levels)) (4 * (head .depth - 1)) 0 < 256) × (part .at < 4294967296) × (part .len < 4294967296) ⌝ }
     ensures { λ r. ⌜ ((t : Table) (s bindings : List ℕ) → (
-        let z = sessionOf head (now (levels .entry)) bindings (now (spaces .entry)) (now (strands .entry)) in
-        stepBy r (now (levels .entry)) bindings (now (spaces .entry)) (now (strands .entry)) (now (out .exit))
+        let z = sessionAt head (now (levels .entry)) bindings in
+        stepIn r (now (levels .entry)) bindings (now (out .exit))
         ≡ eventStep at (written (dispatch t) (stateOf t s z) (end part)) (withEnd z place (eqb (head .depth) 1)) z (now (out .entry))
         )) ⌝ }
 {
     let level = head.depth - 1;
-    let n = count_at(spaces, level);
-    if is_full(out.len(), strands, level, n, true) {
+    let n = count_at(levels, level);
+    if is_full(out.len(), levels, level, n, true) {
         return stop(25, at, head);
     }
-    let used = write_event(strands, level, n, end_row(part, spaces, level), true, out);
+    let used = write_event(levels, level, n, end_row(part, levels, level), true, out);
     Turn {
         number: 0,
         place,
@@ -204,34 +190,18 @@ fn end_event(
 }
 
 // The end of a tag />, which no byte makes.
-pub fn awaited_turn(
-    scene: &[u8],
-    head: Head,
-    levels: &[u32; 3 * Session::DEPTH],
-    spaces: &[u32; 4 * Session::DEPTH],
-    strands: &[u32; Session::STRANDS * Session::DEPTH],
-    out: &mut [u8],
-) -> Turn
-    requires { ⌜ Innermost (now scene) head (now levels) (now spaces) × (head .awaited ≡ true) ⌝ }
+pub fn awaited_turn(scene: &[u8], head: Head, levels: &[u32; LEVELS], out: &mut [u8]) -> Turn
+    requires { ⌜ Innermost (now scene) head (levelNames (now levels)) (levelSpaces (now levels)) × (head .awaited ≡ true) ⌝ }
     ensures { λ r. ⌜ ((t : Table) (bindings : List ℕ) → (
         let s = now (scene .entry) in
-        let z = sessionOf head (now (levels .entry)) bindings (now (spaces .entry)) (now (strands .entry)) in
-        stepBy r (now (levels .entry)) bindings (now (spaces .entry)) (now (strands .entry)) (now (out .exit))
+        let z = sessionAt head (now (levels .entry)) bindings in
+        stepIn r (now (levels .entry)) bindings (now (out .exit))
         ≡ planned (planOf t s z) z (now (out .entry))
         )) ⌝ }
 {
-    let name = name_in(levels, head.depth - 1);
+    let name = name_at(levels, head.depth - 1);
     let part = part_in(scene, name);
-    end_event(
-        part,
-        minus(name.at, 1),
-        head.place,
-        head,
-        levels,
-        spaces,
-        strands,
-        out,
-    )
+    end_event(part, minus(name.at, 1), head.place, head, levels, out)
 }
 
 fn span_between(from: usize, to: usize) -> Span
@@ -249,26 +219,24 @@ fn named_end(
     at: usize,
     tag: EndTag,
     head: Head,
-    levels: &[u32; 3 * Session::DEPTH],
-    spaces: &[u32; 4 * Session::DEPTH],
-    strands: &[u32; Session::STRANDS * Session::DEPTH],
+    levels: &[u32; LEVELS],
     out: &mut [u8],
 ) -> Turn
-    requires { ⌜ Innermost (now scene) head (now levels) (now spaces) × (tag .name .end < 4294967296) × (tag .name .part < 4294967296) ⌝ }
+    requires { ⌜ Innermost (now scene) head (levelNames (now levels)) (levelSpaces (now levels)) × (tag .name .end < 4294967296) × (tag .name .part < 4294967296) ⌝ }
     ensures { λ r. ⌜ ((t : Table) (bindings : List ℕ) → (
         let s = now (scene .entry) in
-        let z = sessionOf head (now (levels .entry)) bindings (now (spaces .entry)) (now (strands .entry)) in
-        stepBy r (now (levels .entry)) bindings (now (spaces .entry)) (now (strands .entry)) (now (out .exit))
+        let z = sessionAt head (now (levels .entry)) bindings in
+        stepIn r (now (levels .entry)) bindings (now (out .exit))
         ≡ planned (planBy t s z (endRead s at (opensOf (z .scope)) (ended.Got tag))) z (now (out .entry))
         )) ⌝ }
 {
     let name = tag.name;
     let whole = span_between(name.at, name.end);
-    if !same_name(scene, whole, name_in(levels, head.depth - 1)) {
+    if !same_name(scene, whole, name_at(levels, head.depth - 1)) {
         return stop(4, at, head);
     }
     let part = span_between(name.part, name.end);
-    end_event(part, at, tag.next, head, levels, spaces, strands, out)
+    end_event(part, at, tag.next, head, levels, out)
 }
 
 // Do the bytes of a name of the scene and a > stand at a place?
@@ -289,24 +257,16 @@ fn closes(scene: &[u8], at: usize, name: Span) -> bool
 }
 
 // The end tag whose < stands at a place: the innermost open name and a >, or what is read there.
-pub fn end_turn(
-    scene: &[u8],
-    at: usize,
-    head: Head,
-    levels: &[u32; 3 * Session::DEPTH],
-    spaces: &[u32; 4 * Session::DEPTH],
-    strands: &[u32; Session::STRANDS * Session::DEPTH],
-    out: &mut [u8],
-) -> Turn
-    requires { ⌜ Innermost (now scene) head (now levels) (now spaces) × (at + 2 ≤ length (now scene)) ⌝ }
+pub fn end_turn(scene: &[u8], at: usize, head: Head, levels: &[u32; LEVELS], out: &mut [u8]) -> Turn
+    requires { ⌜ Innermost (now scene) head (levelNames (now levels)) (levelSpaces (now levels)) × (at + 2 ≤ length (now scene)) ⌝ }
     ensures { λ r. ⌜ ((t : Table) (bindings : List ℕ) → (
         let s = now (scene .entry) in
-        let z = sessionOf head (now (levels .entry)) bindings (now (spaces .entry)) (now (strands .entry)) in
-        stepBy r (now (levels .entry)) bindings (now (spaces .entry)) (now (strands .entry)) (now (out .exit))
+        let z = sessionAt head (now (levels .entry)) bindings in
+        stepIn r (now (levels .entry)) bindings (now (out .exit))
         ≡ planned (planBy t s z (endRead s at (opensOf (z .scope)) (endTagAt s (at + 2)))) z (now (out .entry))
         )) ⌝ }
 {
-    let open = name_in(levels, head.depth - 1);
+    let open = name_at(levels, head.depth - 1);
     if closes(scene, at + 2, open) {
         let name = Span {
             at: at + 2,
@@ -318,13 +278,11 @@ pub fn end_turn(
             at + 3 + open.len,
             head,
             levels,
-            spaces,
-            strands,
             out,
         );
     }
     match end_tag(scene, at + 2) {
-        Ended::Got(tag) => named_end(scene, at, tag, head, levels, spaces, strands, out),
+        Ended::Got(tag) => named_end(scene, at, tag, head, levels, out),
         Ended::Stopped(x) => stopped(scene, x, head),
     }
 }

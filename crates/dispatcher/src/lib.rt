@@ -1,4 +1,5 @@
 // The dispatcher: a session, its steps, one and many, and a run.
+mod arrays;
 mod checks;
 mod decisions;
 mod ends;
@@ -7,19 +8,22 @@ mod readings;
 mod starts;
 mod steps;
 
+use crate::arrays::join_levels;
+use crate::arrays::part_levels;
 use crate::steps::steps_from;
 use lexer::Tag;
 use reader::Found;
 use reader::Scope;
+use strands::LEVELS;
 use table::Answer;
 use table::judge;
 use table::words::header_of;
 ghost use mathlib.Core.Path.{_≡_};
 ghost use Prim.Native.Nat.{_+_, _*_, _≤_};
 ghost use lib.ListN.{length};
-ghost use Rattle.dispatcher.specs.Sessions.{freshOf, headOf, sessionOf};
+ghost use Rattle.dispatcher.specs.Sessions.{freshOf, headOf, sessionAt, sessionOf};
 ghost use Rattle.dispatcher.specs.Stepping.{answered, stepOf, advanceOf, handed, runOf, ran};
-ghost use Rattle.dispatcher.specs.Turns.{Sized, advancedAnswer, advancedBy};
+ghost use Rattle.dispatcher.specs.Turns.{Sized, advancedAnswer, advancedIn};
 
 // Where a run over a scene is. A caller may hand in any: number 20 judges it.
 pub struct Session {
@@ -124,24 +128,24 @@ impl Session {
     pub fn advance(self, table: &[u8], scene: &[u8], most: usize, out: &mut [u8]) -> Stepped
         ensures { λ r. ⌜ handed r (now (out .exit)) ≡ advanceOf most (now (table .entry)) (now (scene .entry)) self (now (out .entry)) ⌝ }
     {
-        let mut levels = self.scope.levels;
+        let names = self.scope.levels;
+        let spaces = self.spaces;
+        let strands = self.strands;
+        let mut levels: [u32; LEVELS] = [0; LEVELS];
+        join_levels(&names, &spaces, &strands, &mut levels);
         let mut bindings = self.scope.bindings;
-        let mut spaces = self.spaces;
-        let mut strands = self.strands;
         let advanced = advance_in(
             table,
             scene,
             self.head(),
             &mut levels,
             &mut bindings,
-            &mut spaces,
-            &mut strands,
             most,
             out,
         );
         Stepped {
             answer: answer_of(advanced),
-            session: Session::of(advanced.head, levels, bindings, spaces, strands),
+            session: Session::of(advanced.head, &levels, bindings),
         }
     }
 
@@ -160,15 +164,16 @@ impl Session {
     }
 
     // Numbers and arrays, put together.
-    fn of(
-        head: Head,
-        levels: [u32; 3 * Session::DEPTH],
-        bindings: [u32; 4 * Session::BINDINGS],
-        spaces: [u32; 4 * Session::DEPTH],
-        strands: [u32; Session::STRANDS * Session::DEPTH],
-    ) -> Session
-        ensures { λ r. ⌜ r ≡ sessionOf head levels bindings spaces strands ⌝ }
+    fn of(head: Head, all: &[u32; LEVELS], bindings: [u32; 4 * Session::BINDINGS]) -> Session
+        ensures { λ r. ⌜ r ≡ sessionAt head (now (all .entry)) bindings ⌝ }
     {
+        let mut levels: [u32; 3 * Session::DEPTH] = [0; 3 * Session::DEPTH];
+        let mut spaces: [u32; 4 * Session::DEPTH] = [0; 4 * Session::DEPTH];
+        let mut strands: [u32; Session::STRANDS * Session::DEPTH] = [0; Session::STRANDS
+            * Session::DEPTH];
+        part_levels(all, 3, 0, &mut levels);
+        part_levels(all, 4, 3, &mut spaces);
+        part_levels(all, 16, 8, &mut strands);
         Session {
             place: head.place,
             units: head.units,
@@ -216,17 +221,15 @@ pub fn advance_in(
     table: &[u8],
     scene: &[u8],
     head: Head,
-    levels: &mut [u32; 3 * Session::DEPTH],
+    levels: &mut [u32; LEVELS],
     bindings: &mut [u32; 4 * Session::BINDINGS],
-    spaces: &mut [u32; 4 * Session::DEPTH],
-    strands: &mut [u32; Session::STRANDS * Session::DEPTH],
     most: usize,
     out: &mut [u8],
 ) -> Advanced
-    requires { ⌜ Sized (now levels) (now bindings) (now spaces) (now strands) ⌝ }
+    requires { ⌜ Sized (now levels) (now bindings) ⌝ }
     ensures { λ r. ⌜ (
-        let z = sessionOf head (now (levels .entry)) (now (bindings .entry)) (now (spaces .entry)) (now (strands .entry)) in
-        advancedBy r (now (levels .exit)) (now (bindings .exit)) (now (spaces .exit)) (now (strands .exit)) (now (out .exit))
+        let z = sessionAt head (now (levels .entry)) (now (bindings .entry)) in
+        advancedIn r (now (levels .exit)) (now (bindings .exit)) (now (out .exit))
         ≡ advanceOf most (now (table .entry)) (now (scene .entry)) z (now (out .entry))
         ) ⌝ }
 {
@@ -247,8 +250,6 @@ pub fn advance_in(
         head,
         levels,
         bindings,
-        spaces,
-        strands,
         most,
         out,
     )
@@ -258,8 +259,32 @@ pub fn advance_in(
 pub fn run(table: &[u8], scene: &[u8], out: &mut [u8]) -> Answer
     ensures { λ r. ⌜ ran r (now (out .exit)) ≡ runOf (now (table .entry)) (now (scene .entry)) (now (out .entry)) ⌝ }
 {
-    let stepped = Session::fresh().advance(table, scene, steps_within(scene), out);
-    stepped.answer
+    let mut levels: [u32; LEVELS] = [0; LEVELS];
+    let mut bindings: [u32; 4 * Session::BINDINGS] = [0; 4 * Session::BINDINGS];
+    let advanced = advance_in(
+        table,
+        scene,
+        fresh_head(),
+        &mut levels,
+        &mut bindings,
+        steps_within(scene),
+        out,
+    );
+    answer_of(advanced)
+}
+
+// A fresh session's numbers.
+fn fresh_head() -> Head
+    ensures { λ r. ⌜ r ≡ headOf freshOf ⌝ }
+{
+    Head {
+        place: 0,
+        units: 0,
+        closed: false,
+        awaited: false,
+        depth: 0,
+        bound: 0,
+    }
 }
 
 // So many steps suffice. A scene that is too long is refused by the first.

@@ -9,6 +9,7 @@ use openings::Decided;
 use openings::levels::push_start;
 use openings::writing::begun_of;
 use openings::writing::write_start;
+use strands::LEVELS;
 ghost use mathlib.Core.Path.{_≡_};
 ghost use Prim.Native.Nat.{ℕ, _+_, _*_, _≤_, _<_};
 ghost use mathlib.Core.List.{List};
@@ -18,10 +19,10 @@ ghost use Rattle.reader.specs.declared.Binding.{Binding};
 ghost use Rattle.reader.specs.Stored.{narrowed, storedSpace};
 ghost use Rattle.model.specs.Elements as elements;
 ghost use Rattle.attributes.specs.Attributes.{placingOf};
-ghost use Rattle.dispatcher.specs.Sessions.{sessionOf};
+ghost use Rattle.dispatcher.specs.Sessions.{sessionAt};
 ghost use Rattle.dispatcher.specs.Stepping.{startPlan, planned};
 ghost use Rattle.openings.specs.Openings.{Openable};
-ghost use Rattle.dispatcher.specs.Turns.{openedHead, TurnReady, Told, DecidedAs, Roomy, startOf, stepBy};
+ghost use Rattle.dispatcher.specs.Turns.{openedHead, TurnReady, Told, DecidedAs, Roomy, startOf, stepIn};
 
 // The session's numbers behind a start.
 fn opened_head(head: Head, place: usize, empty: bool, units: usize, owned: usize) -> Head
@@ -50,23 +51,21 @@ pub fn open_level(
     attributes: &[u32; 128],
     sections: &[usize; 16],
     head: Head,
-    levels: &mut [u32; 3 * Session::DEPTH],
+    levels: &mut [u32; LEVELS],
     bindings: &mut [u32; 4 * Session::BINDINGS],
-    spaces: &mut [u32; 4 * Session::DEPTH],
-    strands: &mut [u32; Session::STRANDS * Session::DEPTH],
     rows: &mut [u64; 82],
     out: &mut [u8],
 ) -> Turn
     requires { ⌜ Roomy head (started .owned) × (decided .number ≡ 0 → Openable (now index) (now attributes) (now sections) (now words) (now schemas) (narrowed (started .at)) (head .units) decided) ⌝ }
     ensures { λ r. ⌜ ((table s attrs codes : List ℕ) (header : Header) (ds : List Binding) → (
-        let z = sessionOf head (now (levels .entry)) (now (bindings .entry)) (now (spaces .entry)) (now (strands .entry)) in
+        let z = sessionAt head (now (levels .entry)) (now (bindings .entry)) in
         let t = decode table in
         let e = startOf s (now (bindings .entry)) (now (own .entry)) attrs codes (started .at) (started .tag) (started .found) in
         TurnReady table header (now (index .entry)) s z
         → Told s (now (bindings .entry)) (now (own .entry)) attrs codes (started .at) (started .tag) (started .found) (started .owned) ds
         → placing ≡ placingOf (elements.spaceOf t s (storedSpace (now (own .entry)) (now (bindings .entry)) (started .found)))
         → DecidedAs t s z (elements.elementOf t s e) decided (now (words .entry)) (now (schemas .entry)) (now (attributes .entry)) (now (sections .entry))
-        → stepBy r (now (levels .exit)) (now (bindings .exit)) (now (spaces .exit)) (now (strands .exit)) (now (out .exit))
+        → stepIn r (now (levels .exit)) (now (bindings .exit)) (now (out .exit))
         ≡ planned (startPlan t s z e ds (started .tag .next)) z (now (out .entry))
         )) ⌝ }
 {
@@ -104,8 +103,6 @@ pub fn open_level(
         head.bound,
         levels,
         bindings,
-        spaces,
-        strands,
     );
     Turn {
         number: 0,

@@ -11,6 +11,7 @@ use crate::steps::stop;
 use attributes::held::put_classes;
 use attributes::held::space_of;
 use reader::Scope;
+use strands::LEVELS;
 use table::words::header_of;
 ghost use mathlib.Core.Path.{_≡_};
 ghost use Prim.Native.Nat.{_+_, _≤_};
@@ -21,9 +22,9 @@ ghost use Rattle.lexer.specs.Tags.{tagAt};
 ghost use Rattle.reader.specs.Namespaces.{declarationsOf};
 ghost use Rattle.reader.specs.Scope.{opensOf};
 ghost use Rattle.reader.specs.Events.{startRead};
-ghost use Rattle.dispatcher.specs.Sessions.{sessionOf};
+ghost use Rattle.dispatcher.specs.Sessions.{sessionAt};
 ghost use Rattle.dispatcher.specs.Stepping.{startPlan, planBy, planned};
-ghost use Rattle.dispatcher.specs.Turns.{LoopReady, Beside, Met, startOf, stepBy};
+ghost use Rattle.dispatcher.specs.Turns.{LoopReady, Beside, Met, startOf, stepIn};
 
 // A start with its namespaces: 21, 22, and what follows.
 fn element_turn(
@@ -32,10 +33,8 @@ fn element_turn(
     scene: &[u8],
     started: Started,
     head: Head,
-    levels: &mut [u32; 3 * Session::DEPTH],
+    levels: &mut [u32; LEVELS],
     bindings: &mut [u32; 4 * Session::BINDINGS],
-    spaces: &mut [u32; 4 * Session::DEPTH],
-    strands: &mut [u32; Session::STRANDS * Session::DEPTH],
     known: &mut [u64; 2 * Scope::KNOWN],
     attrs: &[usize; 80],
     codes: &[usize; 16],
@@ -44,14 +43,14 @@ fn element_turn(
     rows: &mut [u64; 82],
     out: &mut [u8],
 ) -> Turn
-    requires { ⌜ LoopReady (now table) (now index) (now scene) (now known) (sessionOf head (now levels) (now bindings) (now spaces) (now strands)) × Met (now scene) (now bindings) (now own) (now attrs) (now codes) (now known) (head .bound) started ⌝ }
+    requires { ⌜ LoopReady (now table) (now index) (now scene) (now known) (sessionAt head (now levels) (now bindings)) × Met (now scene) (now bindings) (now own) (now attrs) (now codes) (now known) (head .bound) started ⌝ }
     ensures { λ r. ⌜ (
         let s = now (scene .entry) in
-        let z = sessionOf head (now (levels .entry)) (now (bindings .entry)) (now (spaces .entry)) (now (strands .entry)) in
+        let z = sessionAt head (now (levels .entry)) (now (bindings .entry)) in
         let e = startOf s (now (bindings .entry)) (now (own .entry)) (now (attrs .entry)) (now (codes .entry)) (started .at) (started .tag) (started .found) in
         let ds = declarationsOf s (attrsIn (now (attrs .entry)) (started .tag .count)) in
-        (stepBy r (now (levels .exit)) (now (bindings .exit)) (now (spaces .exit)) (now (strands .exit)) (now (out .exit)) ≡ planned (startPlan (decode (now (table .entry))) s z e ds (started .tag .next)) z (now (out .entry)))
-        × Beside (now (table .entry)) s (now (known .exit)) (sessionOf (r .head) (now (levels .exit)) (now (bindings .exit)) (now (spaces .exit)) (now (strands .exit)))
+        (stepIn r (now (levels .exit)) (now (bindings .exit)) (now (out .exit)) ≡ planned (startPlan (decode (now (table .entry))) s z e ds (started .tag .next)) z (now (out .entry)))
+        × Beside (now (table .entry)) s (now (known .exit)) (sessionAt (r .head) (now (levels .exit)) (now (bindings .exit)))
         ) ⌝ }
 {
     let owned = started.owned;
@@ -86,8 +85,7 @@ fn element_turn(
         own,
         bindings,
         known,
-        spaces,
-        strands,
+        levels,
         &mut words,
         &mut schemas,
         attributes,
@@ -106,8 +104,6 @@ fn element_turn(
         head,
         levels,
         bindings,
-        spaces,
-        strands,
         rows,
         out,
     )
@@ -120,10 +116,8 @@ pub fn start_turn(
     scene: &[u8],
     at: usize,
     head: Head,
-    levels: &mut [u32; 3 * Session::DEPTH],
+    levels: &mut [u32; LEVELS],
     bindings: &mut [u32; 4 * Session::BINDINGS],
-    spaces: &mut [u32; 4 * Session::DEPTH],
-    strands: &mut [u32; Session::STRANDS * Session::DEPTH],
     known: &mut [u64; 2 * Scope::KNOWN],
     attrs: &mut [usize; 80],
     own: &mut [u32; 64],
@@ -131,12 +125,12 @@ pub fn start_turn(
     rows: &mut [u64; 82],
     out: &mut [u8],
 ) -> Turn
-    requires { ⌜ LoopReady (now table) (now index) (now scene) (now known) (sessionOf head (now levels) (now bindings) (now spaces) (now strands)) × (at + 1 ≤ length (now scene)) ⌝ }
+    requires { ⌜ LoopReady (now table) (now index) (now scene) (now known) (sessionAt head (now levels) (now bindings)) × (at + 1 ≤ length (now scene)) ⌝ }
     ensures { λ r. ⌜ (
         let s = now (scene .entry) in
-        let z = sessionOf head (now (levels .entry)) (now (bindings .entry)) (now (spaces .entry)) (now (strands .entry)) in
-        (stepBy r (now (levels .exit)) (now (bindings .exit)) (now (spaces .exit)) (now (strands .exit)) (now (out .exit)) ≡ planned (planBy (decode (now (table .entry))) s z (startRead s at (opensOf (z .scope)) (tagAt s (at + 1)) (tagAt s (at + 1) .answer))) z (now (out .entry)))
-        × Beside (now (table .entry)) s (now (known .exit)) (sessionOf (r .head) (now (levels .exit)) (now (bindings .exit)) (now (spaces .exit)) (now (strands .exit)))
+        let z = sessionAt head (now (levels .entry)) (now (bindings .entry)) in
+        (stepIn r (now (levels .exit)) (now (bindings .exit)) (now (out .exit)) ≡ planned (planBy (decode (now (table .entry))) s z (startRead s at (opensOf (z .scope)) (tagAt s (at + 1)) (tagAt s (at + 1) .answer))) z (now (out .entry)))
+        × Beside (now (table .entry)) s (now (known .exit)) (sessionAt (r .head) (now (levels .exit)) (now (bindings .exit)))
         ) ⌝ }
 {
     let mut codes: [usize; 16] = [0; 16];
@@ -149,8 +143,6 @@ pub fn start_turn(
             head,
             levels,
             bindings,
-            spaces,
-            strands,
             known,
             attrs,
             &codes,

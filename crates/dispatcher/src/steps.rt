@@ -16,6 +16,7 @@ use lexer::stops::place_of;
 use lexer::tags::begin_at;
 use reader::Scope;
 use reader::bindings::put_keys;
+use strands::LEVELS;
 use table::Header;
 use table::index::load;
 ghost use mathlib.Core.Path.{_≡_};
@@ -25,9 +26,9 @@ ghost use lib.ListN.{length};
 ghost use Rattle.table.specs.Table.{decode, headerOf};
 ghost use Rattle.table.specs.Judge.{Accepted};
 ghost use Rattle.lexer.specs.Stops.{numberOf, stopPlace};
-ghost use Rattle.dispatcher.specs.Sessions.{sessionOf};
+ghost use Rattle.dispatcher.specs.Sessions.{sessionAt};
 ghost use Rattle.dispatcher.specs.Stepping.{planOf, planned, advanceOf};
-ghost use Rattle.dispatcher.specs.Turns.{LoopReady, Beside, Sized, stopTurn, stepBy, advancedBy};
+ghost use Rattle.dispatcher.specs.Turns.{LoopReady, Beside, Sized, stopTurn, stepIn, advancedIn};
 
 // A refusal: the session's numbers stay.
 pub fn stop(number: u8, place: usize, head: Head) -> Turn
@@ -54,10 +55,8 @@ fn judged_step(
     index: &[u32; 256],
     scene: &[u8],
     head: Head,
-    levels: &mut [u32; 3 * Session::DEPTH],
+    levels: &mut [u32; LEVELS],
     bindings: &mut [u32; 4 * Session::BINDINGS],
-    spaces: &mut [u32; 4 * Session::DEPTH],
-    strands: &mut [u32; Session::STRANDS * Session::DEPTH],
     known: &mut [u64; 2 * Scope::KNOWN],
     attrs: &mut [usize; 80],
     own: &mut [u32; 64],
@@ -65,15 +64,15 @@ fn judged_step(
     rows: &mut [u64; 82],
     out: &mut [u8],
 ) -> Turn
-    requires { ⌜ LoopReady (now table) (now index) (now scene) (now known) (sessionOf head (now levels) (now bindings) (now spaces) (now strands)) ⌝ }
+    requires { ⌜ LoopReady (now table) (now index) (now scene) (now known) (sessionAt head (now levels) (now bindings)) ⌝ }
     ensures { λ r. ⌜ (
-        let z = sessionOf head (now (levels .entry)) (now (bindings .entry)) (now (spaces .entry)) (now (strands .entry)) in
-        (stepBy r (now (levels .exit)) (now (bindings .exit)) (now (spaces .exit)) (now (strands .exit)) (now (out .exit)) ≡ planned (planOf (decode (now (table .entry))) (now (scene .entry)) z) z (now (out .entry)))
-        × Beside (now (table .entry)) (now (scene .entry)) (now (known .exit)) (sessionOf (r .head) (now (levels .exit)) (now (bindings .exit)) (now (spaces .exit)) (now (strands .exit)))
+        let z = sessionAt head (now (levels .entry)) (now (bindings .entry)) in
+        (stepIn r (now (levels .exit)) (now (bindings .exit)) (now (out .exit)) ≡ planned (planOf (decode (now (table .entry))) (now (scene .entry)) z) z (now (out .entry)))
+        × Beside (now (table .entry)) (now (scene .entry)) (now (known .exit)) (sessionAt (r .head) (now (levels .exit)) (now (bindings .exit)))
         ) ⌝ }
 {
     if head.awaited {
-        return awaited_turn(scene, head, levels, spaces, strands, out);
+        return awaited_turn(scene, head, levels, out);
     }
     match begin_at(scene, head.place, head.depth != 0, head.closed) {
         Begin::Start(at) => start_turn(
@@ -84,8 +83,6 @@ fn judged_step(
             head,
             levels,
             bindings,
-            spaces,
-            strands,
             known,
             attrs,
             own,
@@ -93,8 +90,8 @@ fn judged_step(
             rows,
             out,
         ),
-        Begin::End(at) => end_turn(scene, at, head, levels, spaces, strands, out),
-        Begin::Text(at) => text_turn(scene, at, head, spaces, strands, out),
+        Begin::End(at) => end_turn(scene, at, head, levels, out),
+        Begin::Text(at) => text_turn(scene, at, head, levels, out),
         Begin::Finished => stop(9, scene.len(), head),
         Begin::Stopped(x) => stopped(scene, x, head),
     }
@@ -106,18 +103,16 @@ fn judged_steps(
     index: &[u32; 256],
     scene: &[u8],
     from: Head,
-    levels: &mut [u32; 3 * Session::DEPTH],
+    levels: &mut [u32; LEVELS],
     bindings: &mut [u32; 4 * Session::BINDINGS],
-    spaces: &mut [u32; 4 * Session::DEPTH],
-    strands: &mut [u32; Session::STRANDS * Session::DEPTH],
     known: &mut [u64; 2 * Scope::KNOWN],
     most: usize,
     out: &mut [u8],
 ) -> Advanced
-    requires { ⌜ LoopReady (now table) (now index) (now scene) (now known) (sessionOf from (now levels) (now bindings) (now spaces) (now strands)) × Sized (now levels) (now bindings) (now spaces) (now strands) ⌝ }
+    requires { ⌜ LoopReady (now table) (now index) (now scene) (now known) (sessionAt from (now levels) (now bindings)) × Sized (now levels) (now bindings) ⌝ }
     ensures { λ r. ⌜ (
-        let z = sessionOf from (now (levels .entry)) (now (bindings .entry)) (now (spaces .entry)) (now (strands .entry)) in
-        advancedBy r (now (levels .exit)) (now (bindings .exit)) (now (spaces .exit)) (now (strands .exit)) (now (out .exit))
+        let z = sessionAt from (now (levels .entry)) (now (bindings .entry)) in
+        advancedIn r (now (levels .exit)) (now (bindings .exit)) (now (out .exit))
         ≡ advanceOf most (now (table .entry)) (now (scene .entry)) z (now (out .entry))
         ) ⌝ }
 {
@@ -137,8 +132,6 @@ fn judged_steps(
             head,
             levels,
             bindings,
-            spaces,
-            strands,
             known,
             &mut attrs,
             &mut own,
@@ -177,30 +170,19 @@ pub fn steps_from(
     header: Header,
     scene: &[u8],
     from: Head,
-    levels: &mut [u32; 3 * Session::DEPTH],
+    levels: &mut [u32; LEVELS],
     bindings: &mut [u32; 4 * Session::BINDINGS],
-    spaces: &mut [u32; 4 * Session::DEPTH],
-    strands: &mut [u32; Session::STRANDS * Session::DEPTH],
     most: usize,
     out: &mut [u8],
 ) -> Advanced
-    requires { ⌜ (Accepted (now table) ≡ true) × (header ≡ headerOf (now table)) × (length (now scene) ≤ 16777215) × (1 ≤ most) × Sized (now levels) (now bindings) (now spaces) (now strands) ⌝ }
+    requires { ⌜ (Accepted (now table) ≡ true) × (header ≡ headerOf (now table)) × (length (now scene) ≤ 16777215) × (1 ≤ most) × Sized (now levels) (now bindings) ⌝ }
     ensures { λ r. ⌜ (
-        let z = sessionOf from (now (levels .entry)) (now (bindings .entry)) (now (spaces .entry)) (now (strands .entry)) in
-        advancedBy r (now (levels .exit)) (now (bindings .exit)) (now (spaces .exit)) (now (strands .exit)) (now (out .exit))
+        let z = sessionAt from (now (levels .entry)) (now (bindings .entry)) in
+        advancedIn r (now (levels .exit)) (now (bindings .exit)) (now (out .exit))
         ≡ advanceOf most (now (table .entry)) (now (scene .entry)) z (now (out .entry))
         ) ⌝ }
 {
-    if !coherent(
-        table,
-        header,
-        scene,
-        from,
-        levels,
-        bindings,
-        spaces,
-        strands,
-    ) {
+    if !coherent(table, header, scene, from, levels, bindings) {
         return Advanced {
             number: 20,
             place: 0,
@@ -220,8 +202,6 @@ pub fn steps_from(
         from,
         levels,
         bindings,
-        spaces,
-        strands,
         &mut known,
         most,
         out,

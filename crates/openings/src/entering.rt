@@ -1,15 +1,16 @@
 // The strands of an element that starts: those of the level round it, or what their rules make at a new section.
 use crate::STRANDS;
-use crate::levels::count_at;
-use crate::levels::space_at;
 use attributes::Placing;
 use compare::part_of;
 use reader::Found;
 use reader::Scope;
 use reader::clashes::has_uri;
+use strands::LEVELS;
 use strands::entries::stay_all;
 use strands::entries::take_all;
 use strands::entries::take_rules;
+use strands::levels::count_at;
+use strands::levels::space_at;
 ghost use mathlib.Core.Path.{_≡_};
 ghost use mathlib.Core.List.{map};
 ghost use mathlib.Core.Bool.{cond};
@@ -22,6 +23,7 @@ ghost use Rattle.reader.specs.Spans.{span, bytesOf};
 ghost use Rattle.reader.specs.Namespaces.{uriOf};
 ghost use Rattle.reader.specs.Stored.{storedSpace};
 ghost use Rattle.strands.specs.Packed.{strandIn, wordsAt};
+ghost use Rattle.strands.specs.Levels.{levelSpaces, levelStrands};
 ghost use Rattle.strands.specs.Entries.{entriesBy, entriesFrom, stayEntry, counted, strandWord, schemaWord};
 
 // Is the element's namespace that of the level?
@@ -31,23 +33,23 @@ fn joins(
     outer: &[u32; 4 * Scope::BINDINGS],
     found: Found,
     placing: Placing,
-    spaces: &[u32; 4 * Scope::DEPTH],
+    levels: &[u32; LEVELS],
     level: usize,
 ) -> bool
     requires { ⌜ level < 64 ⌝ }
     ensures { λ r. ⌜ (
-        let l = now (spaces .entry) in
+        let l = levelSpaces (now (levels .entry)) in
         r ≡ cond (eqb (getD l (4 * level) 0) 255)
         (sameList (uriOf (now (scene .entry)) (storedSpace (now (own .entry)) (now (outer .entry)) found)) (bytesOf (now (scene .entry)) (span (getD l (4 * level + 1) 0) (getD l (4 * level + 2) 0))))
         (eqb (getD l (4 * level) 0) (placing .class))
         ) ⌝ }
 {
-    let class = space_at(spaces, level, 0);
+    let class = space_at(levels, level, 0);
     if class != 255 {
         return class == (placing.class as u32);
     }
-    let at = space_at(spaces, level, 1) as usize;
-    let len = space_at(spaces, level, 2) as usize;
+    let at = space_at(levels, level, 1) as usize;
+    let len = space_at(levels, level, 2) as usize;
     has_uri(scene, own, outer, found, part_of(scene, at, len))
 }
 
@@ -60,16 +62,15 @@ pub fn next_strands(
     found: Found,
     placing: Placing,
     depth: usize,
-    spaces: &[u32; 4 * Scope::DEPTH],
-    strands: &[u32; STRANDS * Scope::DEPTH],
+    levels: &[u32; LEVELS],
     words: &mut [u32; STRANDS],
     schemas: &mut [u32; STRANDS],
 ) -> usize
-    requires { ⌜ (depth ≤ 64) × (1 ≤ depth → getD (now spaces) (4 * (depth - 1) + 3) 0 ≤ 16) ⌝ }
+    requires { ⌜ (depth ≤ 64) × (1 ≤ depth → getD (levelSpaces (now levels)) (4 * (depth - 1) + 3) 0 ≤ 16) ⌝ }
     ensures { λ r. ⌜ (
-        let l = now (spaces .entry) in
+        let l = levelSpaces (now (levels .entry)) in
         let level = depth - 1 in
-        let ws = wordsAt (now (strands .entry)) level (getD l (4 * level + 3) 0) in
+        let ws = wordsAt (levelStrands (now (levels .entry))) level (getD l (4 * level + 3) 0) in
         let joined = cond (eqb (getD l (4 * level) 0) 255)
         (sameList (uriOf (now (scene .entry)) (storedSpace (now (own .entry)) (now (outer .entry)) found)) (bytesOf (now (scene .entry)) (span (getD l (4 * level + 1) 0) (getD l (4 * level + 2) 0))))
         (eqb (getD l (4 * level) 0) (placing .class)) in
@@ -83,10 +84,10 @@ pub fn next_strands(
         return take_rules(index, 32, placing.class, words, schemas, 0);
     }
     let level = depth - 1;
-    let n = count_at(spaces, level);
-    if joins(scene, own, outer, found, placing, spaces, level) {
-        stay_all(strands, level, n, words, schemas);
+    let n = count_at(levels, level);
+    if joins(scene, own, outer, found, placing, levels, level) {
+        stay_all(levels, level, n, words, schemas);
         return n;
     }
-    take_all(index, strands, level, n, placing.class, words, schemas)
+    take_all(index, levels, level, n, placing.class, words, schemas)
 }

@@ -15,3 +15,4 @@ pub mod Taking
 pub mod UnitNumbers
 pub mod Entered
 pub mod Copies
+pub mod LevelNumbers

@@ -1,4 +1,6 @@
 // The strands of an element that starts: those of its parent, or what their rules make at a new section.
+use crate::LEVELS;
+use crate::levels::strand_at;
 use crate::packed::aimed;
 use crate::packed::is_here;
 use crate::packed::made_by;
@@ -12,21 +14,14 @@ use table::words::rule_of;
 ghost use mathlib.Core.Path.{_≡_};
 ghost use mathlib.Core.List.{List, [], _∷_, map};
 ghost use Prim.Native.Nat.{_+_, _*_, _≤_, _<_};
-ghost use lib.ListN.{length, take, getD};
+ghost use lib.ListN.{length, take};
 ghost use Rattle.laws.specs.Members.{All};
 ghost use Rattle.table.specs.Table.{fallback};
 ghost use Rattle.laws.specs.Over.{overwrite};
 ghost use Rattle.model.specs.Stream.{Entry, allot};
 ghost use Rattle.strands.specs.Packed.{strandIn, wordsAt};
+ghost use Rattle.strands.specs.Levels.{levelStrands};
 ghost use Rattle.strands.specs.Entries.{madeBy, entriesBy, entriesFrom, stayEntry, counted, strandWord, schemaWord, hereCount, Unnumbered};
-
-// The k-th strand of a level.
-pub(crate) fn strand_at(strands: &[u32; 1024], level: usize, k: usize) -> u32
-    requires { ⌜ (level < 64) × (k < 16) ⌝ }
-    ensures { λ r. ⌜ r ≡ getD (now (strands .entry)) (16 * level + k) 0 ⌝ }
-{
-    strands[16 * level + k]
-}
 
 // What is taken where no rule fits: one unwrap strand in the same mode.
 fn fallback_of(mode: u8) -> Rule
@@ -111,7 +106,7 @@ pub fn take_rules(
 // The strands of a new section below a level of n strands; how many, 17 for more than 16.
 pub fn take_all(
     index: &[u32; 256],
-    strands: &[u32; 1024],
+    levels: &[u32; LEVELS],
     level: usize,
     n: usize,
     class: u8,
@@ -120,7 +115,7 @@ pub fn take_all(
 ) -> usize
     requires { ⌜ (level < 64) × (n ≤ 16) ⌝ }
     ensures { λ r. ⌜ (
-        let es = entriesFrom (now (index .entry)) class (wordsAt (now (strands .entry)) level n) in
+        let es = entriesFrom (now (index .entry)) class (wordsAt (levelStrands (now (levels .entry))) level n) in
         (r ≡ counted (length es))
         × (length es ≤ 16 → now (words .exit) ≡ overwrite (now (words .entry)) 0 (map strandWord es))
         × (length es ≤ 16 → now (schemas .exit) ≡ overwrite (now (schemas .entry)) 0 (map schemaWord es))
@@ -129,7 +124,7 @@ pub fn take_all(
     let mut k = 0;
     let mut j = 0;
     while j < n {
-        let w = strand_at(strands, level, j);
+        let w = strand_at(levels, level, j);
         let more = take_rules(index, w, class, words, schemas, k);
         if 16 < more {
             return 17;
@@ -142,7 +137,7 @@ pub fn take_all(
 
 // Inside a section the n strands of the level stay.
 pub fn stay_all(
-    strands: &[u32; 1024],
+    levels: &[u32; LEVELS],
     level: usize,
     n: usize,
     words: &mut [u32; 16],
@@ -150,7 +145,7 @@ pub fn stay_all(
 )
     requires { ⌜ (level < 64) × (n ≤ 16) ⌝ }
     ensures { λ _. ⌜ (
-        let es = map stayEntry (wordsAt (now (strands .entry)) level n) in
+        let es = map stayEntry (wordsAt (levelStrands (now (levels .entry))) level n) in
         (now (words .exit) ≡ overwrite (now (words .entry)) 0 (map strandWord es))
         × (now (schemas .exit) ≡ overwrite (now (schemas .entry)) 0 (map schemaWord es))
         ) ⌝ }
@@ -159,7 +154,7 @@ pub fn stay_all(
     let schema_words: &mut [u32] = schemas;
     let mut j = 0;
     while j < n {
-        strand_words[j] = stay_of(strand_at(strands, level, j));
+        strand_words[j] = stay_of(strand_at(levels, level, j));
         schema_words[j] = 0;
         j += 1;
     }

@@ -1,5 +1,6 @@
 // A text and an end: what each strand of the innermost level writes.
-use crate::entries::strand_at;
+use crate::LEVELS;
+use crate::levels::strand_at;
 use crate::packed::delivers;
 use crate::packed::is_here;
 use crate::packed::target_of;
@@ -13,6 +14,7 @@ ghost use Rattle.reader.specs.Spans.{span};
 ghost use Rattle.model.specs.Records.{plain};
 ghost use Rattle.records.specs.Rows.{laid, laidRows, bodyOf};
 ghost use Rattle.strands.specs.Packed.{wordsAt};
+ghost use Rattle.strands.specs.Levels.{levelStrands};
 ghost use Rattle.strands.specs.Writing.{rowFor, rowOf, eventCount, eventRecords};
 
 // How many records a strand writes.
@@ -29,14 +31,14 @@ fn records_of(w: u32, closes: bool) -> usize
 }
 
 // How many records n strands of a level write.
-pub fn event_count(strands: &[u32; 1024], level: usize, n: usize, closes: bool) -> usize
+pub fn event_count(levels: &[u32; LEVELS], level: usize, n: usize, closes: bool) -> usize
     requires { ⌜ (level < 64) × (n ≤ 16) ⌝ }
-    ensures { λ r. ⌜ (r ≡ total (eventCount closes) (wordsAt (now (strands .entry)) level n)) × (r ≤ 32) ⌝ }
+    ensures { λ r. ⌜ (r ≡ total (eventCount closes) (wordsAt (levelStrands (now (levels .entry))) level n)) × (r ≤ 32) ⌝ }
 {
     let mut k = 0;
     let mut j = 0;
     while j < n {
-        k += records_of(strand_at(strands, level, j), closes);
+        k += records_of(strand_at(levels, level, j), closes);
         j += 1;
     }
     k
@@ -74,7 +76,7 @@ pub(crate) fn plain_row(unit: u32, kind: u8, class: u8) -> Row
 
 // The row, for each of n strands of a level that delivers, and a close if its unit opened at this element and the event closes.
 pub fn write_event(
-    strands: &[u32; 1024],
+    levels: &[u32; LEVELS],
     level: usize,
     n: usize,
     row: Row,
@@ -82,12 +84,12 @@ pub fn write_event(
     out: &mut [u8],
 ) -> usize
     requires { ⌜ (level < 64) × (n ≤ 16) ⌝ }
-    ensures { λ r. ⌜ laid (now (out .exit)) r ≡ laidRows (laid (now (out .entry)) 0) (map rowOf (gather (eventRecords (bodyOf row) closes) (wordsAt (now (strands .entry)) level n))) ⌝ }
+    ensures { λ r. ⌜ laid (now (out .exit)) r ≡ laidRows (laid (now (out .entry)) 0) (map rowOf (gather (eventRecords (bodyOf row) closes) (wordsAt (levelStrands (now (levels .entry))) level n))) ⌝ }
 {
     let mut used = 0;
     let mut j = 0;
     while j < n {
-        let w = strand_at(strands, level, j);
+        let w = strand_at(levels, level, j);
         let due = delivers(w);
         let unit = target_of(w);
         let next = put_row_if(out, used, due, with_unit(row, unit));

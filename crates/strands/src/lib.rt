@@ -3,9 +3,15 @@ pub mod counts;
 pub mod elements;
 pub mod entries;
 pub mod events;
+pub mod levels;
 pub mod packed;
 pub mod rules;
 pub mod units;
+
+use reader::Scope;
+
+// The numbers of all levels, 24 to a level.
+pub const LEVELS: usize = 24 * Scope::DEPTH;
 
 // Attribute units: how many, and how many records they have.
 pub struct Load {

@@ -1,11 +1,11 @@
 -- `capi::advance_bytes` meets its contract.
 use borrow.Author.Needs.{needs}
-use Rattle.dispatcher.specs.Sessions.{sessionOf}
+use Rattle.dispatcher.specs.Sessions.{sessionAt}
 use Rattle.dispatcher.specs.Stepping.{advanceOf}
 use Rattle.dispatcher.specs.declared.Stepped.{Stepped}
 use Rattle.capi.specs.Layout.{sessionIn}
 use Rattle.capi.proofs.ByteSteps.{none-held, no-event, some-events}
-use Rattle.capi.proofs.Lent.{parts-joined, arrays-sized, lent-handed}
+use Rattle.capi.proofs.Lent.{parts-joined, lent-handed}
 use Rattle.capi.proofs.advance_bytes.Statement.{statement}
 use Rattle.capi.proofs.advance_bytes.Tie as tie
 
@@ -31,10 +31,7 @@ head-in-requires : tie.Need-head-in-requires
 head-in-requires c κs = search needs
 
 advance-in-requires : tie.Need-advance-in-requires
-advance-in-requires c κs =
-    let ar = c .before .before .before .before .before .before .before .arrays-in in
-    let before = ar .last .1 in
-    arrays-sized (c .before .before .before .before .before .before .before .before .before .before .before .before .before .before .before .before .before .before .before .before .args .session .now) (before .0) (before .1 .0) (before .1 .1 .0) (before .1 .1 .1 .0) (ar .ensures .0) (ar .ensures .1) (ar .ensures .2) (ar .ensures .3)
+advance-in-requires c κs = c .before .before .before .before .before .arrays-in .ensures .0
 
 answer-of-requires : tie.Need-answer-of-requires
 answer-of-requires c κs = search needs
@@ -47,23 +44,23 @@ same-length-3 c = search needs
 
 returns-2 : tie.Need-returns-2
 returns-2 c =
-    let a = c .before .before .before .before .before .before .before .before .before .before .before .before .before .before .before .before .before .before .before .before .before .before .before .before .before .before .args in
-    let held = c .before .before .before .before .before .before .before .before .before .before .before .before .before .before .before .before .before .before .before .before .holds-session in
-    let ar = c .before .before .before .before .before .before .before .before .before .before .before .before .before .arrays-in in
-    let hd = c .before .before .before .before .before .before .before .before .before .before .before .head-in in
+    let a = c .before .before .before .before .before .before .before .before .before .before .before .before .before .before .before .before .before .before .before .before .before .before .args in
+    let held = c .before .before .before .before .before .before .before .before .before .before .before .before .before .before .before .before .holds-session in
+    let ar = c .before .before .before .before .before .before .before .before .before .before .before .arrays-in in
+    let hd = c .before .before .before .before .before .before .before .before .before .head-in in
     let s = c .before .before .before .before .before .advance-in in
     let w = c .before .before .answer-of in
     let before = ar .last .1 in
     let after = s .last .1 .1 .1 in
-    let z = sessionOf (hd .result) (before .0) (before .1 .0) (before .1 .1 .0) (before .1 .1 .1 .0) in
-    let joined = parts-joined (sessionIn (a .session .now)) (hd .result) (before .0) (before .1 .0) (before .1 .1 .0) (before .1 .1 .1 .0) (hd .ensures) (ar .ensures .0) (ar .ensures .1) (ar .ensures .2) (ar .ensures .3) in
-    let out′ = after .1 .1 .1 .1 .1 .0 in
-    let gone = lent-handed (s .result) (w .result) (after .0) (after .1 .0) (after .1 .1 .0) (after .1 .1 .1 .0) out′ (advanceOf (a .most) (a .table .now) (a .scene .now) z (a .out .now)) (w .ensures) (s .ensures) in
-    let r : Stepped = record { answer = w .result; session = sessionOf (s .result .head) (after .0) (after .1 .0) (after .1 .1 .0) (after .1 .1 .1 .0) } in
-    no-event (a .most) (a .table .now) (a .scene .now) (a .session .now) (a .out .now) (held .result) (held .ensures) (c .before .before .before .before .before .before .before .before .before .before .before .before .before .before .before .before .before .before .before .if1 .left) z joined r out′ gone (c .if2 .taken)
+    let z = sessionAt (hd .result) (before .0) (before .1 .0) in
+    let joined = parts-joined (sessionIn (a .session .now)) (hd .result) (before .0) (before .1 .0) (hd .ensures) (ar .ensures .1) (ar .ensures .2) (ar .ensures .3) (ar .ensures .4) in
+    let out′ = after .1 .1 .1 .0 in
+    let gone = lent-handed (s .result) (w .result) (after .0) (after .1 .0) out′ (advanceOf (a .most) (a .table .now) (a .scene .now) z (a .out .now)) (w .ensures) (s .ensures) in
+    let r : Stepped = record { answer = w .result; session = sessionAt (s .result .head) (after .0) (after .1 .0) } in
+    no-event (a .most) (a .table .now) (a .scene .now) (a .session .now) (a .out .now) (held .result) (held .ensures) (c .before .before .before .before .before .before .before .before .before .before .before .before .before .before .before .if1 .left) z joined r out′ gone (c .if2 .taken)
 
 put-session-requires : tie.Need-put-session-requires
-put-session-requires c κs = c .before .before .before .before .before .before .before .before .before .before .before .before .before .before .before .before .before .before .before .before .before .before .before .before .before .before .before .before .before .before .before .pre
+put-session-requires c κs = c .before .before .before .before .before .before .before .before .before .before .before .before .before .before .before .before .before .before .before .before .before .before .before .before .before .pre
 
 same-length-4 : tie.Need-same-length-4
 same-length-4 c = search needs
@@ -73,20 +70,20 @@ same-length-5 c = search needs
 
 returns-3 : tie.Need-returns-3
 returns-3 c =
-    let a = c .before .before .before .before .before .before .before .before .before .before .before .before .before .before .before .before .before .before .before .before .before .before .before .before .before .before .before .before .before .before .before .before .before .before .args in
-    let held = c .before .before .before .before .before .before .before .before .before .before .before .before .before .before .before .before .before .before .before .before .before .before .before .before .before .before .before .before .holds-session in
-    let ar = c .before .before .before .before .before .before .before .before .before .before .before .before .before .before .before .before .before .before .before .before .before .arrays-in in
-    let hd = c .before .before .before .before .before .before .before .before .before .before .before .before .before .before .before .before .before .before .before .head-in in
-    let s = c .before .before .before .before .before .before .before .before .before .before .before .before .before .advance-in in
-    let w = c .before .before .before .before .before .before .before .before .before .before .answer-of in
+    let a = c .before .before .before .before .before .before .before .before .before .before .before .before .before .before .before .before .before .before .before .before .before .before .before .before .before .before .before .before .args in
+    let held = c .before .before .before .before .before .before .before .before .before .before .before .before .before .before .before .before .before .before .before .before .before .before .holds-session in
+    let ar = c .before .before .before .before .before .before .before .before .before .before .before .before .before .before .before .before .before .arrays-in in
+    let hd = c .before .before .before .before .before .before .before .before .before .before .before .before .before .before .before .head-in in
+    let s = c .before .before .before .before .before .before .before .before .before .before .before .advance-in in
+    let w = c .before .before .before .before .before .before .before .before .answer-of in
     let before = ar .last .1 in
     let after = s .last .1 .1 .1 in
-    let z = sessionOf (hd .result) (before .0) (before .1 .0) (before .1 .1 .0) (before .1 .1 .1 .0) in
-    let joined = parts-joined (sessionIn (a .session .now)) (hd .result) (before .0) (before .1 .0) (before .1 .1 .0) (before .1 .1 .1 .0) (hd .ensures) (ar .ensures .0) (ar .ensures .1) (ar .ensures .2) (ar .ensures .3) in
-    let out′ = after .1 .1 .1 .1 .1 .0 in
-    let gone = lent-handed (s .result) (w .result) (after .0) (after .1 .0) (after .1 .1 .0) (after .1 .1 .1 .0) out′ (advanceOf (a .most) (a .table .now) (a .scene .now) z (a .out .now)) (w .ensures) (s .ensures) in
-    let r : Stepped = record { answer = w .result; session = sessionOf (s .result .head) (after .0) (after .1 .0) (after .1 .1 .0) (after .1 .1 .1 .0) } in
-    some-events (a .most) (a .table .now) (a .scene .now) (a .session .now) (a .out .now) (held .result) (held .ensures) (c .before .before .before .before .before .before .before .before .before .before .before .before .before .before .before .before .before .before .before .before .before .before .before .before .before .before .before .if1 .left) z joined r out′ gone _ (c .before .before .before .before .before .before .before .before .if2 .left) (c .before .before .put-session .ensures)
+    let z = sessionAt (hd .result) (before .0) (before .1 .0) in
+    let joined = parts-joined (sessionIn (a .session .now)) (hd .result) (before .0) (before .1 .0) (hd .ensures) (ar .ensures .1) (ar .ensures .2) (ar .ensures .3) (ar .ensures .4) in
+    let out′ = after .1 .1 .1 .0 in
+    let gone = lent-handed (s .result) (w .result) (after .0) (after .1 .0) out′ (advanceOf (a .most) (a .table .now) (a .scene .now) z (a .out .now)) (w .ensures) (s .ensures) in
+    let r : Stepped = record { answer = w .result; session = sessionAt (s .result .head) (after .0) (after .1 .0) } in
+    some-events (a .most) (a .table .now) (a .scene .now) (a .session .now) (a .out .now) (held .result) (held .ensures) (c .before .before .before .before .before .before .before .before .before .before .before .before .before .before .before .before .before .before .before .before .before .if1 .left) z joined r out′ gone _ (c .before .before .before .before .before .before .if2 .left) (c .before .before .put-session .ensures)
 
 pub advance-bytes-spec : {M : Type 1} → statement M
 advance-bytes-spec =

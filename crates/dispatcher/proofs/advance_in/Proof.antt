@@ -1,6 +1,6 @@
 -- `advance_in` meets its contract: no step to take, a table that judge refuses, a scene that is too long, and the rest.
 use native.Mathlib.Omega.{arith}
-use Rattle.dispatcher.specs.Sessions.{sessionOf}
+use Rattle.dispatcher.specs.Sessions.{sessionAt}
 use Rattle.dispatcher.proofs.RunTurns.{none-advanced, advance-none, advance-refused, advance-too-long, then-accepted}
 use borrow.Author.Needs.{needs}
 use Rattle.dispatcher.proofs.advance_in.Statement.{statement}
@@ -13,8 +13,8 @@ returns : tie.Need-returns
 returns c =
     let a = c .before .before .before .before .before .args in
     let n = c .none-taken in
-    let z = sessionOf (a .head) (a .levels .now) (a .bindings .now) (a .spaces .now) (a .strands .now) in
-    none-advanced (n .result) (a .head) (a .levels .now) (a .bindings .now) (a .spaces .now) (a .strands .now) (a .out .now) _ (n .ensures .1)
+    let z = sessionAt (a .head) (a .levels .now) (a .bindings .now) in
+    none-advanced (n .result) (a .head) (a .levels .now) (a .bindings .now) (a .out .now) _ (n .ensures .1)
     (advance-none (a .table .now) (a .scene .now) z (a .out .now) (a .most) _ (omega (arith, c .before .if1 .taken)) (n .ensures .0))
 
 judge-requires : tie.Need-judge-requires
@@ -28,8 +28,8 @@ returns-2 c =
     let a = c .before .before .before .before .before .before .before .before .args in
     let j = c .before .before .before .judge in
     let n = c .none-taken2 in
-    let z = sessionOf (a .head) (a .levels .now) (a .bindings .now) (a .spaces .now) (a .strands .now) in
-    none-advanced (n .result) (a .head) (a .levels .now) (a .bindings .now) (a .spaces .now) (a .strands .now) (a .out .now) _ (n .ensures .1)
+    let z = sessionAt (a .head) (a .levels .now) (a .bindings .now) in
+    none-advanced (n .result) (a .head) (a .levels .now) (a .bindings .now) (a .out .now) _ (n .ensures .1)
     (advance-refused (a .table .now) (a .scene .now) (j .result) (j .ensures) (a .most) (omega (arith, c .before .before .before .before .if1 .left)) z (a .out .now) _ (c .before .if2 .taken) (n .ensures .0))
 
 none-taken-requires-3 : tie.Need-none-taken-requires-3
@@ -40,8 +40,8 @@ returns-3 c =
     let a = c .before .before .before .before .before .before .before .before .before .args in
     let j = c .before .before .before .before .judge in
     let n = c .none-taken3 in
-    let z = sessionOf (a .head) (a .levels .now) (a .bindings .now) (a .spaces .now) (a .strands .now) in
-    none-advanced (n .result) (a .head) (a .levels .now) (a .bindings .now) (a .spaces .now) (a .strands .now) (a .out .now) _ (n .ensures .1)
+    let z = sessionAt (a .head) (a .levels .now) (a .bindings .now) in
+    none-advanced (n .result) (a .head) (a .levels .now) (a .bindings .now) (a .out .now) _ (n .ensures .1)
     (advance-too-long (a .table .now) (a .scene .now) (j .result) (j .ensures) (a .most) (omega (arith, c .before .before .before .before .before .if1 .left)) z (a .out .now) _ (c .before .before .if2 .left) (c .before .if3 .taken) (n .ensures .0))
 
 header-of-requires : tie.Need-header-of-requires
@@ -49,9 +49,9 @@ header-of-requires c κs = search needs
 
 steps-from-requires : tie.Need-steps-from-requires
 steps-from-requires c κs =
-    let a = c .before .before .before .before .before .before .before .before .before .before .before .before .before .before .args in
-    let j = c .before .before .before .before .before .before .before .before .before .judge in
-    (then-accepted (a .table .now) (a .scene .now) (j .result) (j .ensures) (c .before .before .before .before .before .before .before .if2 .left), c .before .before .before .before .before .header-of .ensures, c .before .before .before .before .before .before .if3 .left, omega (arith, c .before .before .before .before .before .before .before .before .before .before .if1 .left), c .before .before .before .before .before .before .before .before .before .before .before .before .before .before .pre)
+    let a = c .before .before .before .before .before .before .before .before .before .before .before .before .args in
+    let j = c .before .before .before .before .before .before .before .judge in
+    (then-accepted (a .table .now) (a .scene .now) (j .result) (j .ensures) (c .before .before .before .before .before .if2 .left), c .before .before .before .header-of .ensures, c .before .before .before .before .if3 .left, omega (arith, c .before .before .before .before .before .before .before .before .if1 .left), c .before .before .before .before .before .before .before .before .before .before .before .before .pre)
 
 same-length : tie.Need-same-length
 same-length c = search needs

@@ -1,6 +1,7 @@
 -- `capi::layout::arrays_in` meets its contract.
 use borrow.Author.Needs.{needs}
 use Rattle.capi.specs.Layout.{sessionIn}
+use Rattle.capi.proofs.Lent.{levels-read, arrays-sized}
 use Rattle.capi.proofs.layout.arrays_in.Statement.{statement}
 use Rattle.capi.proofs.layout.arrays_in.Tie as tie
 
@@ -10,15 +11,14 @@ levels-in-requires c κs = search needs
 bindings-in-requires : tie.Need-bindings-in-requires
 bindings-in-requires c κs = search needs
 
-spaces-in-requires : tie.Need-spaces-in-requires
-spaces-in-requires c κs = search needs
-
-strands-in-requires : tie.Need-strands-in-requires
-strands-in-requires c κs = search needs
-
 returns : tie.Need-returns
 unfolding sessionIn
-returns c = (c .before .before .before .before .before .before .levels-in .ensures, c .before .before .before .before .bindings-in .ensures, c .before .before .spaces-in .ensures, c .strands-in .ensures)
+returns c =
+    let b = c .before .before .before .before .before .args .b .now in
+    let e = c .before .before .levels-in .ensures in
+    let f = c .bindings-in .ensures in
+    let l = levels-read b _ e in
+    (arrays-sized b _ e _ f, l .0, f, l .1, l .2)
 
 pub arrays-in-spec : {M : Type 1} → statement M
-arrays-in-spec = tie.close (tie.spec levels-in-requires bindings-in-requires spaces-in-requires strands-in-requires returns)
+arrays-in-spec = tie.close (tie.spec levels-in-requires bindings-in-requires returns)

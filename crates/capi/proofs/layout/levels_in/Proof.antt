@@ -1,72 +1,19 @@
--- `capi::layout::levels_in` meets its contract: the numbers of the first k levels are filled in.
-use mathlib.Core.Path.{_≡_, ap}
-use Prim.Native.Nat.{ℕ, _+_, _-_, _*_, _≤_}
-use native.Mathlib.Omega.{arith}
+-- `capi::layout::levels_in` meets its contract.
+use mathlib.Core.Path.{refl}
+use Prim.Native.Nat.{ℕ, _+_, _*_}
 use borrow.Author.Needs.{needs}
-use lib.ListN.{length}
-use Rattle.laws.specs.Lists.{tabulate}
-use Rattle.laws.specs.Over.{overwrite}
-use Rattle.capi.specs.Layout.{word4, levelAt}
-use Rattle.capi.proofs.Filled.{fill-start, fill-some, fill-end}
+use Rattle.capi.specs.Layout.{word4}
+use Rattle.capi.proofs.Filled.{fill-end}
 use Rattle.capi.proofs.layout.levels_in.Statement.{statement}
 use Rattle.capi.proofs.layout.levels_in.Tie as tie
 
-abbrev Inv-loop : tie.InvT-loop
-Inv-loop b all₀ k₀ all k = (k ≤ 64) × (length all₀ ≡ 192) × (length all ≡ 192) × (all ≡ overwrite all₀ 0 (tabulate (λ (i : ℕ). word4 b (levelAt i)) 0 (3 * k)))
-
-abbrev μ-loop : tie.MeasureT-loop
-μ-loop b all₀ k₀ all k = 64 - k
-
-loop-holds : tie.Need-loop-holds Inv-loop μ-loop
-loop-holds c = let a = c .before .before .args in (search needs, search needs, search needs, fill-start (λ (i : ℕ). word4 (a .b .now) (levelAt i)) _ 0)
-
-mul-words-in : tie.Need-mul-words-in Inv-loop μ-loop
-mul-words-in c = search needs
-
-add-words-in : tie.Need-add-words-in Inv-loop μ-loop
-add-words-in c = search needs
-
-mul-words-in-2 : tie.Need-mul-words-in-2 Inv-loop μ-loop
-mul-words-in-2 c = search needs
-
-words-in-requires : tie.Need-words-in-requires Inv-loop μ-loop
+words-in-requires : tie.Need-words-in-requires
 words-in-requires c κs = search needs
 
-add-k : tie.Need-add-k Inv-loop μ-loop
-add-k c = search needs
-
-loop-less : tie.Need-loop-less Inv-loop μ-loop
-loop-less c = search needs
-
-loop-again : tie.Need-loop-again Inv-loop μ-loop
-loop-again c =
-    let b = c .before .before .before .before .before .before .before .before .args .b .now in
-    let l = c .before .before .before .before .before .loop in (
-      omega arith,
-      l .inv .1,
-      search needs,
-      fill-some (λ (i : ℕ). word4 b (levelAt i)) _ (λ (i : ℕ). word4 b (1064 + 96 * l .k + 4 * i)) (l .all) _ (3 * l .k) 3 (3 * (l .k + 1)) (omega arith)
-          (λ j h. ap (word4 b) (omega arith)) (l .inv .3) (c .before .before .words-in .ensures),
-    )
-
-returns : tie.Need-returns Inv-loop μ-loop
+returns : tie.Need-returns
 returns c =
-    let b = c .before .before .before .before .args .b .now in
-    let l = c .before .loop in
-    fill-end (λ (i : ℕ). word4 b (levelAt i)) _ (l .all) (3 * l .k) 192 (l .inv .1) (omega arith) (l .inv .3)
+    let b = c .before .before .before .args .b .now in
+    fill-end (λ (i : ℕ). word4 b (1064 + 4 * i)) _ _ 1536 1536 (search needs) refl (c .words-in .ensures)
 
 pub levels-in-spec : {M : Type 1} → statement M
-levels-in-spec =
-    tie.close
-    (tie.spec
-    Inv-loop
-    μ-loop
-    loop-holds
-    mul-words-in
-    add-words-in
-    mul-words-in-2
-    words-in-requires
-    add-k
-    loop-less
-    loop-again
-    returns)
+levels-in-spec = tie.close (tie.spec words-in-requires returns)

@@ -1,9 +1,8 @@
 -- `capi::layout::put_level` meets its contract.
+use borrow.Author.Needs.{needs}
 use Prim.Native.Nat.{_+_, _*_}
 use native.Mathlib.Omega.{arith}
-use borrow.Author.Needs.{needs}
-use borrow.Author.Needs.{needs}
-use Rattle.capi.proofs.Stored.{level-end}
+use Rattle.capi.proofs.Stored.{level-stored}
 use Rattle.capi.proofs.layout.put_level.Statement.{statement}
 use Rattle.capi.proofs.layout.put_level.Tie as tie
 
@@ -25,6 +24,9 @@ add-put-words c = search needs
 mul-put-words-2 : tie.Need-mul-put-words-2
 mul-put-words-2 c = search needs
 
+add-put-words-2 : tie.Need-add-put-words-2
+add-put-words-2 c = search needs
+
 put-words-requires-2 : tie.Need-put-words-requires-2
 put-words-requires-2 c κs = search needs
 
@@ -34,11 +36,14 @@ add-put4 c = search needs
 put4-requires : tie.Need-put4-requires
 put4-requires c κs = search needs
 
-add-put-words-2 : tie.Need-add-put-words-2
-add-put-words-2 c = search needs
+add-put-words-3 : tie.Need-add-put-words-3
+add-put-words-3 c = search needs
 
 mul-put-words-3 : tie.Need-mul-put-words-3
 mul-put-words-3 c = search needs
+
+add-put-words-4 : tie.Need-add-put-words-4
+add-put-words-4 c = search needs
 
 put-words-requires-3 : tie.Need-put-words-requires-3
 put-words-requires-3 c κs = search needs
@@ -48,8 +53,8 @@ same-length c = search needs
 
 returns : tie.Need-returns
 returns c =
-    let a = c .before .before .before .before .before .before .before .before .before .before .before .before .before .before .before .before .before .before .before .before .args in
-    level-end (a .levels .now) (a .spaces .now) (a .strands .now) (a .k) (omega arith) (omega arith) (omega arith) (a .b .now) _ _ _ _ (1064 + 96 * a .k) (omega arith) (c .before .before .before .before .before .before .before .before .before .before .before .before .before .before .put-words .ensures) (c .before .before .before .before .before .before .before .before .before .before .put-words2 .ensures) (c .before .before .before .before .before .before .put4 .ensures) (c .before .before .put-words3 .ensures)
+    let a = c .before .before .before .before .before .before .before .before .before .before .before .before .before .before .before .before .before .before .args in
+    level-stored (a .levels .now) (a .k) (omega arith) (omega arith) (a .b .now) _ _ _ _ (1064 + 96 * a .k) (omega arith) (c .before .before .before .before .before .before .before .before .before .before .before .before .before .before .put-words .ensures) (c .before .before .before .before .before .before .before .before .before .before .put-words2 .ensures) (c .before .before .before .before .before .before .put4 .ensures) (c .before .before .put-words3 .ensures)
 
 pub put-level-spec : {M : Type 1} → statement M
 put-level-spec =
@@ -61,11 +66,13 @@ put-level-spec =
     put-words-requires
     add-put-words
     mul-put-words-2
+    add-put-words-2
     put-words-requires-2
     add-put4
     put4-requires
-    add-put-words-2
+    add-put-words-3
     mul-put-words-3
+    add-put-words-4
     put-words-requires-3
     same-length
     returns)

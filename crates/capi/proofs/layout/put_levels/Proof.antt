@@ -7,24 +7,23 @@ use lib.ListN.{length}
 use Rattle.laws.specs.Lists.{tabulate}
 use Rattle.laws.specs.Gather.{gather}
 use Rattle.laws.specs.Over.{overwrite}
+use Rattle.strands.specs.Levels.{levelNames, levelSpaces, levelStrands}
+use Rattle.strands.proofs.LevelNumbers.{each-long}
 use Rattle.capi.specs.Parts.{levelWords}
 use Rattle.capi.proofs.Stored.{levels-start, levels-more, levels-end}
 use Rattle.capi.proofs.layout.put_levels.Statement.{statement}
 use Rattle.capi.proofs.layout.put_levels.Tie as tie
 
 abbrev Inv-loop : tie.InvT-loop
-Inv-loop b₀ levels spaces strands names uris packed k₀ b k = (k ≤ 64) × (length levels ≡ 192) × (length spaces ≡ 256) × (length strands ≡ 1024) × (length b ≡ length b₀) × (b ≡ overwrite b₀ 1064 (gather (levelWords levels spaces strands) (tabulate (λ (i : ℕ). i) 0 k)))
+Inv-loop b₀ levels all k₀ b k = (k ≤ 64) × (length all ≡ 1536) × (length b ≡ length b₀) × (b ≡ overwrite b₀ 1064 (gather (levelWords (levelNames levels) (levelSpaces levels) (levelStrands levels)) (tabulate (λ (i : ℕ). i) 0 k)))
 
 abbrev μ-loop : tie.MeasureT-loop
-μ-loop b₀ levels spaces strands names uris packed k₀ b k = 64 - k
+μ-loop b₀ levels all k₀ b k = 64 - k
 
 loop-holds : tie.Need-loop-holds Inv-loop μ-loop
 loop-holds c =
-    let a = c .before .before .before .before .args in
-    let m = c .before .before .names .given .0 in
-    let n = c .before .uris .given .0 in
-    let o = c .packed .given .0 in
-    (omega arith, m, n, o, refl, levels-start (a .levels .now) (a .spaces .now) (a .strands .now) m n o (a .b .now))
+    let l = c .before .before .args .levels .now in
+    (omega arith, c .all .given .0, refl, levels-start (levelNames l) (levelSpaces l) (levelStrands l) (each-long 3 0 l) (each-long 4 3 l) (each-long 16 8 l) (c .before .before .args .b .now))
 
 put-level-requires : tie.Need-put-level-requires Inv-loop μ-loop
 put-level-requires c κs = search needs
@@ -37,14 +36,13 @@ loop-less c = search needs
 
 loop-again : tie.Need-loop-again Inv-loop μ-loop
 loop-again c =
-    let a = c .before .before .before .before .before .before .before .before .before .before .args in
+    let a = c .before .before .before .before .before .before .before .before .args in
+    let all = a .levels .now in
     let l = c .before .before .before .before .before .loop in (
       omega arith,
       l .inv .1,
-      l .inv .2,
-      l .inv .3,
       search needs,
-      levels-more (a .levels .now) (a .spaces .now) (a .strands .now) (l .inv .1) (l .inv .2) (l .inv .3) (a .b .now) (l .b) _ (l .k) (omega arith) (omega arith) (l .inv .5) (c .before .before .put-level .ensures),
+      levels-more (levelNames all) (levelSpaces all) (levelStrands all) (each-long 3 0 all) (each-long 4 3 all) (each-long 16 8 all) (a .b .now) (l .b) _ (l .k) (omega arith) (omega arith) (l .inv .3) (c .before .before .put-level .ensures),
     )
 
 same-length : tie.Need-same-length Inv-loop μ-loop
@@ -52,9 +50,10 @@ same-length c = search needs
 
 returns : tie.Need-returns Inv-loop μ-loop
 returns c =
-    let a = c .before .before .before .before .before .before .args in
+    let a = c .before .before .before .before .args in
+    let all = a .levels .now in
     let l = c .before .loop in
-    levels-end (a .levels .now) (a .spaces .now) (a .strands .now) (l .inv .1) (l .inv .2) (l .inv .3) (a .b .now) (l .b) (l .k) (omega arith) (l .inv .5)
+    levels-end (levelNames all) (levelSpaces all) (levelStrands all) (each-long 3 0 all) (each-long 4 3 all) (each-long 16 8 all) (a .b .now) (l .b) (l .k) (omega arith) (l .inv .3)
 
 pub put-levels-spec : {M : Type 1} → statement M
 put-levels-spec =

@@ -1,6 +1,6 @@
 -- `capi::layout::put_session` meets its contract.
 use borrow.Author.Needs.{needs}
-use Rattle.dispatcher.specs.Sessions.{sessionOf}
+use Rattle.dispatcher.specs.Sessions.{sessionAt}
 use Rattle.capi.proofs.Stored.{session-end}
 use Rattle.capi.proofs.layout.put_session.Statement.{statement}
 use Rattle.capi.proofs.layout.put_session.Tie as tie
@@ -21,7 +21,7 @@ returns : tie.Need-returns
 returns c =
     let a = c .before .before .before .before .before .before .before .before .before .before .before .before .before .args in
     let stored = c .before .before .before .before .before .before .put-bindings .ensures in
-    session-end (a .b .now) _ _ _ (sessionOf (a .head) (a .levels .now) (a .bindings .now) (a .spaces .now) (a .strands .now)) (stored .1) (c .before .before .before .before .before .before .before .before .before .before .put-head .ensures) (stored .0) (c .before .before .put-levels .ensures)
+    session-end (a .b .now) _ _ _ (sessionAt (a .head) (a .levels .now) (a .bindings .now)) (stored .1) (c .before .before .before .before .before .before .before .before .before .before .put-head .ensures) (stored .0) (c .before .before .put-levels .ensures)
 
 pub put-session-spec : {M : Type 1} → statement M
 put-session-spec =

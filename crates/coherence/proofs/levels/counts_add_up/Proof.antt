@@ -4,12 +4,13 @@ use mathlib.Core.Path.{_≡_}
 use native.Mathlib.Omega.{arith}
 use borrow.Author.Needs.{needs}
 use Rattle.reader.specs.Counted.{countOf}
+use Rattle.strands.specs.Levels.{levelNames}
 use Rattle.coherence.proofs.CheckTurns.{counts-start, counts-over, counts-on, counts-end}
 use Rattle.coherence.proofs.levels.counts_add_up.Statement.{statement}
 use Rattle.coherence.proofs.levels.counts_add_up.Tie as tie
 
 abbrev Inv-loop : tie.InvT-loop
-Inv-loop levels depth bound left₀ k₀ left k = (k ≤ depth) × (left + countOf levels k ≡ bound)
+Inv-loop levels depth bound left₀ k₀ left k = (k ≤ depth) × (left + countOf (levelNames levels) k ≡ bound)
 
 abbrev μ-loop : tie.MeasureT-loop
 μ-loop levels depth bound left₀ k₀ left k = depth - k

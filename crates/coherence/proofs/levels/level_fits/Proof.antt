@@ -1,14 +1,20 @@
 -- `levels::level_fits` meets its contract, also past the arrays.
-use borrow.Author.Needs.{needs}
+use Prim.Native.Nat.{ℕ, _+_, _-_, _*_}
+use mathlib.Core.Path.{_≡_, ap, _∙_}
+use native.Mathlib.Omega.{arith}
+use lib.ListN.{take, drop}
+use Rattle.strands.specs.Levels.{levelNames, levelSpaces, levelStrands}
+use Rattle.strands.proofs.LevelNumbers.{each-long, strand-part}
 use Rattle.coherence.proofs.CheckWays.{level-past, level-name, level-class, level-uri, level-none, level-many, level-strands}
+use borrow.Author.Needs.{needs}
 use Rattle.coherence.proofs.levels.level_fits.Statement.{statement}
 use Rattle.coherence.proofs.levels.level_fits.Tie as tie
 
 returns : tie.Need-returns
-returns c = search (level-past, c .before .numbers .given .0)
+returns c = let a = c .before .before .args in level-past (a .scene .now) (a .listed) (a .modes) (a .units) (levelNames (a .levels .now)) (levelSpaces (a .levels .now)) (levelStrands (a .levels .now)) (a .k) (each-long 4 3 (a .levels .now)) (c .if1 .taken)
 
-name-in-requires : tie.Need-name-in-requires
-name-in-requires c κs = search needs
+name-at-requires : tie.Need-name-at-requires
+name-at-requires c κs = search needs
 
 name-fits-requires : tie.Need-name-fits-requires
 name-fits-requires c κs = search needs
@@ -16,11 +22,11 @@ name-fits-requires c κs = search needs
 returns-2 : tie.Need-returns-2
 returns-2 c = search level-name
 
-mul-number-in : tie.Need-mul-number-in
-mul-number-in c = search needs
+space-at-requires : tie.Need-space-at-requires
+space-at-requires c κs = search needs
 
-number-in-requires : tie.Need-number-in-requires
-number-in-requires c κs = search needs
+cast-class-fits : tie.Need-cast-class-fits
+cast-class-fits c = search needs
 
 class-fits-requires : tie.Need-class-fits-requires
 class-fits-requires c κs = search needs
@@ -28,23 +34,17 @@ class-fits-requires c κs = search needs
 returns-3 : tie.Need-returns-3
 returns-3 c = search level-class
 
-mul-number-in-2 : tie.Need-mul-number-in-2
-mul-number-in-2 c = search needs
+space-at-requires-2 : tie.Need-space-at-requires-2
+space-at-requires-2 c κs = search needs
 
-add-number-in : tie.Need-add-number-in
-add-number-in c = search needs
+cast-at : tie.Need-cast-at
+cast-at c = search needs
 
-number-in-requires-2 : tie.Need-number-in-requires-2
-number-in-requires-2 c κs = search needs
+space-at-requires-3 : tie.Need-space-at-requires-3
+space-at-requires-3 c κs = search needs
 
-mul-number-in-3 : tie.Need-mul-number-in-3
-mul-number-in-3 c = search needs
-
-add-number-in-2 : tie.Need-add-number-in-2
-add-number-in-2 c = search needs
-
-number-in-requires-3 : tie.Need-number-in-requires-3
-number-in-requires-3 c κs = search needs
+cast-len : tie.Need-cast-len
+cast-len c = search needs
 
 inside-requires : tie.Need-inside-requires
 inside-requires c κs = search needs
@@ -52,14 +52,8 @@ inside-requires c κs = search needs
 returns-4 : tie.Need-returns-4
 returns-4 c = search level-uri
 
-mul-number-in-4 : tie.Need-mul-number-in-4
-mul-number-in-4 c = search needs
-
-add-number-in-3 : tie.Need-add-number-in-3
-add-number-in-3 c = search needs
-
-number-in-requires-4 : tie.Need-number-in-requires-4
-number-in-requires-4 c κs = search needs
+count-at-requires : tie.Need-count-at-requires
+count-at-requires c κs = search needs
 
 returns-5 : tie.Need-returns-5
 returns-5 c = search level-none
@@ -69,6 +63,9 @@ returns-6 c = search level-many
 
 mul-from : tie.Need-mul-from
 mul-from c = search needs
+
+add-from : tie.Need-add-from
+add-from c = search needs
 
 add-to : tie.Need-add-to
 add-to c = search needs
@@ -89,34 +86,36 @@ strands-fit-requires : tie.Need-strands-fit-requires
 strands-fit-requires c κs = search needs
 
 returns-7 : tie.Need-returns-7
-returns-7 c = search (level-strands, c .before .before .words .given .0)
+returns-7 c =
+    let a = c .before .before .before .before .before .before .before .before .before .before .before .before .before .before .before .before .before .before .args in
+    let n = c .before .before .before .before .before .count-at .result in
+    let m : 24 * a .k + 8 + n - (24 * a .k + 8) ≡ n = omega arith in
+    let part = ap (λ (i : ℕ). take i (drop (24 * a .k + 8) (a .levels .now))) m ∙ strand-part (a .levels .now) (a .k) n (c .before .before .all .given .0) (omega (arith, c .before .before .before .before .before .before .before .before .before .before .before .before .before .before .before .before .if1 .left)) (c .before .before .before .if6 .left) in
+    search (level-strands, part)
 
 pub level-fits-spec : {M : Type 1} → statement M
 level-fits-spec =
     tie.close
     (tie.spec
     returns
-    name-in-requires
+    name-at-requires
     name-fits-requires
     returns-2
-    mul-number-in
-    number-in-requires
+    space-at-requires
+    cast-class-fits
     class-fits-requires
     returns-3
-    mul-number-in-2
-    add-number-in
-    number-in-requires-2
-    mul-number-in-3
-    add-number-in-2
-    number-in-requires-3
+    space-at-requires-2
+    cast-at
+    space-at-requires-3
+    cast-len
     inside-requires
     returns-4
-    mul-number-in-4
-    add-number-in-3
-    number-in-requires-4
+    count-at-requires
     returns-5
     returns-6
     mul-from
+    add-from
     add-to
     mul-strands-fit
     sub-strands-fit

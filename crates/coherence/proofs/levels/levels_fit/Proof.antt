@@ -3,18 +3,19 @@ use Prim.Native.Nat.{ℕ, _-_}
 use mathlib.Core.Path.{_≡_}
 use borrow.Author.Needs.{needs}
 use Rattle.laws.specs.Lists.{all, tabulate}
+use Rattle.strands.specs.Levels.{levelNames, levelSpaces, levelStrands}
 use Rattle.coherence.specs.Checks.{levelFits}
 use Rattle.coherence.proofs.CheckWays.{levels-start, levels-not, levels-on, levels-done}
 use Rattle.coherence.proofs.levels.levels_fit.Statement.{statement}
 use Rattle.coherence.proofs.levels.levels_fit.Tie as tie
 
 abbrev Inv-loop : tie.InvT-loop
-Inv-loop scene listed modes units levels spaces strands depth k₀ k =
-    all (levelFits scene listed modes units levels spaces strands) (tabulate (λ (i : ℕ). i) k (depth - k))
-    ≡ all (levelFits scene listed modes units levels spaces strands) (tabulate (λ (i : ℕ). i) 0 depth)
+Inv-loop scene listed modes units levels depth k₀ k =
+    all (levelFits scene listed modes units (levelNames levels) (levelSpaces levels) (levelStrands levels)) (tabulate (λ (i : ℕ). i) k (depth - k))
+    ≡ all (levelFits scene listed modes units (levelNames levels) (levelSpaces levels) (levelStrands levels)) (tabulate (λ (i : ℕ). i) 0 depth)
 
 abbrev μ-loop : tie.MeasureT-loop
-μ-loop scene listed modes units levels spaces strands depth k₀ k = depth - k
+μ-loop scene listed modes units levels depth k₀ k = depth - k
 
 loop-holds : tie.Need-loop-holds Inv-loop μ-loop
 loop-holds c = search levels-start

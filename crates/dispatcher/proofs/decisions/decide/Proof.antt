@@ -2,6 +2,7 @@
 use native.Mathlib.Omega.{arith}
 use borrow.Author.Needs.{needs}
 use denote.Ref.{now}
+use Rattle.strands.specs.Levels.{levelNames, levelSpaces, levelStrands}
 use Rattle.dispatcher.proofs.Sorting.{sections-few}
 use Rattle.dispatcher.proofs.NoneForeign.{zeros-laid, zeros-plain}
 use Rattle.dispatcher.proofs.DecideWays.{decided-23, decided-plain, decided-held}
@@ -15,9 +16,9 @@ only-requires : tie.Need-only-requires
 only-requires c κs = search needs
 
 returns : tie.Need-returns
-returns c table levels header ready beside classes met placed =
+returns c table header ready beside classes met placed =
     let a = c .before .before .before .before .before .before .args in
-    decided-23 table levels header (now (a .index)) (now (a .scene)) (now (a .attrs)) (now (a .codes)) (now (a .own)) (now (a .outer)) (now (a .known)) (now (a .spaces)) (now (a .strands)) (a .started) (a .placing) (a .head)
+    decided-23 table (levelNames (now (a .levels))) header (now (a .index)) (now (a .scene)) (now (a .attrs)) (now (a .codes)) (now (a .own)) (now (a .outer)) (now (a .known)) (levelSpaces (now (a .levels))) (levelStrands (now (a .levels))) (a .started) (a .placing) (a .head)
     (record { ready = ready; beside = beside; own-classes = classes; met = met; placed = placed })
     _ _ _ _ _ _ _ _ (c .before .before .next-strands .ensures) (c .before .if1 .taken) (c .only .ensures)
 
@@ -32,10 +33,10 @@ weigh-requires c κs =
     (h .0, omega arith, c .before .before .before .before .before .before .before .before .if1 .left, p .1, λ q. zeros-plain (now (a .scene)) (now (a .attrs)) (a .started .tag .count) _ _ _ _ _ (h .1) (p .5 (c .before .before .before .before .before .before .if2 .taken)))
 
 returns-2 : tie.Need-returns-2
-returns-2 c table levels header ready beside classes met placed =
+returns-2 c table header ready beside classes met placed =
     let a = c .before .before .before .before .before .before .before .before .before .before .before .before .before .before .args in
     let h = c .before .before .before .before .hold-plain .ensures in
-    decided-plain table levels header (now (a .index)) (now (a .scene)) (now (a .attrs)) (now (a .codes)) (now (a .own)) (now (a .outer)) (now (a .known)) (now (a .spaces)) (now (a .strands)) (a .started) (a .placing) (a .head)
+    decided-plain table (levelNames (now (a .levels))) header (now (a .index)) (now (a .scene)) (now (a .attrs)) (now (a .codes)) (now (a .own)) (now (a .outer)) (now (a .known)) (levelSpaces (now (a .levels))) (levelStrands (now (a .levels))) (a .started) (a .placing) (a .head)
     (record { ready = ready; beside = beside; own-classes = classes; met = met; placed = placed })
     _ _ _ _ _ _ _ _ _ _ _ _ (c .before .before .before .before .before .before .before .before .before .before .next-strands .ensures) (c .before .before .before .before .before .before .before .before .before .if1 .left) (h .0) (c .before .before .before .before .before .before .before .if2 .taken) (h .1) (c .weigh .ensures)
 
@@ -54,10 +55,10 @@ weigh-requires-2 c κs =
     (few, sections-few _ _ _ _ _ _ _ few (n .0), c .before .before .before .before .before .before .before .before .before .before .if1 .left, c .before .before .before .before .before .before .before .before .before .before .before .before .before .before .before .pre .1, zeros-laid _ _ _ _ _ _ _ _ _ (n .0) (n .1))
 
 returns-3 : tie.Need-returns-3
-returns-3 c table levels header ready beside classes met placed =
+returns-3 c table header ready beside classes met placed =
     let a = c .before .before .before .before .before .before .before .before .before .before .before .before .before .before .before .before .args in
     let h = c .before .before .before .before .before .before .before .hold .ensures in
-    decided-held table levels header (now (a .index)) (now (a .scene)) (now (a .attrs)) (now (a .codes)) (now (a .own)) (now (a .outer)) (now (a .known)) (now (a .spaces)) (now (a .strands)) (a .started) (a .placing) (a .head)
+    decided-held table (levelNames (now (a .levels))) header (now (a .index)) (now (a .scene)) (now (a .attrs)) (now (a .codes)) (now (a .own)) (now (a .outer)) (now (a .known)) (levelSpaces (now (a .levels))) (levelStrands (now (a .levels))) (a .started) (a .placing) (a .head)
     (record { ready = ready; beside = beside; own-classes = classes; met = met; placed = placed })
     _ _ _ _ _ _ _ _ _ _ _ _ (c .before .before .before .before .before .before .before .before .before .before .before .before .next-strands .ensures) (c .before .before .before .before .before .before .before .before .before .before .before .if1 .left) (h .0) _ (h .1) (c .before .before .before .before .number-sections .ensures) (c .weigh2 .ensures)
 

@@ -13,9 +13,10 @@ use Rattle.model.specs.Stream.{written}
 use Rattle.model.specs.Records.{spaced}
 use Rattle.model.specs.Dispatch.{dispatch}
 use Rattle.records.specs.Rows.{bodyOf}
-use Rattle.dispatcher.specs.Sessions.{classIn, uriIn, sessionOf, stateOf, withEnd}
+use Rattle.strands.specs.Levels.{levelNames, levelSpaces, levelStrands}
+use Rattle.dispatcher.specs.Sessions.{classIn, uriIn, sessionAt, stateOf, withEnd}
 use Rattle.dispatcher.specs.Stepping.{answered}
-use Rattle.dispatcher.specs.Turns.{stepBy}
+use Rattle.dispatcher.specs.Turns.{stepIn}
 use Rattle.dispatcher.specs.declared.Session.{Session}
 use Rattle.dispatcher.specs.declared.Head.{Head}
 use Rattle.dispatcher.specs.declared.Turn.{Turn}
@@ -39,10 +40,10 @@ returns : tie.Need-returns
 returns c = λ (t : Table) (s bindings : List ℕ).
     let b = c .before .before .before .before .before .before in
     let a = b .args in
-    let z = sessionOf (a .head) (a .levels .now) bindings (a .spaces .now) (a .strands .now) in
+    let z = sessionAt (a .head) (a .levels .now) bindings in
     let level = a .head .depth - 1 in
-    ap (λ (r : Turn). stepBy r (a .levels .now) bindings (a .spaces .now) (a .strands .now) (a .out .now)) (c .stop .ensures)
-    ∙ event-full (spaced 5 (a .part) (classIn z level) (uriIn z level)) true (a .strands .now) level _ (getD (a .spaces .now) (4 * level + 3) 0)
+    ap (λ (r : Turn). stepIn r (a .levels .now) bindings (a .out .now)) (c .stop .ensures)
+    ∙ event-full (spaced 5 (a .part) (classIn z level) (uriIn z level)) true (levelStrands (a .levels .now)) level _ (getD (levelSpaces (a .levels .now)) (4 * level + 3) 0)
     (written (dispatch t) (stateOf t s z) (end (a .part)))
     (written-end t s z (b .pre .0) (a .part))
     (c .before .before .before .count-at .ensures)
@@ -65,19 +66,19 @@ returns-2 c = λ (t : Table) (s bindings : List ℕ).
     let b = c .before .before .before .before .before .before .before .before .before .before .before in
     let a = b .args in
     let p = b .pre in
-    let z = sessionOf (a .head) (a .levels .now) bindings (a .spaces .now) (a .strands .now) in
+    let z = sessionAt (a .head) (a .levels .now) bindings in
     let level = a .head .depth - 1 in
     let out = c .before .before .before .write-event .last .1 .1 .1 .1 .1 .0 in
-    ap (λ (h : Head). record { answer = answered 0 (a .place) 1 (c .before .before .before .write-event .result / 16); session = sessionOf h (a .levels .now) bindings (a .spaces .now) (a .strands .now); output = out }) (c .closed-head .ensures)
+    ap (λ (h : Head). record { answer = answered 0 (a .place) 1 (c .before .before .before .write-event .result / 16); session = sessionAt h (a .levels .now) bindings; output = out }) (c .closed-head .ensures)
     ∙ ap (λ (y : Session). record { answer = answered 0 (a .place) 1 (c .before .before .before .write-event .result / 16); session = y; output = out })
-    (closed-session (a .head) (a .place) (a .levels .now) bindings (a .spaces .now) (a .strands .now) (p .0) (p .1))
-    ∙ event-room (spaced 5 (a .part) (classIn z level) (uriIn z level)) true (a .strands .now) level _ (getD (a .spaces .now) (4 * level + 3) 0)
+    (closed-session (a .head) (a .place) (levelNames (a .levels .now)) bindings (levelSpaces (a .levels .now)) (levelStrands (a .levels .now)) (p .0) (p .1))
+    ∙ event-room (spaced 5 (a .part) (classIn z level) (uriIn z level)) true (levelStrands (a .levels .now)) level _ (getD (levelSpaces (a .levels .now)) (4 * level + 3) 0)
     (written (dispatch t) (stateOf t s z) (end (a .part)))
     (written-end t s z (p .0) (a .part))
     (c .before .before .before .before .before .before .before .before .count-at .ensures)
     (a .at) (withEnd z (a .place) (eqb (a .head .depth) 1)) z (a .out .now) (c .before .before .before .before .before .before .before .is-full .result) (c .before .before .before .before .before .before .before .is-full .ensures)
     (c .before .before .before .before .before .end-row .result) _ _ (c .before .before .before .before .before .before .if1 .left)
-    (ap bodyOf (c .before .before .before .before .before .end-row .ensures) ∙ end-body (a .part) (a .spaces .now) level (p .3) (p .4) (p .5))
+    (ap bodyOf (c .before .before .before .before .before .end-row .ensures) ∙ end-body (a .part) (levelSpaces (a .levels .now)) level (p .3) (p .4) (p .5))
     (c .before .before .before .write-event .ensures)
 
 pub end-event-spec : {M : Type 1} → statement M

@@ -1,5 +1,6 @@
 -- `ends::end_row` meets its contract.
 use borrow.Author.Needs.{needs}
+use Rattle.strands.specs.Levels.{levelSpaces}
 use Rattle.dispatcher.proofs.EventTurns.{end-row-is}
 use Rattle.dispatcher.proofs.ends.end_row.Statement.{statement}
 use Rattle.dispatcher.proofs.ends.end_row.Tie as tie
@@ -24,7 +25,7 @@ space-at-requires-3 c κs = search needs
 
 returns : tie.Need-returns
 returns c =
-    end-row-is (c .before .before .before .before .before .args .part) (c .before .before .before .before .before .args .spaces .now) (c .before .before .before .before .before .args .level) _ _ _ _ _
+    end-row-is (c .before .before .before .before .before .args .part) (levelSpaces (c .before .before .before .before .before .args .levels .now)) (c .before .before .before .before .before .args .level) _ _ _ _ _
     (c .before .before .before .before .space-at .ensures) (c .before .before .before .narrow .ensures) (c .before .before .narrow2 .ensures) (c .before .space-at2 .ensures) (c .space-at3 .ensures)
 
 pub end-row-spec : {M : Type 1} → statement M

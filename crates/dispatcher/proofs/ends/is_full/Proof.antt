@@ -4,6 +4,7 @@ use mathlib.Core.Path.{ap}
 use native.Mathlib.Omega.{arith}
 use borrow.Author.Needs.{needs}
 use lib.Dec.{ltb}
+use Rattle.strands.specs.Levels.{levelStrands}
 use Rattle.dispatcher.proofs.EventTurns.{not-full}
 use Rattle.dispatcher.proofs.ends.is_full.Statement.{statement}
 use Rattle.dispatcher.proofs.ends.is_full.Tie as tie
@@ -12,7 +13,7 @@ mul-if1 : tie.Need-mul-if1
 mul-if1 c = search needs
 
 returns : tie.Need-returns
-returns c = let a = c .before .args in not-full (a .len) (a .strands .now) (a .level) (a .n) (a .closes) (omega arith)
+returns c = let a = c .before .args in not-full (a .len) (levelStrands (a .levels .now)) (a .level) (a .n) (a .closes) (omega arith)
 
 event-count-requires : tie.Need-event-count-requires
 event-count-requires c κs = search needs

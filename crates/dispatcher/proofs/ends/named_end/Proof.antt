@@ -4,6 +4,7 @@ use mathlib.Core.Path.{ap}
 use mathlib.Core.List.{List}
 use borrow.Author.Needs.{needs}
 use Rattle.table.specs.Table.{Table}
+use Rattle.strands.specs.Levels.{levelNames, levelSpaces, levelStrands}
 use Rattle.dispatcher.specs.Sessions.{sessionOf}
 use Rattle.dispatcher.specs.Turns.{stepBy}
 use Rattle.dispatcher.specs.declared.Turn.{Turn}
@@ -14,11 +15,11 @@ use Rattle.dispatcher.proofs.ends.named_end.Tie as tie
 span-between-requires : tie.Need-span-between-requires
 span-between-requires c κs = search needs
 
-sub-name-in : tie.Need-sub-name-in
-sub-name-in c = search needs
+sub-name-at : tie.Need-sub-name-at
+sub-name-at c = search needs
 
-name-in-requires : tie.Need-name-in-requires
-name-in-requires c κs = search needs
+name-at-requires : tie.Need-name-at-requires
+name-at-requires c κs = search needs
 
 same-name-requires : tie.Need-same-name-requires
 same-name-requires c κs = search needs
@@ -30,10 +31,10 @@ returns : tie.Need-returns
 returns c = λ (t : Table) (bindings : List ℕ).
     let b = c .before .before .before .before .before .before .before .before .before in
     let a = b .args in
-    let z = sessionOf (a .head) (a .levels .now) bindings (a .spaces .now) (a .strands .now) in
-    unlike-step t (a .scene .now) z (a .out .now) _ (b .pre .0 .some-open) (a .at) (a .tag) (c .before .before .before .before .before .span-between .result) (c .before .before .before .name-in .result) (c .before .before .same-name .result)
-    (c .before .before .before .before .before .span-between .ensures) (c .before .before .before .name-in .ensures) (c .before .before .same-name .ensures) (c .before .if1 .taken)
-    (ap (λ (r : Turn). stepBy r (a .levels .now) bindings (a .spaces .now) (a .strands .now) (a .out .now)) (c .stop .ensures))
+    let z = sessionOf (a .head) (levelNames (a .levels .now)) bindings (levelSpaces (a .levels .now)) (levelStrands (a .levels .now)) in
+    unlike-step t (a .scene .now) z (a .out .now) _ (b .pre .0 .some-open) (a .at) (a .tag) (c .before .before .before .before .before .span-between .result) (c .before .before .before .name-at .result) (c .before .before .same-name .result)
+    (c .before .before .before .before .before .span-between .ensures) (c .before .before .before .name-at .ensures) (c .before .before .same-name .ensures) (c .before .if1 .taken)
+    (ap (λ (r : Turn). stepBy r (levelNames (a .levels .now)) bindings (levelSpaces (a .levels .now)) (levelStrands (a .levels .now)) (a .out .now)) (c .stop .ensures))
 
 span-between-requires-2 : tie.Need-span-between-requires-2
 span-between-requires-2 c κs = search needs
@@ -54,9 +55,9 @@ returns-2 c = λ (t : Table) (bindings : List ℕ).
     let b = c .before .before .before .before .before .before .before .before .before .before .before .before .before in
     let a = b .args in
     let s = a .scene .now in
-    let z = sessionOf (a .head) (a .levels .now) bindings (a .spaces .now) (a .strands .now) in
-    end-step t s z (a .out .now) _ (b .pre .0 .some-open) (a .at) (a .tag) (c .before .before .before .before .before .before .before .before .before .span-between .result) (c .before .before .before .before .before .before .before .name-in .result) (c .before .before .before .before .before .before .same-name .result)
-    (c .before .before .before .before .before .before .before .before .before .span-between .ensures) (c .before .before .before .before .before .before .before .name-in .ensures) (c .before .before .before .before .before .before .same-name .ensures) (c .before .before .before .before .before .if1 .left)
+    let z = sessionOf (a .head) (levelNames (a .levels .now)) bindings (levelSpaces (a .levels .now)) (levelStrands (a .levels .now)) in
+    end-step t s z (a .out .now) _ (b .pre .0 .some-open) (a .at) (a .tag) (c .before .before .before .before .before .before .before .before .before .span-between .result) (c .before .before .before .before .before .before .before .name-at .result) (c .before .before .before .before .before .before .same-name .result)
+    (c .before .before .before .before .before .before .before .before .before .span-between .ensures) (c .before .before .before .before .before .before .before .name-at .ensures) (c .before .before .before .before .before .before .same-name .ensures) (c .before .before .before .before .before .if1 .left)
     (c .before .before .before .before .span-between2 .result) (c .before .before .before .before .span-between2 .ensures) (c .before .before .end-event .ensures t s bindings)
 
 pub named-end-spec : {M : Type 1} → statement M
@@ -64,8 +65,8 @@ named-end-spec =
     tie.close
     (tie.spec
     span-between-requires
-    sub-name-in
-    name-in-requires
+    sub-name-at
+    name-at-requires
     same-name-requires
     stop-requires
     returns

@@ -13,8 +13,9 @@ use Rattle.model.specs.Stream.{written}
 use Rattle.model.specs.Records.{textBody}
 use Rattle.model.specs.Dispatch.{dispatch}
 use Rattle.records.specs.Rows.{bodyOf}
-use Rattle.dispatcher.specs.Sessions.{sessionOf, stateOf, withPlace}
-use Rattle.dispatcher.specs.Turns.{stepBy}
+use Rattle.strands.specs.Levels.{levelSpaces, levelStrands}
+use Rattle.dispatcher.specs.Sessions.{sessionAt, stateOf, withPlace}
+use Rattle.dispatcher.specs.Turns.{stepIn}
 use Rattle.dispatcher.specs.declared.Turn.{Turn}
 use Rattle.dispatcher.proofs.EventTurns.{written-text, event-full, event-room}
 use Rattle.dispatcher.proofs.ends.text_event.Statement.{statement}
@@ -33,13 +34,13 @@ stop-requires : tie.Need-stop-requires
 stop-requires c κs = search needs
 
 returns : tie.Need-returns
-returns c = λ (t : Table) (s levels bindings : List ℕ).
+returns c = λ (t : Table) (s bindings : List ℕ).
     let b = c .before .before .before .before .before .before in
     let a = b .args in
-    let z = sessionOf (a .head) levels bindings (a .spaces .now) (a .strands .now) in
+    let z = sessionAt (a .head) (a .levels .now) bindings in
     let level = a .head .depth - 1 in
-    ap (λ (r : Turn). stepBy r levels bindings (a .spaces .now) (a .strands .now) (a .out .now)) (c .stop .ensures)
-    ∙ event-full (textBody (between (a .at) (a .end))) false (a .strands .now) level _ (getD (a .spaces .now) (4 * level + 3) 0)
+    ap (λ (r : Turn). stepIn r (a .levels .now) bindings (a .out .now)) (c .stop .ensures)
+    ∙ event-full (textBody (between (a .at) (a .end))) false (levelStrands (a .levels .now)) level _ (getD (levelSpaces (a .levels .now)) (4 * level + 3) 0)
     (written (dispatch t) (stateOf t s z) (text (between (a .at) (a .end))))
     (written-text t s z (b .pre .0) (between (a .at) (a .end)))
     (c .before .before .before .count-at .ensures)
@@ -55,12 +56,12 @@ same-length : tie.Need-same-length
 same-length c = search needs
 
 returns-2 : tie.Need-returns-2
-returns-2 c = λ (t : Table) (s levels bindings : List ℕ).
+returns-2 c = λ (t : Table) (s bindings : List ℕ).
     let b = c .before .before .before .before .before .before .before .before .before .before in
     let a = b .args in
-    let z = sessionOf (a .head) levels bindings (a .spaces .now) (a .strands .now) in
+    let z = sessionAt (a .head) (a .levels .now) bindings in
     let level = a .head .depth - 1 in
-    event-room (textBody (between (a .at) (a .end))) false (a .strands .now) level _ (getD (a .spaces .now) (4 * level + 3) 0)
+    event-room (textBody (between (a .at) (a .end))) false (levelStrands (a .levels .now)) level _ (getD (levelSpaces (a .levels .now)) (4 * level + 3) 0)
     (written (dispatch t) (stateOf t s z) (text (between (a .at) (a .end))))
     (written-text t s z (b .pre .0) (between (a .at) (a .end)))
     (c .before .before .before .before .before .before .before .count-at .ensures)

@@ -5,8 +5,9 @@ use mathlib.Core.List.{List}
 use native.Mathlib.Omega.{arith}
 use borrow.Author.Needs.{needs}
 use Rattle.table.specs.Table.{Table}
-use Rattle.dispatcher.specs.Sessions.{sessionOf}
-use Rattle.dispatcher.specs.Turns.{stepBy}
+use Rattle.strands.specs.Levels.{levelNames, levelSpaces, levelStrands}
+use Rattle.dispatcher.specs.Sessions.{sessionAt}
+use Rattle.dispatcher.specs.Turns.{stepIn}
 use Rattle.dispatcher.specs.declared.Turn.{Turn}
 use Rattle.dispatcher.proofs.EventTurns.{text-inside, stopped-step, text-step}
 use Rattle.dispatcher.proofs.ends.text_turn.Statement.{statement}
@@ -36,22 +37,22 @@ same-length : tie.Need-same-length
 same-length c = search needs
 
 returns : tie.Need-returns
-returns c = λ (t : Table) (levels bindings : List ℕ).
+returns c = λ (t : Table) (bindings : List ℕ).
     let b = c .before .before .before .before .before .before .before .before .before .before in
     let a = b .args in
     let s = a .scene .now in
-    let z = sessionOf (a .head) levels bindings (a .spaces .now) (a .strands .now) in
-    text-step t s z (a .out .now) _ (a .at) (c .before .before .before .before .before .before .before .text-end .result) _ (c .before .before .before .before .before .before .before .text-end .ensures) (c .before .before .before .before .before .end .given .1) (c .before .before .text-event .ensures t s levels bindings)
+    let z = sessionAt (a .head) (a .levels .now) bindings in
+    text-step t s z (a .out .now) _ (a .at) (c .before .before .before .before .before .before .before .text-end .result) _ (c .before .before .before .before .before .before .before .text-end .ensures) (c .before .before .before .before .before .end .given .1) (c .before .before .text-event .ensures t s bindings)
 
 returns-2 : tie.Need-returns-2
-returns-2 c = λ (t : Table) (levels bindings : List ℕ).
+returns-2 c = λ (t : Table) (bindings : List ℕ).
     let b = c .before .before .before .before .before .before .before in
     let a = b .args in
     let s = a .scene .now in
-    let z = sessionOf (a .head) levels bindings (a .spaces .now) (a .strands .now) in
+    let z = sessionAt (a .head) (a .levels .now) bindings in
     text-step t s z (a .out .now) _ (a .at) (c .before .before .before .before .text-end .result) _ (c .before .before .before .before .text-end .ensures) (c .before .before .x .given .1)
-    (ap (λ (r : Turn). stepBy r levels bindings (a .spaces .now) (a .strands .now) (a .out .now)) (c .stopped .ensures)
-    ∙ stopped-step s (c .before .before .x .given .0 .0) (a .head) levels bindings (a .spaces .now) (a .strands .now) (a .out .now))
+    (ap (λ (r : Turn). stepIn r (a .levels .now) bindings (a .out .now)) (c .stopped .ensures)
+    ∙ stopped-step s (c .before .before .x .given .0 .0) (a .head) (levelNames (a .levels .now)) bindings (levelSpaces (a .levels .now)) (levelStrands (a .levels .now)) (a .out .now))
 
 pub text-turn-spec : {M : Type 1} → statement M
 text-turn-spec =

@@ -3,6 +3,7 @@ use mathlib.Core.Path.{sym, ap, _∙_, subst}
 use Prim.Native.Nat.{ℕ}
 use borrow.Author.Needs.{needs}
 use Rattle.openings.specs.Openings.{Openable}
+use Rattle.strands.specs.Levels.{levelNames, levelSpaces, levelStrands}
 use Rattle.dispatcher.specs.Turns.{stepBy}
 use Rattle.dispatcher.specs.declared.Turn.{Turn}
 use Rattle.strands.specs.declared.Begun.{Begun}
@@ -17,8 +18,8 @@ returns : tie.Need-returns
 returns c =
     let a = c .before .before .before .before .args in
     λ table s attrs codes header ds ready told placing-is as-decided.
-    ap (λ (r : Turn). stepBy r (a .levels .now) (a .bindings .now) (a .spaces .now) (a .strands .now) (a .out .now)) (c .stop .ensures)
-    ∙ refused-start table s attrs codes header (a .started .found) ds (a .index .now) (a .own .now) (a .words .now) (a .schemas .now) (a .attributes .now) (a .sections .now) (a .started .at) (a .started .tag) (a .placing) (a .started .owned) (a .decided) (a .head) (a .levels .now) (a .bindings .now) (a .spaces .now) (a .strands .now) (a .out .now)
+    ap (λ (r : Turn). stepBy r (levelNames (a .levels .now)) (a .bindings .now) (levelSpaces (a .levels .now)) (levelStrands (a .levels .now)) (a .out .now)) (c .stop .ensures)
+    ∙ refused-start table s attrs codes header (a .started .found) ds (a .index .now) (a .own .now) (a .words .now) (a .schemas .now) (a .attributes .now) (a .sections .now) (a .started .at) (a .started .tag) (a .placing) (a .started .owned) (a .decided) (a .head) (levelNames (a .levels .now)) (a .bindings .now) (levelSpaces (a .levels .now)) (levelStrands (a .levels .now)) (a .out .now)
     (c .before .before .before .before .pre .0) ready told placing-is as-decided (c .before .if1 .taken)
 
 stop-requires-2 : tie.Need-stop-requires-2
@@ -28,8 +29,8 @@ returns-2 : tie.Need-returns-2
 returns-2 c =
     let a = c .before .before .before .before .before .args in
     λ table s attrs codes header ds ready told placing-is as-decided.
-    ap (λ (r : Turn). stepBy r (a .levels .now) (a .bindings .now) (a .spaces .now) (a .strands .now) (a .out .now)) (c .stop2 .ensures)
-    ∙ full-start table s attrs codes header (a .started .found) ds (a .index .now) (a .own .now) (a .words .now) (a .schemas .now) (a .attributes .now) (a .sections .now) (a .started .at) (a .started .tag) (a .placing) (a .started .owned) (a .decided) (a .head) (a .levels .now) (a .bindings .now) (a .spaces .now) (a .strands .now) (a .out .now)
+    ap (λ (r : Turn). stepBy r (levelNames (a .levels .now)) (a .bindings .now) (levelSpaces (a .levels .now)) (levelStrands (a .levels .now)) (a .out .now)) (c .stop2 .ensures)
+    ∙ full-start table s attrs codes header (a .started .found) ds (a .index .now) (a .own .now) (a .words .now) (a .schemas .now) (a .attributes .now) (a .sections .now) (a .started .at) (a .started .tag) (a .placing) (a .started .owned) (a .decided) (a .head) (levelNames (a .levels .now)) (a .bindings .now) (levelSpaces (a .levels .now)) (levelStrands (a .levels .now)) (a .out .now)
     (c .before .before .before .before .before .pre .0) ready told placing-is as-decided (c .before .before .if1 .left) (c .before .if2 .taken)
 
 begun-of-requires : tie.Need-begun-of-requires
@@ -43,8 +44,8 @@ write-start-requires c κs =
 
 push-start-requires : tie.Need-push-start-requires
 push-start-requires c κs =
-    let p = c .before .before .before .before .before .before .before .before .before .before .before .before .before .before .pre in
-    (p .0 .shallow, p .1 (c .before .before .before .before .before .before .before .before .before .before .before .if1 .left) .few-strands, p .0 .few-own, p .0 .few-bound)
+    let p = c .before .before .before .before .before .before .before .before .before .before .before .before .pre in
+    (p .0 .shallow, p .1 (c .before .before .before .before .before .before .before .before .before .if1 .left) .few-strands, p .0 .few-own, p .0 .few-bound)
 
 opened-head-requires : tie.Need-opened-head-requires
 opened-head-requires c κs = search needs
@@ -54,12 +55,12 @@ same-length c = search needs
 
 returns-3 : tie.Need-returns-3
 returns-3 c =
-    let a = c .before .before .before .before .before .before .before .before .before .before .before .before .before .before .before .before .args in
+    let a = c .before .before .before .before .before .before .before .before .before .before .before .before .before .before .args in
     let p = c .before .push-start .ensures in
     λ table s attrs codes header ds ready told placing-is as-decided.
-    room-start table s attrs codes header (a .started .found) ds (a .index .now) (a .own .now) (a .words .now) (a .schemas .now) (a .attributes .now) (a .sections .now) (a .started .at) (a .started .tag) (a .placing) (a .started .owned) (a .decided) (a .head) (a .levels .now) (a .bindings .now) (a .spaces .now) (a .strands .now) (a .out .now)
-    (c .before .before .before .before .before .before .before .before .before .before .before .before .before .before .before .before .pre .0) ready told placing-is as-decided (c .before .before .before .before .before .before .before .before .before .before .before .before .before .if1 .left) (c .before .before .before .before .before .before .before .before .before .before .before .begun-of .result) (c .before .before .before .before .before .before .before .before .before .before .before .begun-of .ensures)
-    (c .opened-head .result) _ _ _ _ _ _ (c .before .before .before .before .before .before .before .before .before .before .before .before .if2 .left) (c .before .before .before .before .before .before .before .before .write-start .ensures) (c .opened-head .ensures) (p .0) (p .1) (p .2) (p .3)
+    room-start table s attrs codes header (a .started .found) ds (a .index .now) (a .own .now) (a .words .now) (a .schemas .now) (a .attributes .now) (a .sections .now) (a .started .at) (a .started .tag) (a .placing) (a .started .owned) (a .decided) (a .head) (levelNames (a .levels .now)) (a .bindings .now) (levelSpaces (a .levels .now)) (levelStrands (a .levels .now)) (a .out .now)
+    (c .before .before .before .before .before .before .before .before .before .before .before .before .before .before .pre .0) ready told placing-is as-decided (c .before .before .before .before .before .before .before .before .before .before .before .if1 .left) (c .before .before .before .before .before .before .before .before .before .begun-of .result) (c .before .before .before .before .before .before .before .before .before .begun-of .ensures)
+    (c .opened-head .result) _ _ _ _ _ _ (c .before .before .before .before .before .before .before .before .before .before .if2 .left) (c .before .before .before .before .before .before .write-start .ensures) (c .opened-head .ensures) (p .0) (p .1) (p .2) (p .3)
 
 pub open-level-spec : {M : Type 1} → statement M
 open-level-spec =

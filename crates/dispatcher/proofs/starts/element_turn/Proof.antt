@@ -5,7 +5,8 @@ use native.Mathlib.Omega.{arith}
 use Rattle.table.specs.Table.{decode, headerOf}
 use Rattle.lexer.specs.Attrs.{attrsIn}
 use Rattle.reader.specs.Namespaces.{declarationsOf}
-use Rattle.dispatcher.specs.Sessions.{sessionOf}
+use Rattle.strands.specs.Levels.{levelNames, levelSpaces, levelStrands}
+use Rattle.dispatcher.specs.Sessions.{sessionAt}
 use Rattle.dispatcher.specs.Turns.{startOf}
 use Rattle.dispatcher.proofs.StartTurns.{few-bound, decidable, deep-turn, bound-turn, roomy, made-openable}
 use Rattle.dispatcher.proofs.Classed.{classed, opened-turn, found-few, names-few}
@@ -23,17 +24,17 @@ returns c =
     let a = b .args in
     let h = b .pre in
     let s = a .scene .now in
-    let z = sessionOf (a .head) (a .levels .now) (a .bindings .now) (a .spaces .now) (a .strands .now) in
+    let z = sessionAt (a .head) (a .levels .now) (a .bindings .now) in
     let ds = declarationsOf s (attrsIn (a .attrs .now) (a .started .tag .count)) in
-    refused-turn (a .table .now) s (a .known .now) (a .head) (a .levels .now) (a .bindings .now) (a .spaces .now) (a .strands .now) (a .out .now) _ _ (h .0 .beside) (c .stop .result) (c .stop .ensures)
-    (deep-turn (decode (a .table .now)) s (a .head) (a .levels .now) (a .bindings .now) (a .spaces .now) (a .strands .now) _ _ (a .started .tag .next) (a .out .now) (c .before .if1 .taken))
+    refused-turn (a .table .now) s (a .known .now) (a .head) (levelNames (a .levels .now)) (a .bindings .now) (levelSpaces (a .levels .now)) (levelStrands (a .levels .now)) (a .out .now) _ _ (h .0 .beside) (c .stop .result) (c .stop .ensures)
+    (deep-turn (decode (a .table .now)) s (a .head) (levelNames (a .levels .now)) (a .bindings .now) (levelSpaces (a .levels .now)) (levelStrands (a .levels .now)) _ _ (a .started .tag .next) (a .out .now) (c .before .if1 .taken))
 
 add-if2 : tie.Need-add-if2
 add-if2 c =
     let b = c .before .before .before .before .before .before in
     let a = b .args in
     let h = b .pre in
-    omega (arith, few-bound (a .table .now) (headerOf (a .table .now)) (a .index .now) (a .scene .now) (a .head) (a .levels .now) (a .bindings .now) (a .spaces .now) (a .strands .now) (h .0 .ready), h .1 .told .owned-is, h .1 .told .few-own)
+    omega (arith, few-bound (a .table .now) (headerOf (a .table .now)) (a .index .now) (a .scene .now) (a .head) (levelNames (a .levels .now)) (a .bindings .now) (levelSpaces (a .levels .now)) (levelStrands (a .levels .now)) (h .0 .ready), h .1 .told .owned-is, h .1 .told .few-own)
 
 stop-requires-2 : tie.Need-stop-requires-2
 stop-requires-2 c κs = search needs
@@ -44,10 +45,10 @@ returns-2 c =
     let a = b .args in
     let h = b .pre in
     let s = a .scene .now in
-    let z = sessionOf (a .head) (a .levels .now) (a .bindings .now) (a .spaces .now) (a .strands .now) in
+    let z = sessionAt (a .head) (a .levels .now) (a .bindings .now) in
     let ds = declarationsOf s (attrsIn (a .attrs .now) (a .started .tag .count)) in
-    refused-turn (a .table .now) s (a .known .now) (a .head) (a .levels .now) (a .bindings .now) (a .spaces .now) (a .strands .now) (a .out .now) _ _ (h .0 .beside) (c .stop2 .result) (c .stop2 .ensures)
-    (bound-turn (decode (a .table .now)) s (a .head) (a .levels .now) (a .bindings .now) (a .spaces .now) (a .strands .now) _ _ (a .started .tag .next) (a .out .now) (c .before .before .before .if1 .left)
+    refused-turn (a .table .now) s (a .known .now) (a .head) (levelNames (a .levels .now)) (a .bindings .now) (levelSpaces (a .levels .now)) (levelStrands (a .levels .now)) (a .out .now) _ _ (h .0 .beside) (c .stop2 .result) (c .stop2 .ensures)
+    (bound-turn (decode (a .table .now)) s (a .head) (levelNames (a .levels .now)) (a .bindings .now) (levelSpaces (a .levels .now)) (levelStrands (a .levels .now)) _ _ (a .started .tag .next) (a .out .now) (c .before .before .before .if1 .left)
     (subst (λ (n : ℕ). 64 < a .head .bound + n) (h .1 .told .owned-is) (c .before .if2 .taken)))
 
 header-of-requires : tie.Need-header-of-requires
@@ -63,36 +64,36 @@ space-of-requires c κs =
     let b = c .before .before .before .before .before .before .before .before .before .before .before .before .before in
     let a = b .args in
     let h = b .pre in
-    found-few (a .table .now) (a .index .now) (a .scene .now) (a .known .now) (a .own .now) (a .attrs .now) (a .codes .now) (a .head) (a .levels .now) (a .bindings .now) (a .spaces .now) (a .strands .now) (a .started) (h .0) (h .1)
+    found-few (a .table .now) (a .index .now) (a .scene .now) (a .known .now) (a .own .now) (a .attrs .now) (a .codes .now) (a .head) (levelNames (a .levels .now)) (a .bindings .now) (levelSpaces (a .levels .now)) (levelStrands (a .levels .now)) (a .started) (h .0) (h .1)
 
 decide-requires : tie.Need-decide-requires
 decide-requires c κs =
-    let b = c .before .before .before .before .before .before .before .before .before .before .before .before .before .before .before .before .before .before .before .before .before .before in
+    let b = c .before .before .before .before .before .before .before .before .before .before .before .before .before .before .before .before .before .before .before .before .before in
     let a = b .args in
     let h = b .pre in
-    let d = decidable (a .table .now) (headerOf (a .table .now)) (a .index .now) (a .scene .now) (a .head) (a .levels .now) (a .bindings .now) (a .spaces .now) (a .strands .now) (h .0 .ready) (c .before .before .before .before .before .before .before .before .before .before .before .before .before .before .before .before .before .if1 .left) in (
+    let d = decidable (a .table .now) (headerOf (a .table .now)) (a .index .now) (a .scene .now) (a .head) (levelNames (a .levels .now)) (a .bindings .now) (levelSpaces (a .levels .now)) (levelStrands (a .levels .now)) (h .0 .ready) (c .before .before .before .before .before .before .before .before .before .before .before .before .before .before .before .before .if1 .left) in (
       d .0,
       d .1,
       d .2,
-      few-bound (a .table .now) (headerOf (a .table .now)) (a .index .now) (a .scene .now) (a .head) (a .levels .now) (a .bindings .now) (a .spaces .now) (a .strands .now) (h .0 .ready),
+      few-bound (a .table .now) (headerOf (a .table .now)) (a .index .now) (a .scene .now) (a .head) (levelNames (a .levels .now)) (a .bindings .now) (levelSpaces (a .levels .now)) (levelStrands (a .levels .now)) (h .0 .ready),
       h .1 .told .few-codes,
       h .1 .plain-names,
     )
 
 open-level-requires : tie.Need-open-level-requires
 open-level-requires c κs =
-    let b = c .before .before .before .before .before .before .before .before .before .before .before .before .before .before .before .before .before .before .before .before .before .before .before .before .before .before .before .before .before .before .before .before .before in
+    let b = c .before .before .before .before .before .before .before .before .before .before .before .before .before .before .before .before .before .before .before .before .before .before .before .before .before .before .before .before .before .before in
     let a = b .args in
     let h = b .pre in
     let s = a .scene .now in
-    let z = sessionOf (a .head) (a .levels .now) (a .bindings .now) (a .spaces .now) (a .strands .now) in
+    let z = sessionAt (a .head) (a .levels .now) (a .bindings .now) in
     let ds = declarationsOf s (attrsIn (a .attrs .now) (a .started .tag .count)) in
-    let k = classed (a .table .now) (a .index .now) s (a .known .now) _ (a .own .now) (a .attrs .now) (a .codes .now) (c .before .before .before .before .before .before .before .before .before .before .before .before .before .before .before .before .before .before .before .before .before .before .before .before .before .header-of .result) (a .head) (a .levels .now) (a .bindings .now) (a .spaces .now) (a .strands .now) (a .started) (h .0) (h .1) (c .before .before .before .before .before .before .before .before .before .before .before .before .before .before .before .before .before .before .before .before .before .before .before .before .before .header-of .ensures) (c .before .before .before .before .before .before .before .before .before .before .before .before .before .before .before .before .before .before .before .before .before .before .put-classes .ensures) in
+    let k = classed (a .table .now) (a .index .now) s (a .known .now) _ (a .own .now) (a .attrs .now) (a .codes .now) (c .before .before .before .before .before .before .before .before .before .before .before .before .before .before .before .before .before .before .before .before .before .before .header-of .result) (a .head) (levelNames (a .levels .now)) (a .bindings .now) (levelSpaces (a .levels .now)) (levelStrands (a .levels .now)) (a .started) (h .0) (h .1) (c .before .before .before .before .before .before .before .before .before .before .before .before .before .before .before .before .before .before .before .before .before .before .header-of .ensures) (c .before .before .before .before .before .before .before .before .before .before .before .before .before .before .before .before .before .before .before .put-classes .ensures) in
     let e = startOf s (a .bindings .now) (a .own .now) (a .attrs .now) (a .codes .now) (a .started .at) (a .started .tag) (a .started .found) in
-    let w = c .before .before .before .before .before .before .before .before .before .before .before .before .before .before .before .before .before .before .before .space-of .ensures (a .table .now) (headerOf (a .table .now)) s (a .started .owned) (names-few (a .table .now) (h .0 .ready .accepted)) (k .beside .classes) (k .own-classes) (h .1 .found-within) in
-    let d = c .before .before .before .before .before .before .before .before .before .before .decide .ensures (a .table .now) (a .levels .now) (headerOf (a .table .now)) (h .0 .ready) (k .beside) (k .own-classes) (k .met) w in (
-      roomy s (a .bindings .now) (a .own .now) (a .attrs .now) (a .codes .now) (a .started .at) (a .started .tag) (a .started .found) (a .started .owned) ds (h .1 .told) (a .head) (c .before .before .before .before .before .before .before .before .before .before .before .before .before .before .before .before .before .before .before .before .before .before .before .before .before .before .before .before .if1 .left) (c .before .before .before .before .before .before .before .before .before .before .before .before .before .before .before .before .before .before .before .before .before .before .before .before .before .before .if2 .left),
-      λ n. made-openable (a .table .now) (headerOf (a .table .now)) (a .index .now) s z (h .0 .ready) e (c .before .before .before .before .before .before .before .before .before .before .decide .result) _ _ _ _ (d .made n) (a .started .at) refl (h .1 .told .at-inside),
+    let w = c .before .before .before .before .before .before .before .before .before .before .before .before .before .before .before .before .space-of .ensures (a .table .now) (headerOf (a .table .now)) s (a .started .owned) (names-few (a .table .now) (h .0 .ready .accepted)) (k .beside .classes) (k .own-classes) (h .1 .found-within) in
+    let d = c .before .before .before .before .before .before .before .before .decide .ensures (a .table .now) (headerOf (a .table .now)) (h .0 .ready) (k .beside) (k .own-classes) (k .met) w in (
+      roomy s (a .bindings .now) (a .own .now) (a .attrs .now) (a .codes .now) (a .started .at) (a .started .tag) (a .started .found) (a .started .owned) ds (h .1 .told) (a .head) (c .before .before .before .before .before .before .before .before .before .before .before .before .before .before .before .before .before .before .before .before .before .before .before .before .before .if1 .left) (c .before .before .before .before .before .before .before .before .before .before .before .before .before .before .before .before .before .before .before .before .before .before .before .if2 .left),
+      λ n. made-openable (a .table .now) (headerOf (a .table .now)) (a .index .now) s z (h .0 .ready) e (c .before .before .before .before .before .before .before .before .decide .result) _ _ _ _ (d .made n) (a .started .at) refl (h .1 .told .at-inside),
     )
 
 same-length : tie.Need-same-length
@@ -100,15 +101,15 @@ same-length c = search needs
 
 returns-3 : tie.Need-returns-3
 returns-3 c =
-    let b = c .before .before .before .before .before .before .before .before .before .before .before .before .before .before .before .before .before .before .before .before .before .before .before .before .before .before .before .before .before .before .before .before .before .before .before .before in
+    let b = c .before .before .before .before .before .before .before .before .before .before .before .before .before .before .before .before .before .before .before .before .before .before .before .before .before .before .before .before .before .before .before .before .before in
     let a = b .args in
     let h = b .pre in
     let s = a .scene .now in
-    let z = sessionOf (a .head) (a .levels .now) (a .bindings .now) (a .spaces .now) (a .strands .now) in
+    let z = sessionAt (a .head) (a .levels .now) (a .bindings .now) in
     let ds = declarationsOf s (attrsIn (a .attrs .now) (a .started .tag .count)) in
-    let k = classed (a .table .now) (a .index .now) s (a .known .now) _ (a .own .now) (a .attrs .now) (a .codes .now) (c .before .before .before .before .before .before .before .before .before .before .before .before .before .before .before .before .before .before .before .before .before .before .before .before .before .before .before .before .header-of .result) (a .head) (a .levels .now) (a .bindings .now) (a .spaces .now) (a .strands .now) (a .started) (h .0) (h .1) (c .before .before .before .before .before .before .before .before .before .before .before .before .before .before .before .before .before .before .before .before .before .before .before .before .before .before .before .before .header-of .ensures) (c .before .before .before .before .before .before .before .before .before .before .before .before .before .before .before .before .before .before .before .before .before .before .before .before .before .put-classes .ensures) in
-    let w = c .before .before .before .before .before .before .before .before .before .before .before .before .before .before .before .before .before .before .before .before .before .before .space-of .ensures (a .table .now) (headerOf (a .table .now)) s (a .started .owned) (names-few (a .table .now) (h .0 .ready .accepted)) (k .beside .classes) (k .own-classes) (h .1 .found-within) in
-    let d = c .before .before .before .before .before .before .before .before .before .before .before .before .before .decide .ensures (a .table .now) (a .levels .now) (headerOf (a .table .now)) (h .0 .ready) (k .beside) (k .own-classes) (k .met) w in
+    let k = classed (a .table .now) (a .index .now) s (a .known .now) _ (a .own .now) (a .attrs .now) (a .codes .now) (c .before .before .before .before .before .before .before .before .before .before .before .before .before .before .before .before .before .before .before .before .before .before .before .before .before .header-of .result) (a .head) (levelNames (a .levels .now)) (a .bindings .now) (levelSpaces (a .levels .now)) (levelStrands (a .levels .now)) (a .started) (h .0) (h .1) (c .before .before .before .before .before .before .before .before .before .before .before .before .before .before .before .before .before .before .before .before .before .before .before .before .before .header-of .ensures) (c .before .before .before .before .before .before .before .before .before .before .before .before .before .before .before .before .before .before .before .before .before .before .put-classes .ensures) in
+    let w = c .before .before .before .before .before .before .before .before .before .before .before .before .before .before .before .before .before .before .before .space-of .ensures (a .table .now) (headerOf (a .table .now)) s (a .started .owned) (names-few (a .table .now) (h .0 .ready .accepted)) (k .beside .classes) (k .own-classes) (h .1 .found-within) in
+    let d = c .before .before .before .before .before .before .before .before .before .before .before .decide .ensures (a .table .now) (headerOf (a .table .now)) (h .0 .ready) (k .beside) (k .own-classes) (k .met) w in
     opened-turn (a .table .now) s _ (a .own .now) z ds (k .kept) _ (a .started .tag .next) (a .out .now) _
     (c .before .before .open-level .ensures (a .table .now) s (a .attrs .now) (a .codes .now) (headerOf (a .table .now)) ds (h .0 .ready) (h .1 .told) w d)
 

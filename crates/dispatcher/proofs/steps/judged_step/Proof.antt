@@ -5,7 +5,8 @@ use Rattle.table.specs.Table.{decode, headerOf}
 use Rattle.lexer.specs.Tags.{endTagAt}
 use Rattle.lexer.specs.Values.{textEnd}
 use Rattle.lexer.specs.declared.Begin.the-variants as begin
-use Rattle.dispatcher.specs.Sessions.{sessionOf}
+use Rattle.strands.specs.Levels.{levelNames, levelSpaces, levelStrands}
+use Rattle.dispatcher.specs.Sessions.{sessionAt}
 use Rattle.dispatcher.proofs.EventTurns.{stopped-step}
 use Rattle.dispatcher.proofs.Besides.{text-fewer, end-fewer, awaited-fewer, event-turn, refused-turn}
 use Rattle.dispatcher.proofs.StartTurns.{innermost, awaited-innermost, begun-step, start-begins, end-begins, text-begins}
@@ -15,22 +16,22 @@ use Rattle.dispatcher.proofs.steps.judged_step.Tie as tie
 
 awaited-turn-requires : tie.Need-awaited-turn-requires
 awaited-turn-requires c κs =
-    let b = c .before .before .before .before .before .before .before .before in
+    let b = c .before .before .before .before .before .before in
     let a = b .args in
     let h = b .pre in
-    (awaited-innermost (a .table .now) (headerOf (a .table .now)) (a .index .now) (a .scene .now) (a .head) (a .levels .now) (a .bindings .now) (a .spaces .now) (a .strands .now) (h .ready) (c .before .before .before .before .if1 .taken), c .before .before .before .before .if1 .taken)
+    (awaited-innermost (a .table .now) (headerOf (a .table .now)) (a .index .now) (a .scene .now) (a .head) (levelNames (a .levels .now)) (a .bindings .now) (levelSpaces (a .levels .now)) (levelStrands (a .levels .now)) (h .ready) (c .before .before .if1 .taken), c .before .before .if1 .taken)
 
 same-length : tie.Need-same-length
 same-length c = search needs
 
 returns : tie.Need-returns
 returns c =
-    let b = c .before .before .before .before .before .before .before .before .before .before .before in
+    let b = c .before .before .before .before .before .before .before .before .before in
     let a = b .args in
     let h = b .pre in
     let e = c .before .before .awaited-turn .ensures (decode (a .table .now)) (a .bindings .now) in
-    let i = awaited-innermost (a .table .now) (headerOf (a .table .now)) (a .index .now) (a .scene .now) (a .head) (a .levels .now) (a .bindings .now) (a .spaces .now) (a .strands .now) (h .ready) (c .before .before .before .before .before .before .before .if1 .taken) in
-    (e, event-turn (a .table .now) (a .scene .now) (a .known .now) (a .head) (a .levels .now) (a .bindings .now) (a .spaces .now) (a .strands .now) _ (c .before .before .awaited-turn .result) _ (h .beside) e (awaited-fewer (decode (a .table .now)) (a .scene .now) (sessionOf (a .head) (a .levels .now) (a .bindings .now) (a .spaces .now) (a .strands .now)) (a .out .now) (i .some-open) (c .before .before .before .before .before .before .before .if1 .taken)))
+    let i = awaited-innermost (a .table .now) (headerOf (a .table .now)) (a .index .now) (a .scene .now) (a .head) (levelNames (a .levels .now)) (a .bindings .now) (levelSpaces (a .levels .now)) (levelStrands (a .levels .now)) (h .ready) (c .before .before .before .before .before .if1 .taken) in
+    (e, event-turn (a .table .now) (a .scene .now) (a .known .now) (a .head) (levelNames (a .levels .now)) (a .bindings .now) (levelSpaces (a .levels .now)) (levelStrands (a .levels .now)) _ (c .before .before .awaited-turn .result) _ (h .beside) e (awaited-fewer (decode (a .table .now)) (a .scene .now) (sessionAt (a .head) (a .levels .now) (a .bindings .now)) (a .out .now) (i .some-open) (c .before .before .before .before .before .if1 .taken)))
 
 begin-at-requires : tie.Need-begin-at-requires
 begin-at-requires c κs = search needs
@@ -40,35 +41,35 @@ enum-known-at c = search needs
 
 start-turn-requires : tie.Need-start-turn-requires
 start-turn-requires c κs =
-    let b = c .before .before .before .before .before .before .before .before .before .before .before .before .before .before .before .before .before .before .before in
+    let b = c .before .before .before .before .before .before .before .before .before .before .before .before .before .before .before .before .before in
     let a = b .args in
     let h = b .pre in
-    let r = c .before .before .before .before .before .before .before .before .before .before .before .before .before .begin-at in
-    (h, start-begins (a .scene .now) (a .head) (r .result) (r .ensures) _ (c .before .before .before .before .before .before .before .before .before .before .before .at .given .1))
+    let r = c .before .before .before .before .before .before .before .before .before .before .before .begin-at in
+    (h, start-begins (a .scene .now) (a .head) (r .result) (r .ensures) _ (c .before .before .before .before .before .before .before .before .before .at .given .1))
 
 enum-known-at-2 : tie.Need-enum-known-at-2
 enum-known-at-2 c = search needs
 
 end-turn-requires : tie.Need-end-turn-requires
 end-turn-requires c κs =
-    let b = c .before .before .before .before .before .before .before .before .before .before .before .before .before in
+    let b = c .before .before .before .before .before .before .before .before .before .before .before in
     let a = b .args in
     let h = b .pre in
-    let r = c .before .before .before .before .before .before .before .begin-at in
-    let k = end-begins (a .scene .now) (a .head) (r .result) (r .ensures) _ (c .before .before .before .before .before .at2 .given .1) in
-    (innermost (a .table .now) (headerOf (a .table .now)) (a .index .now) (a .scene .now) (a .head) (a .levels .now) (a .bindings .now) (a .spaces .now) (a .strands .now) (h .ready) (k .0), k .1)
+    let r = c .before .before .before .before .before .begin-at in
+    let k = end-begins (a .scene .now) (a .head) (r .result) (r .ensures) _ (c .before .before .before .at2 .given .1) in
+    (innermost (a .table .now) (headerOf (a .table .now)) (a .index .now) (a .scene .now) (a .head) (levelNames (a .levels .now)) (a .bindings .now) (levelSpaces (a .levels .now)) (levelStrands (a .levels .now)) (h .ready) (k .0), k .1)
 
 enum-known-at-3 : tie.Need-enum-known-at-3
 enum-known-at-3 c = search needs
 
 text-turn-requires : tie.Need-text-turn-requires
 text-turn-requires c κs =
-    let b = c .before .before .before .before .before .before .before .before .before .before .before .before in
+    let b = c .before .before .before .before .before .before .before .before .before .before .before in
     let a = b .args in
     let h = b .pre in
-    let r = c .before .before .before .before .before .before .begin-at in
-    let k = text-begins (a .scene .now) (a .head) (r .result) (r .ensures) _ (c .before .before .before .before .at3 .given .1) in
-    let i = innermost (a .table .now) (headerOf (a .table .now)) (a .index .now) (a .scene .now) (a .head) (a .levels .now) (a .bindings .now) (a .spaces .now) (a .strands .now) (h .ready) (k .0) in
+    let r = c .before .before .before .before .before .begin-at in
+    let k = text-begins (a .scene .now) (a .head) (r .result) (r .ensures) _ (c .before .before .before .at3 .given .1) in
+    let i = innermost (a .table .now) (headerOf (a .table .now)) (a .index .now) (a .scene .now) (a .head) (levelNames (a .levels .now)) (a .bindings .now) (levelSpaces (a .levels .now)) (levelStrands (a .levels .now)) (h .ready) (k .0) in
     (i .short, i .some-open, i .shallow, i .few-strands, k .1)
 
 enum-told : tie.Need-enum-told
@@ -88,25 +89,25 @@ same-length-2 c = search needs
 
 returns-2 : tie.Need-returns-2
 returns-2 c =
-    let b = c .before .before .before .before .before .before .before .before .before .before .before .before .before .before .before .before .before .before .before .before .before .before in
+    let b = c .before .before .before .before .before .before .before .before .before .before .before .before .before .before .before .before .before .before .before .before in
     let a = b .args in
     let h = b .pre in
-    let r = c .before .before .before .before .before .before .before .before .before .before .before .before .before .before .before .before .begin-at in
+    let r = c .before .before .before .before .before .before .before .before .before .before .before .before .before .before .begin-at in
     let e = c .before .before .start-turn .ensures in
-    (begun-step (decode (a .table .now)) (a .scene .now) (a .head) (a .levels .now) (a .bindings .now) (a .spaces .now) (a .strands .now) (c .before .before .before .before .before .before .before .before .before .before .before .before .before .before .before .before .before .before .if1 .left) _ (r .result) (r .ensures) (c .before .before .before .before .before .before .before .before .before .before .before .before .before .before .at .given .1) _ (a .out .now) (e .0), e .1)
+    (begun-step (decode (a .table .now)) (a .scene .now) (a .head) (levelNames (a .levels .now)) (a .bindings .now) (levelSpaces (a .levels .now)) (levelStrands (a .levels .now)) (c .before .before .before .before .before .before .before .before .before .before .before .before .before .before .before .before .if1 .left) _ (r .result) (r .ensures) (c .before .before .before .before .before .before .before .before .before .before .before .before .at .given .1) _ (a .out .now) (e .0), e .1)
 
 same-length-3 : tie.Need-same-length-3
 same-length-3 c = search needs
 
 returns-3 : tie.Need-returns-3
 returns-3 c =
-    let b = c .before .before .before .before .before .before .before .before .before .before .before .before .before .before .before .before in
+    let b = c .before .before .before .before .before .before .before .before .before .before .before .before .before .before in
     let a = b .args in
     let h = b .pre in
-    let r = c .before .before .before .before .before .before .before .before .before .before .begin-at in
+    let r = c .before .before .before .before .before .before .before .before .begin-at in
     let e = c .before .before .end-turn .ensures (decode (a .table .now)) (a .bindings .now) in (
-      begun-step (decode (a .table .now)) (a .scene .now) (a .head) (a .levels .now) (a .bindings .now) (a .spaces .now) (a .strands .now) (c .before .before .before .before .before .before .before .before .before .before .before .before .if1 .left) _ (r .result) (r .ensures) (c .before .before .before .before .before .before .before .before .at2 .given .1) _ (a .out .now) e,
-      event-turn (a .table .now) (a .scene .now) (a .known .now) (a .head) (a .levels .now) (a .bindings .now) (a .spaces .now) (a .strands .now) _ (c .before .before .end-turn .result) _ (h .beside) e (end-fewer (decode (a .table .now)) (a .scene .now) (sessionOf (a .head) (a .levels .now) (a .bindings .now) (a .spaces .now) (a .strands .now)) (a .out .now) _ (endTagAt (a .scene .now) (_ + 2))),
+      begun-step (decode (a .table .now)) (a .scene .now) (a .head) (levelNames (a .levels .now)) (a .bindings .now) (levelSpaces (a .levels .now)) (levelStrands (a .levels .now)) (c .before .before .before .before .before .before .before .before .before .before .if1 .left) _ (r .result) (r .ensures) (c .before .before .before .before .before .before .at2 .given .1) _ (a .out .now) e,
+      event-turn (a .table .now) (a .scene .now) (a .known .now) (a .head) (levelNames (a .levels .now)) (a .bindings .now) (levelSpaces (a .levels .now)) (levelStrands (a .levels .now)) _ (c .before .before .end-turn .result) _ (h .beside) e (end-fewer (decode (a .table .now)) (a .scene .now) (sessionAt (a .head) (a .levels .now) (a .bindings .now)) (a .out .now) _ (endTagAt (a .scene .now) (_ + 2))),
     )
 
 same-length-4 : tie.Need-same-length-4
@@ -114,13 +115,13 @@ same-length-4 c = search needs
 
 returns-4 : tie.Need-returns-4
 returns-4 c =
-    let b = c .before .before .before .before .before .before .before .before .before .before .before .before .before .before .before in
+    let b = c .before .before .before .before .before .before .before .before .before .before .before .before .before .before in
     let a = b .args in
     let h = b .pre in
-    let r = c .before .before .before .before .before .before .before .before .before .begin-at in
-    let e = c .before .before .text-turn .ensures (decode (a .table .now)) (a .levels .now) (a .bindings .now) in (
-      begun-step (decode (a .table .now)) (a .scene .now) (a .head) (a .levels .now) (a .bindings .now) (a .spaces .now) (a .strands .now) (c .before .before .before .before .before .before .before .before .before .before .before .if1 .left) _ (r .result) (r .ensures) (c .before .before .before .before .before .before .before .at3 .given .1) _ (a .out .now) e,
-      event-turn (a .table .now) (a .scene .now) (a .known .now) (a .head) (a .levels .now) (a .bindings .now) (a .spaces .now) (a .strands .now) _ (c .before .before .text-turn .result) _ (h .beside) e (text-fewer (decode (a .table .now)) (a .scene .now) (sessionOf (a .head) (a .levels .now) (a .bindings .now) (a .spaces .now) (a .strands .now)) (a .out .now) _ (textEnd (a .scene .now) _)),
+    let r = c .before .before .before .before .before .before .before .before .begin-at in
+    let e = c .before .before .text-turn .ensures (decode (a .table .now)) (a .bindings .now) in (
+      begun-step (decode (a .table .now)) (a .scene .now) (a .head) (levelNames (a .levels .now)) (a .bindings .now) (levelSpaces (a .levels .now)) (levelStrands (a .levels .now)) (c .before .before .before .before .before .before .before .before .before .before .if1 .left) _ (r .result) (r .ensures) (c .before .before .before .before .before .before .at3 .given .1) _ (a .out .now) e,
+      event-turn (a .table .now) (a .scene .now) (a .known .now) (a .head) (levelNames (a .levels .now)) (a .bindings .now) (levelSpaces (a .levels .now)) (levelStrands (a .levels .now)) _ (c .before .before .text-turn .result) _ (h .beside) e (text-fewer (decode (a .table .now)) (a .scene .now) (sessionAt (a .head) (a .levels .now) (a .bindings .now)) (a .out .now) _ (textEnd (a .scene .now) _)),
     )
 
 returns-5 : tie.Need-returns-5
@@ -129,8 +130,8 @@ returns-5 c =
     let a = b .args in
     let h = b .pre in
     let r = c .before .before .before .begin-at in
-    refused-turn (a .table .now) (a .scene .now) (a .known .now) (a .head) (a .levels .now) (a .bindings .now) (a .spaces .now) (a .strands .now) (a .out .now) 9 _ (h .beside) (c .stop .result) (c .stop .ensures)
-    (begun-step (decode (a .table .now)) (a .scene .now) (a .head) (a .levels .now) (a .bindings .now) (a .spaces .now) (a .strands .now) (c .before .before .before .before .before .if1 .left) begin.Finished (r .result) (r .ensures) (c .before .enum-told .given .1) _ (a .out .now) refl)
+    refused-turn (a .table .now) (a .scene .now) (a .known .now) (a .head) (levelNames (a .levels .now)) (a .bindings .now) (levelSpaces (a .levels .now)) (levelStrands (a .levels .now)) (a .out .now) 9 _ (h .beside) (c .stop .result) (c .stop .ensures)
+    (begun-step (decode (a .table .now)) (a .scene .now) (a .head) (levelNames (a .levels .now)) (a .bindings .now) (levelSpaces (a .levels .now)) (levelStrands (a .levels .now)) (c .before .before .before .before .before .if1 .left) begin.Finished (r .result) (r .ensures) (c .before .enum-told .given .1) _ (a .out .now) refl)
 
 returns-6 : tie.Need-returns-6
 returns-6 c =
@@ -139,8 +140,8 @@ returns-6 c =
     let h = b .pre in
     let r = c .before .before .before .before .begin-at in
     let x = c .before .before .x .given in
-    refused-turn (a .table .now) (a .scene .now) (a .known .now) (a .head) (a .levels .now) (a .bindings .now) (a .spaces .now) (a .strands .now) (a .out .now) _ _ (h .beside) (c .stopped .result) (c .stopped .ensures)
-    (begun-step (decode (a .table .now)) (a .scene .now) (a .head) (a .levels .now) (a .bindings .now) (a .spaces .now) (a .strands .now) (c .before .before .before .before .before .before .if1 .left) _ (r .result) (r .ensures) (x .1) _ (a .out .now) (stopped-step (a .scene .now) (x .0 .0) (a .head) (a .levels .now) (a .bindings .now) (a .spaces .now) (a .strands .now) (a .out .now)))
+    refused-turn (a .table .now) (a .scene .now) (a .known .now) (a .head) (levelNames (a .levels .now)) (a .bindings .now) (levelSpaces (a .levels .now)) (levelStrands (a .levels .now)) (a .out .now) _ _ (h .beside) (c .stopped .result) (c .stopped .ensures)
+    (begun-step (decode (a .table .now)) (a .scene .now) (a .head) (levelNames (a .levels .now)) (a .bindings .now) (levelSpaces (a .levels .now)) (levelStrands (a .levels .now)) (c .before .before .before .before .before .before .if1 .left) _ (r .result) (r .ensures) (x .1) _ (a .out .now) (stopped-step (a .scene .now) (x .0 .0) (a .head) (levelNames (a .levels .now)) (a .bindings .now) (levelSpaces (a .levels .now)) (levelStrands (a .levels .now)) (a .out .now)))
 
 pub judged-step-spec : {M : Type 1} → statement M
 judged-step-spec =

@@ -4,9 +4,9 @@ use native.Mathlib.Omega.{arith}
 use lib.ListN.{length, take, drop}
 use Rattle.laws.proofs.Over.{part-whole, part-back}
 use Rattle.table.specs.Table.{decode, headerOf}
-use Rattle.dispatcher.specs.Sessions.{sessionOf}
+use Rattle.dispatcher.specs.Sessions.{sessionAt}
 use Rattle.dispatcher.specs.Stepping.{Step}
-use Rattle.dispatcher.specs.Turns.{Beside, stepBy}
+use Rattle.dispatcher.specs.Turns.{Beside, stepIn}
 use Rattle.dispatcher.proofs.SoundCoherent.{sound-coherent}
 use Rattle.dispatcher.proofs.RunTurns.{Going, Turned, sized-sound, going-first, going-turned, going-last}
 use borrow.Author.Needs.{needs}
@@ -14,20 +14,20 @@ use Rattle.dispatcher.proofs.steps.judged_steps.Statement.{statement}
 use Rattle.dispatcher.proofs.steps.judged_steps.Tie as tie
 
 abbrev Inv-loop : tie.InvT-loop
-Inv-loop table index scene levels₀ bindings₀ spaces₀ strands₀ known₀ most out₀ attrs₀ own₀ attributes₀ rows₀ head₀ used₀ events₀ records₀ levels bindings spaces strands known out attrs own attributes rows head used events records =
-    Going table scene (sessionOf head₀ levels₀ bindings₀ spaces₀ strands₀) out₀ most (sessionOf head levels bindings spaces strands) out used events records
-    × Beside table scene known (sessionOf head levels bindings spaces strands)
+Inv-loop table index scene levels₀ bindings₀ known₀ most out₀ attrs₀ own₀ attributes₀ rows₀ head₀ used₀ events₀ records₀ levels bindings known out attrs own attributes rows head used events records =
+    Going table scene (sessionAt head₀ levels₀ bindings₀) out₀ most (sessionAt head levels bindings) out used events records
+    × Beside table scene known (sessionAt head levels bindings)
 
 abbrev μ-loop : tie.MeasureT-loop
-μ-loop table index scene levels₀ bindings₀ spaces₀ strands₀ known₀ most out₀ attrs₀ own₀ attributes₀ rows₀ head₀ used₀ events₀ records₀ levels bindings spaces strands known out attrs own attributes rows head used events records =
+μ-loop table index scene levels₀ bindings₀ known₀ most out₀ attrs₀ own₀ attributes₀ rows₀ head₀ used₀ events₀ records₀ levels bindings known out attrs own attributes rows head used events records =
     most - events
 
 loop-holds : tie.Need-loop-holds Inv-loop μ-loop
 loop-holds c =
     let a = c .before .before .before .args in
     let p = c .before .before .before .pre in
-    let z = sessionOf (a .from) (a .levels .now) (a .bindings .now) (a .spaces .now) (a .strands .now) in
-    (going-first (a .table .now) (a .scene .now) z (a .out .now) (a .most) (sized-sound (a .table .now) (headerOf (a .table .now)) (a .index .now) (a .scene .now) z (p .0 .ready) (p .1)), p .0 .beside)
+    let z = sessionAt (a .from) (a .levels .now) (a .bindings .now) in
+    (going-first (a .table .now) (a .scene .now) z (a .out .now) (a .most) (sized-sound (a .table .now) (headerOf (a .table .now)) (a .index .now) (a .scene .now) (a .from) (a .levels .now) (a .bindings .now) (p .0 .ready) (p .1)), p .0 .beside)
 
 sub-judged-step : tie.Need-sub-judged-step Inv-loop μ-loop
 sub-judged-step c = search needs
@@ -40,9 +40,9 @@ part-judged-step-end c = search needs
 
 judged-step-requires : tie.Need-judged-step-requires Inv-loop μ-loop
 judged-step-requires c κs =
-    let a = c .before .before .before .before .before .before .before .before .before .before .before .before .before .before .before .args in
-    let l = c .before .before .before .before .before .before .before .before .before .before .before .loop in
-    let p = c .before .before .before .before .before .before .before .before .before .before .before .before .before .before .before .pre .0 .ready in
+    let a = c .before .before .before .before .before .before .before .before .before .before .before .before .before .args in
+    let l = c .before .before .before .before .before .before .before .before .before .loop in
+    let p = c .before .before .before .before .before .before .before .before .before .before .before .before .before .pre .0 .ready in
     record {
       ready =
           record {
@@ -50,57 +50,57 @@ judged-step-requires c κs =
             header-is = p .header-is;
             index-is = p .index-is;
             short = p .short;
-            coherent′ = sound-coherent (decode (a .table .now)) (a .scene .now) (sessionOf (l .head) (l .levels) (l .bindings) (l .spaces) (l .strands)) (l .inv .0 .sound);
+            coherent′ = sound-coherent (decode (a .table .now)) (a .scene .now) (sessionAt (l .head) (l .levels) (l .bindings)) (l .inv .0 .sound);
           };
       beside = l .inv .1;
     }
 
 -- a turn: the step that was handed back, and what it makes of the loop
-abbrev stepIn : tie.After-judged-step Inv-loop μ-loop → Step
-stepIn c =
+abbrev stepped : tie.After-judged-step Inv-loop μ-loop → Step
+stepped c =
     let after = c .judged-step .last .1 .1 .1 .1 in
-    stepBy (c .judged-step .result) (after .0) (after .1 .0) (after .1 .1 .0) (after .1 .1 .1 .0) (after .1 .1 .1 .1 .1 .1 .1 .1 .1 .0)
+    stepIn (c .judged-step .result) (after .0) (after .1 .0) (after .1 .1 .1 .1 .1 .1 .1 .0)
 
 turned : (c : tie.After-judged-step Inv-loop μ-loop) → (
-    let a = c .before .before .before .before .before .before .before .before .before .before .before .before .before .before .before .before .args in
-    let l = c .before .before .before .before .before .before .before .before .before .before .before .before .loop in
-    Turned (a .table .now) (a .scene .now) (sessionOf (a .from) (a .levels .now) (a .bindings .now) (a .spaces .now) (a .strands .now)) (a .out .now) (a .most) (l .out) (l .used) (l .events) (l .records) (stepIn c))
+    let a = c .before .before .before .before .before .before .before .before .before .before .before .before .before .before .args in
+    let l = c .before .before .before .before .before .before .before .before .before .before .loop in
+    Turned (a .table .now) (a .scene .now) (sessionAt (a .from) (a .levels .now) (a .bindings .now)) (a .out .now) (a .most) (l .out) (l .used) (l .events) (l .records) (stepped c))
 turned c =
-    let a = c .before .before .before .before .before .before .before .before .before .before .before .before .before .before .before .before .args in
-    let l = c .before .before .before .before .before .before .before .before .before .before .before .before .loop in
-    let p = c .before .before .before .before .before .before .before .before .before .before .before .before .before .before .before .before .pre .0 .ready in
-    let z₀ = sessionOf (a .from) (a .levels .now) (a .bindings .now) (a .spaces .now) (a .strands .now) in
-    let z = sessionOf (l .head) (l .levels) (l .bindings) (l .spaces) (l .strands) in
-    going-turned (a .table .now) (a .scene .now) z₀ (a .out .now) (a .most) z (l .out) (l .used) (l .events) (l .records) (l .inv .0) (c .before .before .before .before .before .before .before .before .before .before .before .loop-test .taken) (p .accepted) (p .short)
-    (take (length (l .out) - l .used) (drop (l .used) (l .out))) (part-whole (l .out) (l .used)) (stepIn c) (c .judged-step .ensures .0)
+    let a = c .before .before .before .before .before .before .before .before .before .before .before .before .before .before .args in
+    let l = c .before .before .before .before .before .before .before .before .before .before .loop in
+    let p = c .before .before .before .before .before .before .before .before .before .before .before .before .before .before .pre .0 .ready in
+    let z₀ = sessionAt (a .from) (a .levels .now) (a .bindings .now) in
+    let z = sessionAt (l .head) (l .levels) (l .bindings) in
+    going-turned (a .table .now) (a .scene .now) z₀ (a .out .now) (a .most) z (l .out) (l .used) (l .events) (l .records) (l .inv .0) (c .before .before .before .before .before .before .before .before .before .loop-test .taken) (p .accepted) (p .short)
+    (take (length (l .out) - l .used) (drop (l .used) (l .out))) (part-whole (l .out) (l .used)) (stepped c) (c .judged-step .ensures .0)
 
 same-length : tie.Need-same-length Inv-loop μ-loop
 same-length c = search needs
 
 returns : tie.Need-returns Inv-loop μ-loop
 returns c =
-    let l = c .before .before .before .before .before .before .before .before .before .before .before .before .before .before .before .before .loop in
-    turned (c .before .before .before .before) .stops _ (part-back (l .out) (l .used) (stepIn (c .before .before .before .before) .output)) (c .if1 .taken)
+    let l = c .before .before .before .before .before .before .before .before .before .before .before .before .before .before .loop in
+    turned (c .before .before .before .before) .stops _ (part-back (l .out) (l .used) (stepped (c .before .before .before .before) .output)) (c .if1 .taken)
 
 mul-used : tie.Need-mul-used Inv-loop μ-loop
-mul-used c = omega (arith, turned (c .before .before .before .before .before) .room, c .before .before .before .before .before .before .before .before .before .before .before .before .before .before .before .before .before .loop .inv .0 .same-length, c .before .before .before .before .before .before .before .before .before .before .before .before .before .before .before .before .before .before .before .before .before .good)
+mul-used c = omega (arith, turned (c .before .before .before .before .before) .room, c .before .before .before .before .before .before .before .before .before .before .before .before .before .before .before .loop .inv .0 .same-length, c .before .before .before .before .before .before .before .before .before .before .before .before .before .before .before .before .before .before .before .good)
 
 add-used : tie.Need-add-used Inv-loop μ-loop
-add-used c = omega (arith, turned (c .before .before .before .before .before) .room, c .before .before .before .before .before .before .before .before .before .before .before .before .before .before .before .before .before .loop .inv .0 .same-length, c .before .before .before .before .before .before .before .before .before .before .before .before .before .before .before .before .before .before .before .before .before .good)
+add-used c = omega (arith, turned (c .before .before .before .before .before) .room, c .before .before .before .before .before .before .before .before .before .before .before .before .before .before .before .loop .inv .0 .same-length, c .before .before .before .before .before .before .before .before .before .before .before .before .before .before .before .before .before .before .before .good)
 
 add-records : tie.Need-add-records Inv-loop μ-loop
-add-records c = omega (arith, turned (c .before .before .before .before .before .before) .room, c .before .before .before .before .before .before .before .before .before .before .before .before .before .before .before .before .before .before .loop .inv .0 .same-length, c .before .before .before .before .before .before .before .before .before .before .before .before .before .before .before .before .before .before .loop .inv .0 .counted, c .before .before .before .before .before .before .before .before .before .before .before .before .before .before .before .before .before .before .before .before .before .before .good)
+add-records c = omega (arith, turned (c .before .before .before .before .before .before) .room, c .before .before .before .before .before .before .before .before .before .before .before .before .before .before .before .before .loop .inv .0 .same-length, c .before .before .before .before .before .before .before .before .before .before .before .before .before .before .before .before .loop .inv .0 .counted, c .before .before .before .before .before .before .before .before .before .before .before .before .before .before .before .before .before .before .before .before .good)
 
 add-events : tie.Need-add-events Inv-loop μ-loop
-add-events c = omega (arith, c .before .before .before .before .before .before .before .before .before .before .before .before .before .before .before .before .before .loop-test .taken, c .before .before .before .before .before .before .before .before .before .before .before .before .before .before .before .before .before .before .before .before .before .before .good)
+add-events c = omega (arith, c .before .before .before .before .before .before .before .before .before .before .before .before .before .before .before .loop-test .taken, c .before .before .before .before .before .before .before .before .before .before .before .before .before .before .before .before .before .before .before .before .good)
 
 loop-less : tie.Need-loop-less Inv-loop μ-loop
-loop-less c = omega (arith, c .before .before .before .before .before .before .before .before .before .before .before .before .before .before .before .before .before .loop-test .taken)
+loop-less c = omega (arith, c .before .before .before .before .before .before .before .before .before .before .before .before .before .before .before .loop-test .taken)
 
 loop-again : tie.Need-loop-again Inv-loop μ-loop
 loop-again c =
-    let l = c .before .before .before .before .before .before .before .before .before .before .before .before .before .before .before .before .before .before .loop in
-    (turned (c .before .before .before .before .before .before) .goes _ (part-back (l .out) (l .used) (stepIn (c .before .before .before .before .before .before) .output)) (c .before .before .if1 .left), c .before .before .before .before .before .before .judged-step .ensures .1)
+    let l = c .before .before .before .before .before .before .before .before .before .before .before .before .before .before .before .before .loop in
+    (turned (c .before .before .before .before .before .before) .goes _ (part-back (l .out) (l .used) (stepped (c .before .before .before .before .before .before) .output)) (c .before .before .if1 .left), c .before .before .before .before .before .before .judged-step .ensures .1)
 
 same-length-2 : tie.Need-same-length-2 Inv-loop μ-loop
 same-length-2 c = search needs
@@ -109,8 +109,8 @@ returns-2 : tie.Need-returns-2 Inv-loop μ-loop
 returns-2 c =
     let a = c .before .before .before .before .before .args in
     let l = c .before .loop in
-    let z₀ = sessionOf (a .from) (a .levels .now) (a .bindings .now) (a .spaces .now) (a .strands .now) in
-    going-last (a .table .now) (a .scene .now) z₀ (a .out .now) (a .most) (sessionOf (l .head) (l .levels) (l .bindings) (l .spaces) (l .strands)) (l .out) (l .used) (l .events) (l .records) (l .inv .0) (omega (arith, c .loop-test .left))
+    let z₀ = sessionAt (a .from) (a .levels .now) (a .bindings .now) in
+    going-last (a .table .now) (a .scene .now) z₀ (a .out .now) (a .most) (sessionAt (l .head) (l .levels) (l .bindings)) (l .out) (l .used) (l .events) (l .records) (l .inv .0) (omega (arith, c .loop-test .left))
 
 pub judged-steps-spec : {M : Type 1} → statement M
 judged-steps-spec =

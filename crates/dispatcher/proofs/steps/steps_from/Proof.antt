@@ -1,5 +1,6 @@
 -- `steps::steps_from` meets its contract: 20, or the steps of a coherent session.
 use native.Mathlib.Omega.{arith}
+use Rattle.strands.specs.Levels.{levelNames, levelSpaces, levelStrands}
 use Rattle.dispatcher.specs.Sessions.{sessionOf}
 use Rattle.dispatcher.proofs.RunTurns.{from-refused, from-ready}
 use Rattle.dispatcher.proofs.Classed.{from-loop}
@@ -13,9 +14,9 @@ coherent-requires c κs = search needs
 
 returns : tie.Need-returns
 returns c =
-    let a = c .before .before .before .before .before .before .before .before .before .args in
-    let p = c .before .before .before .before .before .before .before .before .before .pre in
-    let z = sessionOf (a .from) (a .levels .now) (a .bindings .now) (a .spaces .now) (a .strands .now) in
+    let a = c .before .before .before .before .before .before .before .args in
+    let p = c .before .before .before .before .before .before .before .pre in
+    let z = sessionOf (a .from) (levelNames (a .levels .now)) (a .bindings .now) (levelSpaces (a .levels .now)) (levelStrands (a .levels .now)) in
     from-refused (a .table .now) (a .scene .now) (a .header) z (p .1) (p .0) (p .2) (c .before .coherent .result) (c .before .coherent .ensures) (a .most) (a .out .now) (p .3) (c .if1 .taken)
 
 load-requires : tie.Need-load-requires
@@ -23,27 +24,27 @@ load-requires c κs = search needs
 
 put-keys-requires : tie.Need-put-keys-requires
 put-keys-requires c κs =
-    let a = c .before .before .before .before .before .before .before .before .before .before .before .before .before .args in
-    let p = c .before .before .before .before .before .before .before .before .before .before .before .before .before .pre in
-    let z = sessionOf (a .from) (a .levels .now) (a .bindings .now) (a .spaces .now) (a .strands .now) in
+    let a = c .before .before .before .before .before .before .before .before .before .before .before .args in
+    let p = c .before .before .before .before .before .before .before .before .before .before .before .pre in
+    let z = sessionOf (a .from) (levelNames (a .levels .now)) (a .bindings .now) (levelSpaces (a .levels .now)) (levelStrands (a .levels .now)) in
     let r = from-ready (a .table .now) (a .scene .now) (a .header) z (p .1) (p .0) (p .2) (c .before .before .before .before .before .coherent .result) (c .before .before .before .before .before .coherent .ensures) (c .before .before .before .load .result) (c .before .before .before .before .if1 .left) (c .before .before .before .load .ensures) in
-    omega (arith, few-bound (a .table .now) (a .header) (c .before .before .before .load .result) (a .scene .now) (a .from) (a .levels .now) (a .bindings .now) (a .spaces .now) (a .strands .now) r)
+    omega (arith, few-bound (a .table .now) (a .header) (c .before .before .before .load .result) (a .scene .now) (a .from) (levelNames (a .levels .now)) (a .bindings .now) (levelSpaces (a .levels .now)) (levelStrands (a .levels .now)) r)
 
 put-classes-requires : tie.Need-put-classes-requires
 put-classes-requires c κs =
-    let a = c .before .before .before .before .before .before .before .before .before .before .before .before .before .before .before .before .before .args in
-    let p = c .before .before .before .before .before .before .before .before .before .before .before .before .before .before .before .before .before .pre in
-    let z = sessionOf (a .from) (a .levels .now) (a .bindings .now) (a .spaces .now) (a .strands .now) in
+    let a = c .before .before .before .before .before .before .before .before .before .before .before .before .before .before .before .args in
+    let p = c .before .before .before .before .before .before .before .before .before .before .before .before .before .before .before .pre in
+    let z = sessionOf (a .from) (levelNames (a .levels .now)) (a .bindings .now) (levelSpaces (a .levels .now)) (levelStrands (a .levels .now)) in
     let r = from-ready (a .table .now) (a .scene .now) (a .header) z (p .1) (p .0) (p .2) (c .before .before .before .before .before .before .before .before .before .coherent .result) (c .before .before .before .before .before .before .before .before .before .coherent .ensures) (c .before .before .before .before .before .before .before .load .result) (c .before .before .before .before .before .before .before .before .if1 .left) (c .before .before .before .before .before .before .before .load .ensures) in
-    omega (arith, few-bound (a .table .now) (a .header) (c .before .before .before .before .before .before .before .load .result) (a .scene .now) (a .from) (a .levels .now) (a .bindings .now) (a .spaces .now) (a .strands .now) r)
+    omega (arith, few-bound (a .table .now) (a .header) (c .before .before .before .before .before .before .before .load .result) (a .scene .now) (a .from) (levelNames (a .levels .now)) (a .bindings .now) (levelSpaces (a .levels .now)) (levelStrands (a .levels .now)) r)
 
 judged-steps-requires : tie.Need-judged-steps-requires
 judged-steps-requires c κs =
-    let a = c .before .before .before .before .before .before .before .before .before .before .before .before .before .before .before .before .before .before .before .before .before .before .before .before .before .args in
-    let p = c .before .before .before .before .before .before .before .before .before .before .before .before .before .before .before .before .before .before .before .before .before .before .before .before .before .pre in
-    let z = sessionOf (a .from) (a .levels .now) (a .bindings .now) (a .spaces .now) (a .strands .now) in
-    let r = from-ready (a .table .now) (a .scene .now) (a .header) z (p .1) (p .0) (p .2) (c .before .before .before .before .before .before .before .before .before .before .before .before .before .before .before .before .before .coherent .result) (c .before .before .before .before .before .before .before .before .before .before .before .before .before .before .before .before .before .coherent .ensures) (c .before .before .before .before .before .before .before .before .before .before .before .before .before .before .before .load .result) (c .before .before .before .before .before .before .before .before .before .before .before .before .before .before .before .before .if1 .left) (c .before .before .before .before .before .before .before .before .before .before .before .before .before .before .before .load .ensures) in
-    (from-loop (a .table .now) (a .header) (c .before .before .before .before .before .before .before .before .before .before .before .before .before .before .before .load .result) (a .scene .now) (a .from) (a .levels .now) (a .bindings .now) (a .spaces .now) (a .strands .now) r (p .4 .bindings-long) _ _ (c .before .before .before .before .before .before .before .before .before .before .before .put-keys .ensures) (c .before .before .before .before .before .before .before .put-classes .ensures), p .4)
+    let a = c .before .before .before .before .before .before .before .before .before .before .before .before .before .before .before .before .before .before .before .before .before .args in
+    let p = c .before .before .before .before .before .before .before .before .before .before .before .before .before .before .before .before .before .before .before .before .before .pre in
+    let z = sessionOf (a .from) (levelNames (a .levels .now)) (a .bindings .now) (levelSpaces (a .levels .now)) (levelStrands (a .levels .now)) in
+    let r = from-ready (a .table .now) (a .scene .now) (a .header) z (p .1) (p .0) (p .2) (c .before .before .before .before .before .before .before .before .before .before .before .before .before .before .before .coherent .result) (c .before .before .before .before .before .before .before .before .before .before .before .before .before .before .before .coherent .ensures) (c .before .before .before .before .before .before .before .before .before .before .before .before .before .load .result) (c .before .before .before .before .before .before .before .before .before .before .before .before .before .before .if1 .left) (c .before .before .before .before .before .before .before .before .before .before .before .before .before .load .ensures) in
+    (from-loop (a .table .now) (a .header) (c .before .before .before .before .before .before .before .before .before .before .before .before .before .load .result) (a .scene .now) (a .from) (levelNames (a .levels .now)) (a .bindings .now) (levelSpaces (a .levels .now)) (levelStrands (a .levels .now)) r (p .4 .bindings-long) _ _ (c .before .before .before .before .before .before .before .before .before .put-keys .ensures) (c .before .before .before .before .before .put-classes .ensures), p .4)
 
 same-length : tie.Need-same-length
 same-length c = search needs

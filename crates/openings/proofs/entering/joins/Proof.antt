@@ -1,6 +1,7 @@
 -- `dispatcher::decisions::joins` meets its contract: the level's class, or its URI.
 use borrow.Author.Needs.{needs}
 use denote.Ref.{now}
+use Rattle.strands.specs.Levels.{levelSpaces}
 use Rattle.openings.proofs.Deciding.{by-class, by-uri}
 use Rattle.openings.proofs.entering.joins.Statement.{statement}
 use Rattle.openings.proofs.entering.joins.Tie as tie
@@ -12,7 +13,7 @@ cast-result : tie.Need-cast-result
 cast-result c = search needs
 
 returns : tie.Need-returns
-returns c = let a = c .before .before .before .before .args in by-class (now (a .spaces)) (a .level) _ _ (c .before .before .space-at .ensures) _ (c .before .if1 .taken)
+returns c = let a = c .before .before .before .before .args in by-class (levelSpaces (now (a .levels))) (a .level) _ _ (c .before .before .space-at .ensures) _ (c .before .if1 .taken)
 
 space-at-requires-2 : tie.Need-space-at-requires-2
 space-at-requires-2 c κs = search needs
@@ -35,7 +36,7 @@ has-uri-requires c κs = search needs
 returns-2 : tie.Need-returns-2
 returns-2 c =
     let a = c .before .before .before .before .before .before .before .args in
-    by-uri (now (a .spaces)) (a .level) (a .placing .class) _ (c .before .before .before .before .before .space-at .ensures) _ _ _ _ _ _ (c .before .before .before .before .if1 .left) (c .before .before .before .space-at2 .ensures) (c .before .before .space-at3 .ensures) (c .before .part-of .ensures .0) (c .has-uri .ensures)
+    by-uri (levelSpaces (now (a .levels))) (a .level) (a .placing .class) _ (c .before .before .before .before .before .space-at .ensures) _ _ _ _ _ _ (c .before .before .before .before .if1 .left) (c .before .before .before .space-at2 .ensures) (c .before .before .space-at3 .ensures) (c .before .part-of .ensures .0) (c .has-uri .ensures)
 
 pub joins-spec : {M : Type 1} → statement M
 joins-spec =

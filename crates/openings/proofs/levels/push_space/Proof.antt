@@ -1,7 +1,7 @@
--- `pushes::push_space` meets its contract: four stores are one part overwritten.
-use Prim.Native.Nat.{_*_}
-use native.Mathlib.Omega.{arith}
+-- `openings::levels::push_space` meets its contract: four stores are one part overwritten.
 use borrow.Author.Needs.{needs}
+use Prim.Native.Nat.{_+_, _*_}
+use native.Mathlib.Omega.{arith}
 use lib.ListN.{length-set}
 use Rattle.openings.proofs.Stores.{space-set}
 use Rattle.openings.proofs.levels.push_space.Statement.{statement}
@@ -9,6 +9,9 @@ use Rattle.openings.proofs.levels.push_space.Tie as tie
 
 mul-at : tie.Need-mul-at
 mul-at c = search needs
+
+add-at : tie.Need-add-at
+add-at c = search needs
 
 cast-all : tie.Need-cast-all
 cast-all c = search needs
@@ -61,13 +64,14 @@ returns c =
     let y = c .before .narrow2 in
     let z = c .narrow3 in
     let a = c .before .before .before .before .before .args in
-    space-set (a .spaces .now) (4 * a .depth) (a .placing .class) (x .result) (y .result) (z .result) (a .placing .at) (a .placing .len) (a .count) (omega arith) (x .ensures) (y .ensures) (z .ensures) (omega arith)
+    space-set (a .levels .now) (24 * a .depth + 3) (a .placing .class) (x .result) (y .result) (z .result) (a .placing .at) (a .placing .len) (a .count) (omega arith) (x .ensures) (y .ensures) (z .ensures) (omega arith)
 
 pub push-space-spec : {M : Type 1} → statement M
 push-space-spec =
     tie.close
     (tie.spec
     mul-at
+    add-at
     cast-all
     mul-all
     slice-write-all

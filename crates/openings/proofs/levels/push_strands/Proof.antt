@@ -1,8 +1,8 @@
--- `pushes::push_strands` meets its contract: after j turns the first j numbers are laid over the array.
-use mathlib.Core.Path.{_≡_, refl, sym, ap, _∙_}
-use Prim.Native.Nat.{ℕ, _-_, _*_, _≤_}
-use native.Mathlib.Omega.{arith}
+-- `openings::levels::push_strands` meets its contract: after j turns the first j numbers are laid over the array.
 use borrow.Author.Needs.{needs}
+use mathlib.Core.Path.{_≡_, refl, sym, ap, _∙_}
+use Prim.Native.Nat.{ℕ, _+_, _-_, _*_, _≤_}
+use native.Mathlib.Omega.{arith}
 use lib.ListN.{length, take}
 use Rattle.laws.specs.Over.{overwrite}
 use Rattle.laws.proofs.Over.{over-none}
@@ -18,6 +18,9 @@ abbrev μ-loop : tie.MeasureT-loop
 
 mul-at : tie.Need-mul-at Inv-loop μ-loop
 mul-at c = search needs
+
+add-at : tie.Need-add-at Inv-loop μ-loop
+add-at c = search needs
 
 loop-holds : tie.Need-loop-holds Inv-loop μ-loop
 loop-holds c = (search needs, refl, sym (over-none _ _))
@@ -47,14 +50,14 @@ loop-again : tie.Need-loop-again Inv-loop μ-loop
 loop-again c =
     let l = c .before .before .loop in
     let a = c .before .before .before .before .before .args in
-    (search needs, search needs, copied (a .strands .now) (l .all) (a .words .now) (16 * a .depth) (l .j) (l .inv .2) (omega arith) (omega arith))
+    (search needs, search needs, copied (a .levels .now) (l .all) (a .words .now) (24 * a .depth + 8) (l .j) (l .inv .2) (omega arith) (omega arith))
 
 returns : tie.Need-returns Inv-loop μ-loop
 returns c =
     let l = c .before .loop in
     let a = c .before .before .before .before .args in
     let e : l .j ≡ a .count = omega arith in
-    l .inv .2 ∙ ap (λ (k : ℕ). overwrite (a .strands .now) (16 * a .depth) (take k (a .words .now))) e
+    l .inv .2 ∙ ap (λ (k : ℕ). overwrite (a .levels .now) (24 * a .depth + 8) (take k (a .words .now))) e
 
 pub push-strands-spec : {M : Type 1} → statement M
 push-strands-spec =
@@ -63,6 +66,7 @@ push-strands-spec =
     Inv-loop
     μ-loop
     mul-at
+    add-at
     loop-holds
     mul-all
     shared-slice-read-all

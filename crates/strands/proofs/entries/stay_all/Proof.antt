@@ -6,23 +6,24 @@ use native.Mathlib.Omega.{arith}
 use borrow.Author.Needs.{needs}
 use lib.ListN.{length, length-set}
 use Rattle.strands.specs.Packed.{wordsAt}
+use Rattle.strands.specs.Levels.{levelStrands}
 use Rattle.strands.specs.Entries.{stayEntry}
 use Rattle.strands.proofs.Laying.{Laying, rowFrom, stay-start, stay-one, stay-end}
 use Rattle.strands.proofs.entries.stay_all.Statement.{statement}
 use Rattle.strands.proofs.entries.stay_all.Tie as tie
 
 abbrev Inv-loop : tie.InvT-loop
-Inv-loop strands level n strand-words₀ schema-words₀ j₀ strand-words schema-words j = (j ≤ n) × (n ≤ 16) × (level < 64) × (length strand-words₀ ≡ 16) × (length schema-words₀ ≡ 16) × (length strand-words ≡ 16) × (length schema-words ≡ 16) × Laying (map stayEntry (wordsAt strands level n)) strand-words₀ schema-words₀ 0 strand-words schema-words j (map stayEntry (rowFrom strands level n j))
+Inv-loop levels level n strand-words₀ schema-words₀ j₀ strand-words schema-words j = (j ≤ n) × (n ≤ 16) × (level < 64) × (length strand-words₀ ≡ 16) × (length schema-words₀ ≡ 16) × (length strand-words ≡ 16) × (length schema-words ≡ 16) × Laying (map stayEntry (wordsAt (levelStrands levels) level n)) strand-words₀ schema-words₀ 0 strand-words schema-words j (map stayEntry (rowFrom (levelStrands levels) level n j))
 
 abbrev μ-loop : tie.MeasureT-loop
-μ-loop strands level n strand-words₀ schema-words₀ j₀ strand-words schema-words j = n - j
+μ-loop levels level n strand-words₀ schema-words₀ j₀ strand-words schema-words j = n - j
 
 loop-holds : tie.Need-loop-holds Inv-loop μ-loop
 loop-holds c =
     let a = c .before .before .args in
     let lw = c .before .strand-words .given .0 .1 in
     let ls = c .schema-words .given .0 .1 in
-    (omega arith, search needs, search needs, lw, ls, lw, ls, stay-start (a .strands .now) (a .level) (a .n) (a .words .now) (a .schemas .now) (a .words .now) (a .schemas .now))
+    (omega arith, search needs, search needs, lw, ls, lw, ls, stay-start (levelStrands (a .levels .now)) (a .level) (a .n) (a .words .now) (a .schemas .now) (a .words .now) (a .schemas .now))
 
 strand-at-requires : tie.Need-strand-at-requires Inv-loop μ-loop
 strand-at-requires c κs = search needs
@@ -62,14 +63,14 @@ loop-again c =
       l .inv .4,
       length-set (l .strand-words) (l .j) (v .result) ∙ l .inv .5,
       length-set (l .schema-words) (l .j) 0 ∙ l .inv .6,
-      stay-one (a .strands .now) (a .level) (a .n) (a .words .now) (a .schemas .now) (l .strand-words) (l .schema-words) (l .j) (l .inv .7) t (l .inv .1) (l .inv .3) (l .inv .4) (w .result) (v .result) (w .ensures) (v .ensures),
+      stay-one (levelStrands (a .levels .now)) (a .level) (a .n) (a .words .now) (a .schemas .now) (l .strand-words) (l .schema-words) (l .j) (l .inv .7) t (l .inv .1) (l .inv .3) (l .inv .4) (w .result) (v .result) (w .ensures) (v .ensures),
     )
 
 returns : tie.Need-returns Inv-loop μ-loop
 returns c =
     let a = c .before .before .before .before .args in
     let l = c .before .loop in
-    stay-end (a .strands .now) (a .level) (a .n) (a .words .now) (a .schemas .now) (l .strand-words) (l .schema-words) (l .j) (l .inv .7) (c .loop-test .left) (omega (arith, l .inv .0, l .inv .1))
+    stay-end (levelStrands (a .levels .now)) (a .level) (a .n) (a .words .now) (a .schemas .now) (l .strand-words) (l .schema-words) (l .j) (l .inv .7) (c .loop-test .left) (omega (arith, l .inv .0, l .inv .1))
 
 pub stay-all-spec : {M : Type 1} → statement M
 stay-all-spec =

@@ -7,6 +7,7 @@ use lib.ListN.{getD}
 use Rattle.laws.specs.Gather.{total}
 use Rattle.laws.proofs.Gather.{total-none}
 use Rattle.strands.specs.Packed.{wordsAt}
+use Rattle.strands.specs.Levels.{levelStrands}
 use Rattle.strands.specs.Writing.{eventCount}
 use Rattle.strands.proofs.Words.{words-none, words-more}
 use Rattle.strands.proofs.Delivered.{count-turn}
@@ -14,15 +15,15 @@ use Rattle.strands.proofs.events.event_count.Statement.{statement}
 use Rattle.strands.proofs.events.event_count.Tie as tie
 
 abbrev Inv-loop : tie.InvT-loop
-Inv-loop strands level n closes k₀ j₀ k j = (j ≤ n) × (k ≤ 2 * j) × (k ≡ total (eventCount closes) (wordsAt strands level j))
+Inv-loop levels level n closes k₀ j₀ k j = (j ≤ n) × (k ≤ 2 * j) × (k ≡ total (eventCount closes) (wordsAt (levelStrands levels) level j))
 
 abbrev μ-loop : tie.MeasureT-loop
-μ-loop strands level n closes k₀ j₀ k j = n - j
+μ-loop levels level n closes k₀ j₀ k j = n - j
 
 loop-holds : tie.Need-loop-holds Inv-loop μ-loop
 loop-holds c =
     let a = c .args in
-    (omega arith, omega arith, sym (ap (total (eventCount (a .closes))) (words-none (a .strands .now) (a .level)) ∙ total-none (eventCount (a .closes))))
+    (omega arith, omega arith, sym (ap (total (eventCount (a .closes))) (words-none (levelStrands (a .levels .now)) (a .level)) ∙ total-none (eventCount (a .closes))))
 
 strand-at-requires : tie.Need-strand-at-requires Inv-loop μ-loop
 strand-at-requires c κs = search needs
@@ -45,16 +46,16 @@ loop-again c =
     let l = c .before .before .before .loop in (
       omega arith,
       omega arith,
-      count-turn (a .closes) (getD (a .strands .now) (16 * a .level + l .j) 0) (l .k) _ _ _ (l .inv .2)
+      count-turn (a .closes) (getD (levelStrands (a .levels .now)) (16 * a .level + l .j) 0) (l .k) _ _ _ (l .inv .2)
           (c .records-of .ensures .0 ∙ ap (eventCount (a .closes)) (c .before .strand-at .ensures))
-          (words-more (a .strands .now) (a .level) (l .j)),
+          (words-more (levelStrands (a .levels .now)) (a .level) (l .j)),
     )
 
 returns : tie.Need-returns Inv-loop μ-loop
 returns c =
     let a = c .before .before .args in
     let l = c .before .loop in
-    (l .inv .2 ∙ ap (λ (j : ℕ). total (eventCount (a .closes)) (wordsAt (a .strands .now) (a .level) j)) (omega arith), omega arith)
+    (l .inv .2 ∙ ap (λ (j : ℕ). total (eventCount (a .closes)) (wordsAt (levelStrands (a .levels .now)) (a .level) j)) (omega arith), omega arith)
 
 pub event-count-spec : {M : Type 1} → statement M
 event-count-spec =

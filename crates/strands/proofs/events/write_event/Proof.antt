@@ -8,6 +8,7 @@ use lib.ListN.{length}
 use Rattle.laws.specs.Gather.{gather}
 use Rattle.records.specs.Rows.{laid, laidIf, laidRows, bodyOf}
 use Rattle.strands.specs.Packed.{wordsAt}
+use Rattle.strands.specs.Levels.{levelStrands}
 use Rattle.strands.specs.Writing.{rowOf, eventRecords}
 use Rattle.strands.proofs.Words.{words-none, words-more}
 use Rattle.strands.proofs.Delivered.{event-none, event-turn}
@@ -15,16 +16,16 @@ use Rattle.strands.proofs.events.write_event.Statement.{statement}
 use Rattle.strands.proofs.events.write_event.Tie as tie
 
 abbrev Inv-loop : tie.InvT-loop
-Inv-loop strands level n row closes out₀ used₀ j₀ out used j =
+Inv-loop levels level n row closes out₀ used₀ j₀ out used j =
     (j ≤ n)
     × (length out ≡ length out₀)
-    × (laid out used ≡ laidRows (laid out₀ 0) (map rowOf (gather (eventRecords (bodyOf row) closes) (wordsAt strands level j))))
+    × (laid out used ≡ laidRows (laid out₀ 0) (map rowOf (gather (eventRecords (bodyOf row) closes) (wordsAt (levelStrands levels) level j))))
 
 abbrev μ-loop : tie.MeasureT-loop
-μ-loop strands level n row closes out₀ used₀ j₀ out used j = n - j
+μ-loop levels level n row closes out₀ used₀ j₀ out used j = n - j
 
 loop-holds : tie.Need-loop-holds Inv-loop μ-loop
-loop-holds c = let a = c .before .args in (search needs, search needs, event-none (bodyOf (a .row)) (a .closes) (laid (a .out .now) 0) _ (words-none (a .strands .now) (a .level)))
+loop-holds c = let a = c .before .args in (search needs, search needs, event-none (bodyOf (a .row)) (a .closes) (laid (a .out .now) 0) _ (words-none (levelStrands (a .levels .now)) (a .level)))
 
 strand-at-requires : tie.Need-strand-at-requires Inv-loop μ-loop
 strand-at-requires c κs = search needs
@@ -74,7 +75,7 @@ loop-again c =
           (l .inv .2)
           (p .ensures ∙ ap (laidIf (d .result) (laid (l .out) (l .used))) (c .before .before .before .before .before .before .before .before .before .with-unit .ensures))
           (q .ensures ∙ ap (laidIf _ _) (c .before .before .before .plain-row .ensures))
-          (words-more (a .strands .now) (a .level) (l .j) ∙ ap (λ (x : ℕ). wordsAt (a .strands .now) (a .level) (l .j) ++ (x ∷ [])) (sym (w .ensures))),
+          (words-more (levelStrands (a .levels .now)) (a .level) (l .j) ∙ ap (λ (x : ℕ). wordsAt (levelStrands (a .levels .now)) (a .level) (l .j) ++ (x ∷ [])) (sym (w .ensures))),
     )
 
 same-length : tie.Need-same-length Inv-loop μ-loop
@@ -84,7 +85,7 @@ returns : tie.Need-returns Inv-loop μ-loop
 returns c =
     let a = c .before .before .before .args in
     let l = c .before .loop in
-    l .inv .2 ∙ ap (λ (j : ℕ). laidRows (laid (a .out .now) 0) (map rowOf (gather (eventRecords (bodyOf (a .row)) (a .closes)) (wordsAt (a .strands .now) (a .level) j)))) (omega arith)
+    l .inv .2 ∙ ap (λ (j : ℕ). laidRows (laid (a .out .now) 0) (map rowOf (gather (eventRecords (bodyOf (a .row)) (a .closes)) (wordsAt (levelStrands (a .levels .now)) (a .level) j)))) (omega arith)
 
 pub write-event-spec : {M : Type 1} → statement M
 write-event-spec =

@@ -1,11 +1,11 @@
--- `pushes::push_level` meets its contract: three stores are one part overwritten.
+-- `openings::levels::push_name` meets its contract: three stores are one part overwritten.
 use Prim.Native.Nat.{_*_}
 use native.Mathlib.Omega.{arith}
 use borrow.Author.Needs.{needs}
 use lib.ListN.{length-set}
 use Rattle.openings.proofs.Stores.{level-set}
-use Rattle.openings.proofs.levels.push_level.Statement.{statement}
-use Rattle.openings.proofs.levels.push_level.Tie as tie
+use Rattle.openings.proofs.levels.push_name.Statement.{statement}
+use Rattle.openings.proofs.levels.push_name.Tie as tie
 
 mul-at : tie.Need-mul-at
 mul-at c = search needs
@@ -49,10 +49,10 @@ returns c =
     let y = c .before .narrow2 in
     let z = c .narrow3 in
     let a = c .before .before .before .before .args in
-    level-set (a .levels .now) (3 * a .depth) (x .result) (y .result) (z .result) (a .name .at) (a .name .len) (a .owned) (omega arith) (x .ensures) (y .ensures) (z .ensures) (omega arith)
+    (level-set (a .levels .now) (24 * a .depth) (x .result) (y .result) (z .result) (a .name .at) (a .name .len) (a .owned) (omega arith) (x .ensures) (y .ensures) (z .ensures) (omega arith), c .before .before .before .all .given .0 .1)
 
-pub push-level-spec : {M : Type 1} → statement M
-push-level-spec =
+pub push-name-spec : {M : Type 1} → statement M
+push-name-spec =
     tie.close
     (tie.spec
     mul-at
