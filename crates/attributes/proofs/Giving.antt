@@ -132,12 +132,12 @@ pub record Holding (t : Table) (s own open′ array codes : List ℕ) (most : �
   pub few : n ≤ i
   pub within : i ≤ most
   pub most-few : most ≤ 16
-  pub long : length l ≡ 128
+  pub long : length l ≡ 144
   pub laid : l ≡ laidGivens held l₀
   pub left : held ++ givensOf t s own open′ (tabulate (codedAt array codes) i (most - i)) ≡ gs
 
 module _ (t : Table) (s own open′ array codes : List ℕ) (most : ℕ) (gs : List Given) (l₀ : List ℕ) where
-  pub begin : (count : ℕ) → gs ≡ givensOf t s own open′ (coded (attrsIn array count) codes) → most ≡ atMost 16 count → length l₀ ≡ 128 → Holding t s own open′ array codes most gs l₀ l₀ 0 0
+  pub begin : (count : ℕ) → gs ≡ givensOf t s own open′ (coded (attrsIn array count) codes) → most ≡ atMost 16 count → length l₀ ≡ 144 → Holding t s own open′ array codes most gs l₀ l₀ 0 0
   begin count eg em long =
       record {
         held = [];

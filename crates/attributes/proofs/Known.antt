@@ -231,11 +231,11 @@ module _ (s own open′ : List ℕ) (bound : ℕ) (known array : List ℕ) (coun
     pub few : n ≤ i
     pub within : i ≤ most
     pub most-few : most ≤ 16
-    pub long : length l ≡ 128
+    pub long : length l ≡ 144
     pub each : Each l n i
 
   module _ (em : most ≡ atMost 16 count) where
-    pub begin-holds : length l₀ ≡ 128 → Holds l₀ 0 0
+    pub begin-holds : length l₀ ≡ 144 → Holds l₀ 0 0
     begin-holds long =
         record {
           few = omega arith;

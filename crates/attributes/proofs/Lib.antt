@@ -1,3 +1,4 @@
+pub mod HeldParts
 pub mod Giving
 pub mod Numbering
 pub mod Known

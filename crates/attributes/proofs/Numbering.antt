@@ -4,7 +4,7 @@
 --     place-*, after-place            the place of a namespace among the sections, now and at the end
 --     numbers-final                   the numbers are places among all the sections
 --     among-next                      the number among those before is the place among the sections so far
---     Numbering, begin, turn, ended   the loop of `number_sections`
+--     Numbering, begin, number-few, turn, ended   the loop of `number_sections`
 use Prim.Native.Nat.{ℕ, zero, suc, _+_, _-_, _≤_, _<_}
 use mathlib.Core.Path.{_≡_, refl, sym, ap, _∙_}
 use mathlib.Core.List.{List, [], _∷_, _++_, map, append-assoc}
@@ -404,6 +404,18 @@ module _ (s : List ℕ) (e : Namespace) (f : ℕ → Namespace) (l₀ : List ℕ
         ap (λ (k : ℕ). numberAmong s (f i) k before) q
         ∙ among-next s e (f i) [] before (counts-are ∙ ap (numbersFrom s e []) (sym spaces-are)) refl
         ∙ ap (λ (x : List Namespace). suc (placeAmong s (f i) 0 (sectionsAfter s e [] x))) spaces-are
+
+    -- at most one more than there are
+    pub number-few : (c : ℕ) → c ≡ cond (staysWith s e (f i)) 0 (numberAmong s (f i) (m + 1) before) → c ≤ m + 1
+    number-few c q = by (staysWith s e (f i)) (q ∙ ap (cond (staysWith s e (f i)) 0) number-is)
+      where
+        place : (b : Bool) → any (has s (f i)) sections ≡ b → placeAmong s (f i) 0 sections ≤ length sections
+        place true h = omega (arith, place-in s (f i) 0 sections h)
+        place false h = omega (arith, place-absent s (f i) 0 sections h)
+
+        by : (b : Bool) → c ≡ cond b 0 (suc (placeAmong s (f i) 0 sections)) → c ≤ m + 1
+        by true r = omega arith
+        by false r = omega (arith, place (any (has s (f i)) sections) refl, d .counted)
 
     more : tabulate f 0 (i + 1) ≡ so-far ++ (f i ∷ [])
     more = ap (tabulate f 0) (add-one i) ∙ tab-last f i

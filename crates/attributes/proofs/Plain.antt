@@ -1,15 +1,16 @@
 -- Tags whose attributes are all plain, and attributes none of which has a section.
 --     plain-givens                        what is held of plain attributes
---     Plainly, begin-plain, turn-plain, ended-plain     the loop of `hold_plain`
+--     Plainly, begin-plain, turn-plain, turn-held, ended-plain     the loop of `hold_plain`
 --     none-zero, none-zero-laid           where there is no section each number is 0
 use Prim.Native.Nat.{ℕ, zero, suc, _+_, _*_, _≤_, _<_}
-use mathlib.Core.Path.{_≡_, refl, sym, ap, _∙_}
+use mathlib.Core.Path.{_≡_, refl, sym, ap, subst, _∙_}
 use mathlib.Core.List.{List, [], _∷_, _++_, map}
 use mathlib.Core.Bool.{Bool, true, false, cond}
 use native.Mathlib.Omega.{arith}
 use native.Mathlib.Nat.{add-zero, not-suc-le-zero}
 use native.Mathlib.Numerals.{add-one}
 use lib.ListN.{length, getD, set, drop, length-append, length-set}
+use lib.Seq.{take-set-le, drop-set-add}
 use Rattle.laws.specs.Lists.{any, all, tabulate, keep}
 use Rattle.laws.specs.Gather.{gather}
 use Rattle.laws.specs.Members.{All}
@@ -27,7 +28,8 @@ use Rattle.reader.specs.Known.{plainAttr}
 use Rattle.reader.proofs.Indexed.{at-most-le, tab-last}
 use Rattle.reader.proofs.Plain.{plain-kind}
 use Rattle.attributes.specs.declared.Placing.{Placing}
-use Rattle.attributes.specs.Attributes.{Given, namespaceOf, givenBy, givensOf, givenNumbers, laidGivens, givenIn, staysWith, sectionsWith, placeAmong, numbersFrom, sectionsAfter, codeNamespaces}
+use Rattle.attributes.specs.Attributes.{Given, namespaceOf, givenBy, givensOf, givenNumbers, laidGivens, givenIn, attributesIn, sectionsIn, staysWith, sectionsWith, placeAmong, numbersFrom, sectionsAfter, codeNamespaces}
+use Rattle.attributes.proofs.HeldParts.{over-first, over-behind}
 use Rattle.attributes.proofs.Giving.{placing, placing-nothing, laid-none, laid-more}
 use Rattle.attributes.proofs.Numbering.{map-tabulate, numbers-long}
 
@@ -185,6 +187,21 @@ module _ (array : List ℕ) (count most : ℕ) (em : most ≡ atMost 16 count) (
                 ez ∙ ap (overwrite z₀ 0) (sym (ap (numbersFrom s e []) en ∙ numbers-none s e 0 most)),
               ),
         )
+
+-- the same of both parts of an array
+pub turn-held : (array : List ℕ) (count most : ℕ) → most ≡ atMost 16 count → (l₀ z₀ all : List ℕ) (i : ℕ) → length all ≡ 144 → Plainly array most l₀ z₀ (attributesIn all) (sectionsIn all) i → i < most
+    → (a : Attr) → a ≡ attrIn array i → (w : Placing) → w ≡ placing 0 0 0 → (r : List ℕ) → r ≡ overwrite all (8 * i) (givenNumbers (givenBy a w 0))
+    → (length (set r (128 + i) 0) ≡ 144) × Plainly array most l₀ z₀ (attributesIn (set r (128 + i) 0)) (sectionsIn (set r (128 + i) 0)) (i + 1)
+turn-held array count most em l₀ z₀ all i long d h a ea w ew r er =
+    let few = d .most-few in
+    let numbers : List ℕ = givenNumbers (givenBy a w 0) in
+    let first : attributesIn (set r (128 + i) 0) ≡ overwrite (attributesIn all) (8 * i) numbers = take-set-le 128 r (128 + i) 0 (omega arith) ∙ ap attributesIn er ∙ over-first all (omega arith) (8 * i) numbers (omega arith) in
+    let behind : sectionsIn (set r (128 + i) 0) ≡ set (sectionsIn all) i 0 =
+    drop-set-add 128 r i 0 ∙ ap (λ (x : List ℕ). set x i 0) (ap sectionsIn er ∙ over-behind all (omega arith) (8 * i) numbers (omega arith)) in (
+      length-set r (128 + i) 0 ∙ ap (λ (x : List ℕ). length x) er ∙ length-over all (8 * i) numbers (omega arith) ∙ long,
+      subst (λ (z : List ℕ). Plainly array most l₀ z₀ (attributesIn (set r (128 + i) 0)) z (i + 1)) (sym behind)
+          (turn-plain array count most em l₀ z₀ (attributesIn all) (sectionsIn all) i d h a ea w ew (attributesIn (set r (128 + i) 0)) first),
+    )
 
 -- ---- no section: each attribute's number is 0
 module _ (s : List ℕ) (e : Namespace) where

@@ -1,8 +1,8 @@
--- The attributes of a tag that are no declarations, in an array of eight numbers to each; and the number of the section of each. Definitions.
+-- The attributes of a tag that are no declarations, in an array of eight numbers to each, and behind them the number of the section of each. Definitions.
 use Prim.Native.Nat.{ℕ, zero, suc, _+_, _*_, _%_, _^_}
 use mathlib.Core.List.{List, [], _∷_, _++_, map}
 use mathlib.Core.Bool.{Bool, true, false, cond, not, _&&_, _||_}
-use lib.ListN.{length, getD, drop}
+use lib.ListN.{length, getD, take, drop}
 use lib.Dec.{eqb}
 use Rattle.laws.specs.Lists.{any, tabulate, keep}
 use Rattle.laws.specs.Gather.{gather}
@@ -74,6 +74,13 @@ givenIn l k =
       code = getD l (8 * k + 7) 0;
     }
 
+-- of an array the attributes, and behind them the numbers of their sections
+abbrev pub attributesIn : List ℕ → List ℕ
+attributesIn l = take 128 l
+
+abbrev pub sectionsIn : List ℕ → List ℕ
+sectionsIn l = drop 128 l
+
 -- ---- sections
 -- the place of a namespace among others, from k on; behind the last where it is not there
 unfoldable pub placeAmong : List ℕ → Namespace → ℕ → List Namespace → ℕ
@@ -140,6 +147,10 @@ sortedIn attributes sections k =
 
 abbrev pub allSorted : List ℕ → List ℕ → ℕ → List Sorted
 allSorted attributes sections n = tabulate (sortedIn attributes sections) 0 n
+
+-- the first n of an array
+abbrev pub sortedHeld : List ℕ → ℕ → List Sorted
+sortedHeld l n = allSorted (attributesIn l) (sectionsIn l) n
 
 -- the same of the model's element: the number of an attribute's group in `groupsOf`, from 1; 0 where it stays
 unfoldable pub sectionPlace : ℕ → List AttributeGroup → Attribute → ℕ

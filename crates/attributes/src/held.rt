@@ -1,4 +1,5 @@
 // The attributes of a tag that are no declarations, each with its namespace's class and URI.
+use crate::HELD;
 use crate::Placing;
 use compare::part_of;
 use lexer::Attr;
@@ -28,7 +29,7 @@ ghost use Rattle.reader.specs.Namespaces.{Namespace};
 ghost use Rattle.reader.specs.Stored.{Coded, storedSpace, coded, foundIn};
 ghost use Rattle.reader.specs.Known.{Within, plainAttr};
 ghost use Rattle.model.specs.Elements as elements;
-ghost use Rattle.attributes.specs.Attributes.{placingOf, givenNumbers, givenBy, givensOf, laidGivens, givenIn, codeNamespaces, numbersFrom, sectionsAfter};
+ghost use Rattle.attributes.specs.Attributes.{placingOf, givenNumbers, givenBy, givensOf, laidGivens, givenIn, codeNamespaces, numbersFrom, sectionsAfter, attributesIn, sectionsIn};
 ghost use Rattle.attributes.specs.Known.{classesIn, ClassesAt, placedBy};
 
 // A number as 32 bits hold it.
@@ -157,7 +158,7 @@ pub fn hold(
     bound: usize,
     known: &[u64; 2 * Scope::KNOWN],
     codes: &[usize; 16],
-    attributes: &mut [u32; 128],
+    attributes: &mut [u32; HELD],
 ) -> usize
     requires { ⌜ (bound ≤ 64) × All (λ (c : Coded). c .code < 82) (coded (attrsIn (now attrs) count) (now codes)) ⌝ }
     ensures { λ r. ⌜ (r ≤ 16) × (
@@ -188,27 +189,21 @@ pub fn hold(
 }
 
 // The same of a tag whose attributes are all plain: each stays with the element, section 0.
-pub fn hold_plain(
-    attrs: &[usize; 80],
-    count: usize,
-    attributes: &mut [u32; 128],
-    sections: &mut [usize; 16],
-) -> usize
+pub fn hold_plain(attrs: &[usize; 80], count: usize, attributes: &mut [u32; HELD]) -> usize
     ensures { λ r. ⌜ (r ≤ 16) × (
         (t : Table) (s own outer codes : List ℕ) (e : Namespace)
         → all (plainAttr s) (attrsIn (now (attrs .entry)) count) ≡ true
         → All (λ (c : Coded). c .code ≡ 0) (coded (attrsIn (now (attrs .entry)) count) codes)
         → (
         let gs = givensOf t s own outer (coded (attrsIn (now (attrs .entry)) count) codes) in
-        let ns = codeNamespaces own outer (tabulate (givenIn (now (attributes .exit))) 0 r) in
+        let ns = codeNamespaces own outer (tabulate (givenIn (attributesIn (now (attributes .exit)))) 0 r) in
         (r ≡ length gs)
-        × (now (attributes .exit) ≡ laidGivens gs (now (attributes .entry)))
+        × (attributesIn (now (attributes .exit)) ≡ laidGivens gs (attributesIn (now (attributes .entry))))
         × (0 ≡ length (sectionsAfter s e [] ns))
-        × (now (sections .exit) ≡ overwrite (now (sections .entry)) 0 (numbersFrom s e [] ns))
+        × (sectionsIn (now (attributes .exit)) ≡ overwrite (sectionsIn (now (attributes .entry))) 0 (numbersFrom s e [] ns))
         )) ⌝ }
 {
     let all: &mut [u32] = attributes;
-    let numbers: &mut [usize] = sections;
     let most = at_most(16, count);
     let none = Placing {
         class: 0,
@@ -218,7 +213,7 @@ pub fn hold_plain(
     let mut i = 0;
     while i < most {
         put_given(all, i, attr_in(attrs, i), none, 0);
-        numbers[i] = 0;
+        all[128 + i] = 0;
         i += 1;
     }
     most

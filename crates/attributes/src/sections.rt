@@ -1,4 +1,5 @@
 // The sections of a tag's attributes: one per namespace, ordered by first attribute.
+use crate::HELD;
 use reader::Found;
 use reader::clashes::same_space;
 use reader::spaces::found_in;
@@ -6,16 +7,24 @@ ghost use mathlib.Core.Path.{_≡_};
 ghost use mathlib.Core.List.{[]};
 ghost use mathlib.Core.Bool.{cond};
 ghost use Prim.Native.Nat.{_+_, _≤_, _<_};
-ghost use lib.ListN.{length};
+ghost use lib.ListN.{length, getD, set};
 ghost use Rattle.laws.specs.Lists.{tabulate};
 ghost use Rattle.laws.specs.Over.{overwrite};
 ghost use Rattle.reader.specs.Stored.{foundIn, storedSpace};
-ghost use Rattle.attributes.specs.Attributes.{namespaceOf, isNothing, givenIn, staysWith, inSection, numberedIn, numberAmong, codeNamespaces, numbersFrom, sectionsAfter};
+ghost use Rattle.attributes.specs.Attributes.{namespaceOf, isNothing, givenIn, attributesIn, sectionsIn, staysWith, inSection, numberedIn, numberAmong, codeNamespaces, numbersFrom, sectionsAfter};
+
+// The number of the section of the k-th attribute; 0 where it stays with the element.
+pub fn section_at(attributes: &[u32; HELD], k: usize) -> u32
+    requires { ⌜ k < 16 ⌝ }
+    ensures { λ r. ⌜ r ≡ getD (sectionsIn (now (attributes .entry))) k 0 ⌝ }
+{
+    attributes[128 + k]
+}
 
 // What was found for the k-th attribute of the array.
-fn found_at(attributes: &[u32; 128], k: usize) -> Found
+fn found_at(attributes: &[u32; HELD], k: usize) -> Found
     requires { ⌜ k < 16 ⌝ }
-    ensures { λ r. ⌜ r ≡ foundIn (givenIn (now (attributes .entry)) k .code) ⌝ }
+    ensures { λ r. ⌜ r ≡ foundIn (givenIn (attributesIn (now (attributes .entry))) k .code) ⌝ }
 {
     let all: &[u32] = attributes;
     found_in(all[8 * k + 7] as usize)
@@ -39,14 +48,13 @@ fn in_section(
     own: &[u32; 64],
     outer: &[u32; 256],
     f: Found,
-    attributes: &[u32; 128],
-    sections: &[usize],
+    attributes: &[u32; HELD],
     k: usize,
 ) -> bool
-    requires { ⌜ (k < 16) × (k < length (now sections)) ⌝ }
-    ensures { λ r. ⌜ r ≡ inSection (now (s .entry)) (storedSpace (now (own .entry)) (now (outer .entry)) f) (numberedIn (now (own .entry)) (now (outer .entry)) (now (attributes .entry)) (now (sections .entry)) k) ⌝ }
+    requires { ⌜ k < 16 ⌝ }
+    ensures { λ r. ⌜ r ≡ inSection (now (s .entry)) (storedSpace (now (own .entry)) (now (outer .entry)) f) (numberedIn (now (own .entry)) (now (outer .entry)) (attributesIn (now (attributes .entry))) (sectionsIn (now (attributes .entry))) k) ⌝ }
 {
-    if sections[k] == 0 {
+    if section_at(attributes, k) == 0 {
         return false;
     }
     same_space(s, own, outer, found_at(attributes, k), f)
@@ -58,16 +66,15 @@ fn section_of(
     own: &[u32; 64],
     outer: &[u32; 256],
     element: Found,
-    attributes: &[u32; 128],
+    attributes: &[u32; HELD],
     i: usize,
-    sections: &[usize],
     m: usize,
 ) -> usize
-    requires { ⌜ (i < 16) × (m ≤ i) × (i ≤ length (now sections)) ⌝ }
+    requires { ⌜ (i < 16) × (m ≤ i) ⌝ }
     ensures { λ r. ⌜ (
         let e = storedSpace (now (own .entry)) (now (outer .entry)) element in
-        let n = namespaceOf (now (own .entry)) (now (outer .entry)) (givenIn (now (attributes .entry)) i .code) in
-        let before = tabulate (numberedIn (now (own .entry)) (now (outer .entry)) (now (attributes .entry)) (now (sections .entry))) 0 i in
+        let n = namespaceOf (now (own .entry)) (now (outer .entry)) (givenIn (attributesIn (now (attributes .entry))) i .code) in
+        let before = tabulate (numberedIn (now (own .entry)) (now (outer .entry)) (attributesIn (now (attributes .entry))) (sectionsIn (now (attributes .entry)))) 0 i in
         r ≡ cond (staysWith (now (s .entry)) e n) 0 (numberAmong (now (s .entry)) n (m + 1) before)
         ) ⌝ }
 {
@@ -80,38 +87,46 @@ fn section_of(
     }
     let mut k = 0;
     while k < i {
-        if in_section(s, own, outer, f, attributes, sections, k) {
-            return sections[k];
+        if in_section(s, own, outer, f, attributes, k) {
+            return section_at(attributes, k) as usize;
         }
         k += 1;
     }
     m + 1
 }
 
-// The section of each of the n attributes, from the array's first place on; how many sections.
+// The number of a section, behind the attributes.
+fn put_section(attributes: &mut [u32; HELD], i: usize, section: usize)
+    requires { ⌜ (i < 16) × (section ≤ 16) ⌝ }
+    ensures { λ _. ⌜ (now (attributes .exit) ≡ set (now (attributes .entry)) (128 + i) section) × (length (now (attributes .entry)) ≡ 144) ⌝ }
+{
+    let all: &mut [u32] = attributes;
+    all[128 + i] = section as u32;
+}
+
+// The section of each of the n attributes, from the first on; how many sections.
 pub fn number_sections(
     s: &[u8],
     own: &[u32; 64],
     outer: &[u32; 256],
     element: Found,
-    attributes: &[u32; 128],
+    attributes: &mut [u32; HELD],
     n: usize,
-    sections: &mut [usize; 16],
 ) -> usize
     requires { ⌜ n ≤ 16 ⌝ }
     ensures { λ r. ⌜ (
         let e = storedSpace (now (own .entry)) (now (outer .entry)) element in
-        let ns = codeNamespaces (now (own .entry)) (now (outer .entry)) (tabulate (givenIn (now (attributes .entry))) 0 n) in
+        let ns = codeNamespaces (now (own .entry)) (now (outer .entry)) (tabulate (givenIn (attributesIn (now (attributes .entry)))) 0 n) in
         (r ≡ length (sectionsAfter (now (s .entry)) e [] ns))
-        × (now (sections .exit) ≡ overwrite (now (sections .entry)) 0 (numbersFrom (now (s .entry)) e [] ns))
+        × (attributesIn (now (attributes .exit)) ≡ attributesIn (now (attributes .entry)))
+        × (sectionsIn (now (attributes .exit)) ≡ overwrite (sectionsIn (now (attributes .entry))) 0 (numbersFrom (now (s .entry)) e [] ns))
         ) ⌝ }
 {
-    let all: &mut [usize] = sections;
     let mut m = 0;
     let mut i = 0;
     while i < n {
-        let c = section_of(s, own, outer, element, attributes, i, all, m);
-        all[i] = c;
+        let c = section_of(s, own, outer, element, attributes, i, m);
+        put_section(attributes, i, c);
         if m < c {
             m = c;
         }

@@ -2,7 +2,7 @@
 --     decided-23                       a 17th strand
 --     decided-plain, decided-held      the others, by whether the attributes are plain
 use Prim.Native.Nat.{ℕ, _≤_, _<_}
-use mathlib.Core.Path.{_≡_, refl, ap, _∙_, subst}
+use mathlib.Core.Path.{_≡_, refl, sym, ap, _∙_, subst}
 use mathlib.Core.Bool.{true}
 use mathlib.Core.List.{List, []}
 use native.Mathlib.Omega.{arith}
@@ -125,14 +125,15 @@ module _ (table levels : List ℕ) (header : Header) (index s attrs codes own ou
           let h = held t s own outer codes n (g .met .plain-names plain) (g .met .plain-codes plain) in
           decided-on 0 (h .0) (h .1) (h .2) (h .3) weighed
 
-      pub decided-held : (m : ℕ)
+      pub decided-held : (m : ℕ) (held-first : List ℕ) → attributes ≡ held-first
           → ((table : List ℕ) (header : Header) (owned : ℕ) → header .namespaces < 256
           → ClassesAt (tableOf table header) s outer (head .bound) 0 known → ClassesAt (tableOf table header) s own owned (head .bound) known
           → All (λ (c : Coded). Within owned (head .bound) (foundIn (c .code))) (coded (attrsIn attrs (started .tag .count)) codes)
-          → (let gs = givensOf (tableOf table header) s own outer (coded (attrsIn attrs (started .tag .count)) codes) in (k ≡ length gs) × (attributes ≡ laidGivens gs attributes₀)))
-          → (let ns = codeNamespaces own outer (tabulate (givenIn attributes) 0 k) in (m ≡ length (sectionsAfter s (storedSpace own outer (started .found)) [] ns)) × (sections ≡ overwrite sections₀ 0 (numbersFrom s (storedSpace own outer (started .found)) [] ns)))
+          → (let gs = givensOf (tableOf table header) s own outer (coded (attrsIn attrs (started .tag .count)) codes) in (k ≡ length gs) × (held-first ≡ laidGivens gs attributes₀)))
+          → (let ns = codeNamespaces own outer (tabulate (givenIn held-first) 0 k) in (m ≡ length (sectionsAfter s (storedSpace own outer (started .found)) [] ns)) × (sections ≡ overwrite sections₀ 0 (numbersFrom s (storedSpace own outer (started .found)) [] ns)))
           → Weighed index (allSorted attributes sections k) k m count (head .units) words₁ words r
           → DecidedAs (decode table) s (sessionOf head levels outer spaces strands) (elementOf (decode table) s (startOf s outer own attrs codes (started .at) (started .tag) (started .found))) r words schemas attributes sections
-      decided-held m held numbered weighed =
+      decided-held m held-first same held numbered weighed =
           let h = held table (headerOf table) (started .owned) (omega (arith, header-in table (g .ready .accepted) .few-namespaces)) (g .beside .classes) (g .own-classes) (g .met .codes-within) in
-          decided-on m (h .0) (h .1) (numbered .0) (numbered .1) weighed
+          let v = subst (λ (x : List ℕ). (m ≡ length (sectionsAfter s n [] (codeNamespaces own outer (tabulate (givenIn x) 0 k)))) × (sections ≡ overwrite sections₀ 0 (numbersFrom s n [] (codeNamespaces own outer (tabulate (givenIn x) 0 k))))) (sym same) numbered in
+          decided-on m (h .0) (same ∙ h .1) (v .0) (v .1) weighed

@@ -2,6 +2,7 @@
 use crate::Head;
 use crate::Session;
 use crate::Started;
+use attributes::HELD;
 use attributes::Placing;
 use attributes::held::hold;
 use attributes::held::hold_plain;
@@ -26,7 +27,7 @@ ghost use Rattle.reader.specs.Stored.{storedSpace, Coded, coded};
 ghost use Rattle.reader.specs.Known.{plainAttr};
 ghost use Rattle.model.specs.Elements as elements;
 ghost use Rattle.attributes.specs.Known.{ClassesAt};
-ghost use Rattle.attributes.specs.Attributes.{placingOf};
+ghost use Rattle.attributes.specs.Attributes.{placingOf, sectionsIn, attributesIn};
 ghost use Rattle.strands.specs.Levels.{levelSpaces};
 ghost use Rattle.dispatcher.specs.Sessions.{sessionAt};
 ghost use Rattle.dispatcher.specs.Turns.{TurnReady, Beside, Met, DecidedAs, startOf};
@@ -46,8 +47,7 @@ pub fn decide(
     levels: &[u32; LEVELS],
     words: &mut [u32; Session::STRANDS],
     schemas: &mut [u32; Session::STRANDS],
-    attributes: &mut [u32; 128],
-    sections: &mut [usize; 16],
+    attributes: &mut [u32; HELD],
 ) -> Decided
     requires { ⌜ (head .depth < 64) × (head .units ≤ 65536) × (1 ≤ head .depth → getD (levelSpaces (now levels)) (4 * (head .depth - 1) + 3) 0 ≤ 16) × (head .bound ≤ 64) × All (λ (c : Coded). c .code < 82) (coded (attrsIn (now attrs) (started .tag .count)) (now codes)) × (started .plain ≡ true → all (plainAttr (now scene)) (attrsIn (now attrs) (started .tag .count)) ≡ true) ⌝ }
     ensures { λ r. ⌜ ((table : List ℕ) (header : Header) → (
@@ -60,7 +60,7 @@ pub fn decide(
         → ClassesAt t s (now (own .entry)) (started .owned) (head .bound) (now (known .entry))
         → Met s (now (outer .entry)) (now (own .entry)) (now (attrs .entry)) (now (codes .entry)) (now (known .entry)) (head .bound) started
         → placing ≡ placingOf (elements.spaceOf t s (storedSpace (now (own .entry)) (now (outer .entry)) (started .found)))
-        → DecidedAs t s z (elements.elementOf t s e) r (now (words .exit)) (now (schemas .exit)) (now (attributes .exit)) (now (sections .exit))
+        → DecidedAs t s z (elements.elementOf t s e) r (now (words .exit)) (now (schemas .exit)) (attributesIn (now (attributes .exit))) (sectionsIn (now (attributes .exit)))
         )) ⌝ }
 {
     let found = started.found;
@@ -81,8 +81,8 @@ pub fn decide(
     }
     let tag = started.tag;
     if started.plain {
-        let k = hold_plain(attrs, tag.count, attributes, sections);
-        return weigh(index, attributes, sections, k, 0, count, head.units, words);
+        let k = hold_plain(attrs, tag.count, attributes);
+        return weigh(index, attributes, k, 0, count, head.units, words);
     }
     let n = hold(
         scene,
@@ -95,6 +95,6 @@ pub fn decide(
         codes,
         attributes,
     );
-    let m = number_sections(scene, own, outer, found, attributes, n, sections);
-    weigh(index, attributes, sections, n, m, count, head.units, words)
+    let m = number_sections(scene, own, outer, found, attributes, n);
+    weigh(index, attributes, n, m, count, head.units, words)
 }

@@ -4,6 +4,7 @@ use crate::Session;
 use crate::Started;
 use crate::Turn;
 use crate::steps::stop;
+use attributes::HELD;
 use attributes::Placing;
 use openings::Decided;
 use openings::levels::push_start;
@@ -18,7 +19,7 @@ ghost use Rattle.table.specs.declared.Header.{Header};
 ghost use Rattle.reader.specs.declared.Binding.{Binding};
 ghost use Rattle.reader.specs.Stored.{narrowed, storedSpace};
 ghost use Rattle.model.specs.Elements as elements;
-ghost use Rattle.attributes.specs.Attributes.{placingOf};
+ghost use Rattle.attributes.specs.Attributes.{placingOf, sectionsIn, attributesIn};
 ghost use Rattle.dispatcher.specs.Sessions.{sessionAt};
 ghost use Rattle.dispatcher.specs.Stepping.{startPlan, planned};
 ghost use Rattle.openings.specs.Openings.{Openable};
@@ -48,15 +49,14 @@ pub fn open_level(
     own: &[u32; 64],
     words: &[u32; Session::STRANDS],
     schemas: &[u32; Session::STRANDS],
-    attributes: &[u32; 128],
-    sections: &[usize; 16],
+    attributes: &[u32; HELD],
     head: Head,
     levels: &mut [u32; LEVELS],
     bindings: &mut [u32; 4 * Session::BINDINGS],
     rows: &mut [u64; 82],
     out: &mut [u8],
 ) -> Turn
-    requires { ⌜ Roomy head (started .owned) × (decided .number ≡ 0 → Openable (now index) (now attributes) (now sections) (now words) (now schemas) (narrowed (started .at)) (head .units) decided) ⌝ }
+    requires { ⌜ Roomy head (started .owned) × (decided .number ≡ 0 → Openable (now index) (attributesIn (now attributes)) (sectionsIn (now attributes)) (now words) (now schemas) (narrowed (started .at)) (head .units) decided) ⌝ }
     ensures { λ r. ⌜ ((table s attrs codes : List ℕ) (header : Header) (ds : List Binding) → (
         let z = sessionAt head (now (levels .entry)) (now (bindings .entry)) in
         let t = decode table in
@@ -64,7 +64,7 @@ pub fn open_level(
         TurnReady table header (now (index .entry)) s z
         → Told s (now (bindings .entry)) (now (own .entry)) attrs codes (started .at) (started .tag) (started .found) (started .owned) ds
         → placing ≡ placingOf (elements.spaceOf t s (storedSpace (now (own .entry)) (now (bindings .entry)) (started .found)))
-        → DecidedAs t s z (elements.elementOf t s e) decided (now (words .entry)) (now (schemas .entry)) (now (attributes .entry)) (now (sections .entry))
+        → DecidedAs t s z (elements.elementOf t s e) decided (now (words .entry)) (now (schemas .entry)) (attributesIn (now (attributes .entry))) (sectionsIn (now (attributes .entry)))
         → stepIn r (now (levels .exit)) (now (bindings .exit)) (now (out .exit))
         ≡ planned (startPlan t s z e ds (started .tag .next)) z (now (out .entry))
         )) ⌝ }
@@ -83,7 +83,6 @@ pub fn open_level(
     write_start(
         index,
         attributes,
-        sections,
         words,
         schemas,
         decided,

@@ -8,6 +8,7 @@ use crate::decisions::decide;
 use crate::opening::open_level;
 use crate::readings::read_start;
 use crate::steps::stop;
+use attributes::HELD;
 use attributes::held::put_classes;
 use attributes::held::space_of;
 use reader::Scope;
@@ -39,7 +40,7 @@ fn element_turn(
     attrs: &[usize; 80],
     codes: &[usize; 16],
     own: &[u32; 64],
-    attributes: &mut [u32; 128],
+    attributes: &mut [u32; HELD],
     rows: &mut [u64; 82],
     out: &mut [u8],
 ) -> Turn
@@ -73,7 +74,6 @@ fn element_turn(
     let placing = space_of(own, bindings, head.bound, known, found);
     let mut words: [u32; Session::STRANDS] = [0; Session::STRANDS];
     let mut schemas: [u32; Session::STRANDS] = [0; Session::STRANDS];
-    let mut sections: [usize; 16] = [0; 16];
     let decided = decide(
         index,
         scene,
@@ -89,7 +89,6 @@ fn element_turn(
         &mut words,
         &mut schemas,
         attributes,
-        &mut sections,
     );
     open_level(
         index,
@@ -100,7 +99,6 @@ fn element_turn(
         &words,
         &schemas,
         attributes,
-        &sections,
         head,
         levels,
         bindings,
@@ -121,7 +119,7 @@ pub fn start_turn(
     known: &mut [u64; 2 * Scope::KNOWN],
     attrs: &mut [usize; 80],
     own: &mut [u32; 64],
-    attributes: &mut [u32; 128],
+    attributes: &mut [u32; HELD],
     rows: &mut [u64; 82],
     out: &mut [u8],
 ) -> Turn

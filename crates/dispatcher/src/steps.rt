@@ -8,6 +8,7 @@ use crate::ends::awaited_turn;
 use crate::ends::end_turn;
 use crate::ends::text_turn;
 use crate::starts::start_turn;
+use attributes::HELD;
 use attributes::held::put_classes;
 use lexer::Begin;
 use lexer::Stop;
@@ -60,7 +61,7 @@ fn judged_step(
     known: &mut [u64; 2 * Scope::KNOWN],
     attrs: &mut [usize; 80],
     own: &mut [u32; 64],
-    attributes: &mut [u32; 128],
+    attributes: &mut [u32; HELD],
     rows: &mut [u64; 82],
     out: &mut [u8],
 ) -> Turn
@@ -118,7 +119,7 @@ fn judged_steps(
 {
     let mut attrs: [usize; 80] = [0; 80];
     let mut own: [u32; 64] = [0; 64];
-    let mut attributes: [u32; 128] = [0; 128];
+    let mut attributes: [u32; HELD] = [0; HELD];
     let mut rows: [u64; 82] = [0; 82];
     let mut head = from;
     let mut used = 0;

@@ -2,6 +2,7 @@
 use crate::Decided;
 use crate::STRANDS;
 use crate::UNITS;
+use attributes::HELD;
 use strands::counts::elements_count;
 use strands::counts::load_all;
 use strands::entries::new_units;
@@ -20,7 +21,7 @@ ghost use Rattle.model.specs.Stream.{Entry, allot};
 ghost use Rattle.strands.specs.Packed.{strandIn};
 ghost use Rattle.strands.specs.Entries.{strandWord, hereCount, Unnumbered, entriesIn};
 ghost use Rattle.strands.specs.Rules.{unitsFor};
-ghost use Rattle.attributes.specs.Attributes.{allSorted};
+ghost use Rattle.attributes.specs.Attributes.{sortedHeld, sectionsIn};
 ghost use Rattle.strands.specs.Writing.{members, headClass, sectionCount, elementCount};
 ghost use Rattle.openings.specs.Openings.{onlyNumber};
 
@@ -41,17 +42,16 @@ pub fn only(number: u8) -> Decided
 // The units and records of a start with these strands and sorted attributes; the units that open here get their numbers.
 pub fn weigh(
     index: &[u32; 256],
-    attributes: &[u32; 128],
-    sections: &[usize; 16],
+    attributes: &[u32; HELD],
     n: usize,
     m: usize,
     count: usize,
     units: usize,
     words: &mut [u32; STRANDS],
 ) -> Decided
-    requires { ⌜ (n ≤ 16) × (m ≤ 16) × (count ≤ 16) × (units ≤ 65536) × (m ≡ 0 → (k : ℕ) → k < n → getD (now sections) k 0 ≡ 0) ⌝ }
+    requires { ⌜ (n ≤ 16) × (m ≤ 16) × (count ≤ 16) × (units ≤ 65536) × (m ≡ 0 → (k : ℕ) → k < n → getD (sectionsIn (now attributes)) k 0 ≡ 0) ⌝ }
     ensures { λ r. ⌜ (
-        let l = allSorted (now (attributes .entry)) (now (sections .entry)) n in
+        let l = sortedHeld (now (attributes .entry)) n in
         let js = tabulate (λ (j : ℕ). j) 1 m in
         let ws = tabulate (λ (k : ℕ). getD (now (words .entry)) k 0) 0 count in
         let first = units + total (λ (w : ℕ). total (λ (j : ℕ). unitsFor (now (index .entry)) (strandIn w .mode) (headClass (members l j))) js) ws in
@@ -62,14 +62,14 @@ pub fn weigh(
         × (r .number ≡ 0 → (es : List Entry) → length es ≡ count → take count (now (words .entry)) ≡ map strandWord es → All Unnumbered es → now (words .exit) ≡ overwrite (now (words .entry)) 0 (map strandWord (allot first es)))
         ) ⌝ }
 {
-    let load = load_all(index, attributes, sections, n, m, words, count);
+    let load = load_all(index, attributes, n, m, words, count);
     let first = units + load.units;
     let all = first + new_units(words, count);
     if UNITS < all {
         return only(24);
     }
     number_units(words, count, first);
-    let records = load.records + elements_count(index, words, count, attributes, sections, n, m);
+    let records = load.records + elements_count(index, words, count, attributes, n, m);
     Decided {
         number: 0,
         strands: count,

@@ -1,6 +1,7 @@
 // The records of a start.
 use crate::Decided;
 use crate::STRANDS;
+use attributes::HELD;
 use attributes::Placing;
 use attributes::held::narrow;
 use lexer::Tag;
@@ -15,7 +16,7 @@ ghost use Rattle.laws.specs.Gather.{gather};
 ghost use Rattle.model.specs.Stream.{attributesFrom};
 ghost use Rattle.records.specs.Rows.{laid, laidRows};
 ghost use Rattle.strands.specs.Entries.{entriesIn};
-ghost use Rattle.attributes.specs.Attributes.{allSorted};
+ghost use Rattle.attributes.specs.Attributes.{sortedHeld, sectionsIn, attributesIn};
 ghost use Rattle.strands.specs.Writing.{rowOf, begunBody, elementRecords};
 ghost use Rattle.openings.specs.Openings.{begunOf, Openable, arrayUnits};
 
@@ -37,8 +38,7 @@ pub fn begun_of(at: usize, tag: Tag, placing: Placing) -> Begun
 // The records of a start: the attribute units, then the element along each strand.
 pub fn write_start(
     index: &[u32; 256],
-    attributes: &[u32; 128],
-    sections: &[usize; 16],
+    attributes: &[u32; HELD],
     words: &[u32; STRANDS],
     schemas: &[u32; STRANDS],
     decided: Decided,
@@ -47,12 +47,12 @@ pub fn write_start(
     rows: &mut [u64; 82],
     out: &mut [u8],
 ) -> usize
-    requires { ⌜ Openable (now index) (now attributes) (now sections) (now words) (now schemas) (begun .tag) units decided ⌝ }
+    requires { ⌜ Openable (now index) (attributesIn (now attributes)) (sectionsIn (now attributes)) (now words) (now schemas) (begun .tag) units decided ⌝ }
     ensures { λ r. ⌜ (
-        let l = allSorted (now (attributes .entry)) (now (sections .entry)) (decided .attributes) in
+        let l = sortedHeld (now (attributes .entry)) (decided .attributes) in
         laid (now (out .exit)) r ≡ laidRows (laid (now (out .entry)) 0)
         (map rowOf
-        (attributesFrom (λ (u : ℕ). u) units (arrayUnits (now (index .entry)) (now (attributes .entry)) (now (sections .entry)) (now (words .entry)) (begun .tag) decided)
+        (attributesFrom (λ (u : ℕ). u) units (arrayUnits (now (index .entry)) (attributesIn (now (attributes .entry))) (sectionsIn (now (attributes .entry))) (now (words .entry)) (begun .tag) decided)
         ++ gather (elementRecords (now (index .entry)) (begun .tag) (begunBody begun) l) (entriesIn (now (words .entry)) (now (schemas .entry)) (decided .strands))))
         ) ⌝ }
 {
@@ -61,7 +61,6 @@ pub fn write_start(
     let wrote = write_units(
         index,
         attributes,
-        sections,
         n,
         decided.sections,
         words,
@@ -73,7 +72,6 @@ pub fn write_start(
     write_elements(
         index,
         attributes,
-        sections,
         n,
         decided.sections,
         words,

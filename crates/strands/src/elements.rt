@@ -7,6 +7,7 @@ use crate::packed::is_here;
 use crate::packed::mode_of;
 use crate::packed::target_of;
 use crate::units::put_attribute_if;
+use attributes::HELD;
 use records::Row;
 use records::first_word;
 use records::last_word;
@@ -26,7 +27,7 @@ ghost use Rattle.model.specs.Records.{Body};
 ghost use Rattle.records.specs.Rows.{laid, laidRows, unitWord, bodyWords, InWords};
 ghost use Rattle.strands.specs.Packed.{strandIn, targetIn};
 ghost use Rattle.strands.specs.Entries.{entriesIn};
-ghost use Rattle.attributes.specs.Attributes.{sortedIn, allSorted};
+ghost use Rattle.attributes.specs.Attributes.{sortedIn, allSorted, sortedHeld, sectionsIn, attributesIn};
 ghost use Rattle.strands.specs.Writing.{rowFor, rowOf, keeps, sortedBodies, begunBody, elementRecords, wholeBodies, wholeRecords};
 
 // Where an array of rows as words has what each strand's unit adds: behind 33 rows.
@@ -36,20 +37,19 @@ const UNITS: usize = 66;
 fn write_kept(
     index: &[u32; 256],
     mode: u8,
-    attributes: &[u32; 128],
-    sections: &[usize; 16],
+    attributes: &[u32; HELD],
     n: usize,
     unit: u32,
     out: &mut [u8],
     from: usize,
 ) -> usize
     requires { ⌜ n ≤ 16 ⌝ }
-    ensures { λ r. ⌜ laid (now (out .exit)) r ≡ laidRows (laid (now (out .entry)) from) (map (rowFor unit) (gather sortedBodies (keep (keeps (now (index .entry)) mode) (allSorted (now (attributes .entry)) (now (sections .entry)) n)))) ⌝ }
+    ensures { λ r. ⌜ laid (now (out .exit)) r ≡ laidRows (laid (now (out .entry)) from) (map (rowFor unit) (gather sortedBodies (keep (keeps (now (index .entry)) mode) (sortedHeld (now (attributes .entry)) n)))) ⌝ }
 {
     let mut used = from;
     let mut k = 0;
     while k < n {
-        let due = is_kept(index, mode, attributes, sections, k);
+        let due = is_kept(index, mode, attributes, k);
         used = put_attribute_if(out, used, due, unit, attributes, k);
         k += 1;
     }
@@ -59,8 +59,7 @@ fn write_kept(
 // The element along one strand: an open if its unit is new, the start, the attributes that are kept.
 fn write_element(
     index: &[u32; 256],
-    attributes: &[u32; 128],
-    sections: &[usize; 16],
+    attributes: &[u32; HELD],
     n: usize,
     w: u32,
     schema: u32,
@@ -69,7 +68,7 @@ fn write_element(
     from: usize,
 ) -> usize
     requires { ⌜ (n ≤ 16) × (schema < 256) ⌝ }
-    ensures { λ r. ⌜ laid (now (out .exit)) r ≡ laidRows (laid (now (out .entry)) from) (map rowOf (elementRecords (now (index .entry)) (begun .tag) (begunBody begun) (allSorted (now (attributes .entry)) (now (sections .entry)) n) (record { strand = strandIn w; schema = schema }))) ⌝ }
+    ensures { λ r. ⌜ laid (now (out .exit)) r ≡ laidRows (laid (now (out .entry)) from) (map rowOf (elementRecords (now (index .entry)) (begun .tag) (begunBody begun) (sortedHeld (now (attributes .entry)) n) (record { strand = strandIn w; schema = schema }))) ⌝ }
 {
     if !delivers(w) {
         return from;
@@ -95,14 +94,13 @@ fn write_element(
     };
     let a = put_row_if(out, from, is_here(w), open);
     let b = put_row(out, a, start);
-    write_kept(index, mode_of(w), attributes, sections, n, unit, out, b)
+    write_kept(index, mode_of(w), attributes, n, unit, out, b)
 }
 
 // The element along all strands, each with the attributes that it keeps.
 fn write_each(
     index: &[u32; 256],
-    attributes: &[u32; 128],
-    sections: &[usize; 16],
+    attributes: &[u32; HELD],
     n: usize,
     words: &[u32; 16],
     schemas: &[u32; 16],
@@ -112,31 +110,21 @@ fn write_each(
     from: usize,
 ) -> usize
     requires { ⌜ (n ≤ 16) × (count ≤ 16) × ((k : ℕ) → k < count → getD (now schemas) k 0 < 256) ⌝ }
-    ensures { λ r. ⌜ laid (now (out .exit)) r ≡ laidRows (laid (now (out .entry)) from) (map rowOf (gather (elementRecords (now (index .entry)) (begun .tag) (begunBody begun) (allSorted (now (attributes .entry)) (now (sections .entry)) n)) (entriesIn (now (words .entry)) (now (schemas .entry)) count))) ⌝ }
+    ensures { λ r. ⌜ laid (now (out .exit)) r ≡ laidRows (laid (now (out .entry)) from) (map rowOf (gather (elementRecords (now (index .entry)) (begun .tag) (begunBody begun) (sortedHeld (now (attributes .entry)) n)) (entriesIn (now (words .entry)) (now (schemas .entry)) count))) ⌝ }
 {
     let mut used = from;
     let mut k = 0;
     while k < count {
-        used = write_element(
-            index,
-            attributes,
-            sections,
-            n,
-            words[k],
-            schemas[k],
-            begun,
-            out,
-            used,
-        );
+        used = write_element(index, attributes, n, words[k], schemas[k], begun, out, used);
         k += 1;
     }
     used
 }
 
 // The k-th attribute's rows as words.
-fn lay_attribute(attributes: &[u32; 128], k: usize, rows: &mut [u64])
+fn lay_attribute(attributes: &[u32; HELD], k: usize, rows: &mut [u64])
     requires { ⌜ (k < 16) × (4 * k + 6 ≤ length (now rows)) ⌝ }
-    ensures { λ _. ⌜ ((sections : List ℕ) → now (rows .exit) ≡ overwrite (now (rows .entry)) (4 * k + 2) (gather bodyWords (sortedBodies (sortedIn (now (attributes .entry)) sections k)))) ⌝ }
+    ensures { λ _. ⌜ ((sections : List ℕ) → now (rows .exit) ≡ overwrite (now (rows .entry)) (4 * k + 2) (gather bodyWords (sortedBodies (sortedIn (attributesIn (now (attributes .entry))) sections k)))) ⌝ }
 {
     let at = 8 * k;
     let to = 4 * k + 2;
@@ -149,9 +137,9 @@ fn lay_attribute(attributes: &[u32; 128], k: usize, rows: &mut [u64])
 }
 
 // The rows of the start and of the n attributes as words.
-fn lay_rows(begun: Begun, attributes: &[u32; 128], n: usize, rows: &mut [u64; 82])
+fn lay_rows(begun: Begun, attributes: &[u32; HELD], n: usize, rows: &mut [u64; 82])
     requires { ⌜ n ≤ 16 ⌝ }
-    ensures { λ _. ⌜ ((sections : List ℕ) → InWords (now (rows .exit)) (wholeBodies (begunBody begun) (allSorted (now (attributes .entry)) sections n))) ⌝ }
+    ensures { λ _. ⌜ ((sections : List ℕ) → InWords (now (rows .exit)) (wholeBodies (begunBody begun) (allSorted (attributesIn (now (attributes .entry))) sections n))) ⌝ }
 {
     let all: &mut [u64] = rows;
     all[0] = first_word(1, begun.class, begun.at, begun.len);
@@ -220,7 +208,7 @@ fn write_copy(
 
 // The element along all strands where each keeps all attributes: its rows are laid once and copied.
 fn write_copies(
-    attributes: &[u32; 128],
+    attributes: &[u32; HELD],
     n: usize,
     words: &[u32; 16],
     schemas: &[u32; 16],
@@ -231,7 +219,7 @@ fn write_copies(
     from: usize,
 ) -> usize
     requires { ⌜ (n ≤ 16) × (count ≤ 16) × ((k : ℕ) → k < count → getD (now schemas) k 0 < 256) × (from + count * (32 * (n + 1)) ≤ length (now out)) ⌝ }
-    ensures { λ r. ⌜ ((sections : List ℕ) → laid (now (out .exit)) r ≡ laidRows (laid (now (out .entry)) from) (map rowOf (gather (wholeRecords (begun .tag) (wholeBodies (begunBody begun) (allSorted (now (attributes .entry)) sections n))) (entriesIn (now (words .entry)) (now (schemas .entry)) count)))) ⌝ }
+    ensures { λ r. ⌜ ((sections : List ℕ) → laid (now (out .exit)) r ≡ laidRows (laid (now (out .entry)) from) (map rowOf (gather (wholeRecords (begun .tag) (wholeBodies (begunBody begun) (allSorted (attributesIn (now (attributes .entry))) sections n))) (entriesIn (now (words .entry)) (now (schemas .entry)) count)))) ⌝ }
 {
     lay_rows(begun, attributes, n, rows);
     lay_units(words, count, rows);
@@ -257,8 +245,7 @@ fn has_room(size: usize, from: usize, bytes: usize) -> bool
 // The element along all strands. Where there are no sections every attribute is kept.
 pub fn write_elements(
     index: &[u32; 256],
-    attributes: &[u32; 128],
-    sections: &[usize; 16],
+    attributes: &[u32; HELD],
     n: usize,
     m: usize,
     words: &[u32; 16],
@@ -269,8 +256,8 @@ pub fn write_elements(
     out: &mut [u8],
     from: usize,
 ) -> usize
-    requires { ⌜ (n ≤ 16) × (count ≤ 16) × ((k : ℕ) → k < count → getD (now schemas) k 0 < 256) × (m ≡ 0 → (k : ℕ) → k < n → getD (now sections) k 0 ≡ 0) ⌝ }
-    ensures { λ r. ⌜ laid (now (out .exit)) r ≡ laidRows (laid (now (out .entry)) from) (map rowOf (gather (elementRecords (now (index .entry)) (begun .tag) (begunBody begun) (allSorted (now (attributes .entry)) (now (sections .entry)) n)) (entriesIn (now (words .entry)) (now (schemas .entry)) count))) ⌝ }
+    requires { ⌜ (n ≤ 16) × (count ≤ 16) × ((k : ℕ) → k < count → getD (now schemas) k 0 < 256) × (m ≡ 0 → (k : ℕ) → k < n → getD (sectionsIn (now attributes)) k 0 ≡ 0) ⌝ }
+    ensures { λ r. ⌜ laid (now (out .exit)) r ≡ laidRows (laid (now (out .entry)) from) (map rowOf (gather (elementRecords (now (index .entry)) (begun .tag) (begunBody begun) (sortedHeld (now (attributes .entry)) n)) (entriesIn (now (words .entry)) (now (schemas .entry)) count))) ⌝ }
 {
     if (m == 0) & has_room(out.len(), from, count * (32 * (n + 1))) {
         return write_copies(attributes, n, words, schemas, count, begun, rows, out, from);
@@ -278,7 +265,6 @@ pub fn write_elements(
     write_each(
         index,
         attributes,
-        sections,
         n,
         words,
         schemas,

@@ -3,6 +3,8 @@ use crate::Wrote;
 use crate::counts::section_class;
 use crate::events::plain_row;
 use crate::packed::mode_of;
+use attributes::HELD;
+use attributes::sections::section_at;
 use records::Row;
 use records::put_row;
 use records::put_row_if;
@@ -21,7 +23,7 @@ ghost use Rattle.model.specs.Theory.{Validate};
 ghost use Rattle.model.specs.Stream.{attributesFrom};
 ghost use Rattle.records.specs.Rows.{laid, laidIf, laidRows};
 ghost use Rattle.strands.specs.Packed.{strandIn};
-ghost use Rattle.attributes.specs.Attributes.{Sorted, sortedIn, allSorted};
+ghost use Rattle.attributes.specs.Attributes.{sortedIn, sortedHeld, attributesIn};
 ghost use Rattle.strands.specs.Writing.{rowFor, rowOf, members, sortedBodies, unitFor, sectionUnits, strandUnits};
 
 // The two rows of the k-th attribute, if they are due.
@@ -30,11 +32,11 @@ pub(crate) fn put_attribute_if(
     used: usize,
     due: bool,
     unit: u32,
-    attributes: &[u32; 128],
+    attributes: &[u32; HELD],
     k: usize,
 ) -> usize
     requires { ⌜ k < 16 ⌝ }
-    ensures { λ r. ⌜ ((sections : List ℕ) → laid (now (out .exit)) r ≡ laidRows (laid (now (out .entry)) used) (map (rowFor unit) (cond due (sortedBodies (sortedIn (now (attributes .entry)) sections k)) []))) ⌝ }
+    ensures { λ r. ⌜ ((sections : List ℕ) → laid (now (out .exit)) r ≡ laidRows (laid (now (out .entry)) used) (map (rowFor unit) (cond due (sortedBodies (sortedIn (attributesIn (now (attributes .entry))) sections k)) []))) ⌝ }
 {
     let at = 8 * k;
     let name = Row {
@@ -61,21 +63,28 @@ pub(crate) fn put_attribute_if(
 
 // The rows of the attributes of the j-th section.
 fn write_members(
-    attributes: &[u32; 128],
-    sections: &[usize; 16],
+    attributes: &[u32; HELD],
     n: usize,
     j: usize,
     unit: u32,
     out: &mut [u8],
     from: usize,
 ) -> usize
-    requires { ⌜ n ≤ 16 ⌝ }
-    ensures { λ r. ⌜ laid (now (out .exit)) r ≡ laidRows (laid (now (out .entry)) from) (map (rowFor unit) (gather sortedBodies (members (allSorted (now (attributes .entry)) (now (sections .entry)) n) j))) ⌝ }
+    requires { ⌜ (n ≤ 16) × (j ≤ 16) ⌝ }
+    ensures { λ r. ⌜ laid (now (out .exit)) r ≡ laidRows (laid (now (out .entry)) from) (map (rowFor unit) (gather sortedBodies (members (sortedHeld (now (attributes .entry)) n) j))) ⌝ }
 {
+    let section = j as u32;
     let mut used = from;
     let mut k = 0;
     while k < n {
-        used = put_attribute_if(out, used, sections[k] == j, unit, attributes, k);
+        used = put_attribute_if(
+            out,
+            used,
+            section_at(attributes, k) == section,
+            unit,
+            attributes,
+            k,
+        );
         k += 1;
     }
     used
@@ -83,8 +92,7 @@ fn write_members(
 
 // A unit of the j-th section: open, a virtual element with its attributes, close.
 fn write_unit(
-    attributes: &[u32; 128],
-    sections: &[usize; 16],
+    attributes: &[u32; HELD],
     n: usize,
     j: usize,
     unit: u32,
@@ -93,8 +101,8 @@ fn write_unit(
     out: &mut [u8],
     from: usize,
 ) -> usize
-    requires { ⌜ n ≤ 16 ⌝ }
-    ensures { λ r. ⌜ laid (now (out .exit)) r ≡ laidRows (laid (now (out .entry)) from) (map rowOf (attributesFrom (λ (u : ℕ). u) unit (unitFor tag (members (allSorted (now (attributes .entry)) (now (sections .entry)) n) j) Validate schema))) ⌝ }
+    requires { ⌜ (n ≤ 16) × (j ≤ 16) ⌝ }
+    ensures { λ r. ⌜ laid (now (out .exit)) r ≡ laidRows (laid (now (out .entry)) from) (map rowOf (attributesFrom (λ (u : ℕ). u) unit (unitFor tag (members (sortedHeld (now (attributes .entry)) n) j) Validate schema))) ⌝ }
 {
     let open = Row {
         unit,
@@ -107,15 +115,14 @@ fn write_unit(
     };
     let a = put_row(out, from, open);
     let b = put_row(out, a, plain_row(unit, 1, 253));
-    let c = write_members(attributes, sections, n, j, unit, out, b);
+    let c = write_members(attributes, n, j, unit, out, b);
     let d = put_row(out, c, plain_row(unit, 5, 253));
     put_row(out, d, plain_row(unit, 6, 0))
 }
 
 // What a rule makes of the j-th section: a unit if it validates, else nothing.
 fn write_by(
-    attributes: &[u32; 128],
-    sections: &[usize; 16],
+    attributes: &[u32; HELD],
     n: usize,
     j: usize,
     action: Action,
@@ -124,9 +131,9 @@ fn write_by(
     wrote: Wrote,
     out: &mut [u8],
 ) -> Wrote
-    requires { ⌜ (n ≤ 16) × (wrote .unit + length (unitFor tag (members (allSorted (now attributes) (now sections) n) j) action schema) ≤ 65536) ⌝ }
+    requires { ⌜ (n ≤ 16) × (j ≤ 16) × (wrote .unit + length (unitFor tag (members (sortedHeld (now attributes) n) j) action schema) ≤ 65536) ⌝ }
     ensures { λ r. ⌜ (
-        let us = unitFor tag (members (allSorted (now (attributes .entry)) (now (sections .entry)) n) j) action schema in
+        let us = unitFor tag (members (sortedHeld (now (attributes .entry)) n) j) action schema in
         (r .unit ≡ wrote .unit + length us)
         × (laid (now (out .exit)) (r .used) ≡ laidRows (laid (now (out .entry)) (wrote .used)) (map rowOf (attributesFrom (λ (u : ℕ). u) (wrote .unit) us)))
         ) ⌝ }
@@ -136,17 +143,7 @@ fn write_by(
         Action::Unwrap => wrote,
         Action::Validate => {
             let unit = wrote.unit;
-            let used = write_unit(
-                attributes,
-                sections,
-                n,
-                j,
-                unit as u32,
-                schema,
-                tag,
-                out,
-                wrote.used,
-            );
+            let used = write_unit(attributes, n, j, unit as u32, schema, tag, out, wrote.used);
             Wrote {
                 unit: unit + 1,
                 used,
@@ -158,8 +155,7 @@ fn write_by(
 // The units of the j-th section along a strand of this mode.
 fn write_section(
     index: &[u32; 256],
-    attributes: &[u32; 128],
-    sections: &[usize; 16],
+    attributes: &[u32; HELD],
     n: usize,
     j: usize,
     mode: u8,
@@ -167,31 +163,21 @@ fn write_section(
     from: Wrote,
     out: &mut [u8],
 ) -> Wrote
-    requires { ⌜ (n ≤ 16) × (from .unit + length (sectionUnits (now index) mode tag (allSorted (now attributes) (now sections) n) j) ≤ 65536) ⌝ }
+    requires { ⌜ (n ≤ 16) × (j ≤ 16) × (from .unit + length (sectionUnits (now index) mode tag (sortedHeld (now attributes) n) j) ≤ 65536) ⌝ }
     ensures { λ r. ⌜ (
-        let us = sectionUnits (now (index .entry)) mode tag (allSorted (now (attributes .entry)) (now (sections .entry)) n) j in
+        let us = sectionUnits (now (index .entry)) mode tag (sortedHeld (now (attributes .entry)) n) j in
         (r .unit ≡ from .unit + length us)
         × (laid (now (out .exit)) (r .used) ≡ laidRows (laid (now (out .entry)) (from .used)) (map rowOf (attributesFrom (λ (u : ℕ). u) (from .unit) us)))
         ) ⌝ }
 {
-    let c = choose(index, mode, 1, section_class(attributes, sections, n, j));
+    let c = choose(index, mode, 1, section_class(attributes, n, j));
     let rules: &[u32] = index;
     let mut wrote = from;
     let mut i = c.first;
     while i < c.end {
         let rule = rule_of(rules[i]);
         let action = rule.action;
-        wrote = write_by(
-            attributes,
-            sections,
-            n,
-            j,
-            action,
-            rule.schema,
-            tag,
-            wrote,
-            out,
-        );
+        wrote = write_by(attributes, n, j, action, rule.schema, tag, wrote, out);
         i = next_rule(index, i + 1, c.end, c.key);
     }
     wrote
@@ -200,8 +186,7 @@ fn write_section(
 // The units of the first m sections along a strand of this mode.
 fn write_sections(
     index: &[u32; 256],
-    attributes: &[u32; 128],
-    sections: &[usize; 16],
+    attributes: &[u32; HELD],
     n: usize,
     m: usize,
     mode: u8,
@@ -209,9 +194,9 @@ fn write_sections(
     from: Wrote,
     out: &mut [u8],
 ) -> Wrote
-    requires { ⌜ (n ≤ 16) × (m ≤ 16) × (from .unit + length (strandUnits (now index) tag (allSorted (now attributes) (now sections) n) m mode) ≤ 65536) ⌝ }
+    requires { ⌜ (n ≤ 16) × (m ≤ 16) × (from .unit + length (strandUnits (now index) tag (sortedHeld (now attributes) n) m mode) ≤ 65536) ⌝ }
     ensures { λ r. ⌜ (
-        let us = strandUnits (now (index .entry)) tag (allSorted (now (attributes .entry)) (now (sections .entry)) n) m mode in
+        let us = strandUnits (now (index .entry)) tag (sortedHeld (now (attributes .entry)) n) m mode in
         (r .unit ≡ from .unit + length us)
         × (laid (now (out .exit)) (r .used) ≡ laidRows (laid (now (out .entry)) (from .used)) (map rowOf (attributesFrom (λ (u : ℕ). u) (from .unit) us)))
         ) ⌝ }
@@ -219,7 +204,7 @@ fn write_sections(
     let mut wrote = from;
     let mut j = 1;
     while j <= m {
-        wrote = write_section(index, attributes, sections, n, j, mode, tag, wrote, out);
+        wrote = write_section(index, attributes, n, j, mode, tag, wrote, out);
         j += 1;
     }
     wrote
@@ -228,8 +213,7 @@ fn write_sections(
 // The attribute units of all strands, from the output's first byte on.
 pub fn write_units(
     index: &[u32; 256],
-    attributes: &[u32; 128],
-    sections: &[usize; 16],
+    attributes: &[u32; HELD],
     n: usize,
     m: usize,
     words: &[u32; 16],
@@ -238,9 +222,9 @@ pub fn write_units(
     unit: usize,
     out: &mut [u8],
 ) -> Wrote
-    requires { ⌜ (n ≤ 16) × (m ≤ 16) × (count ≤ 16) × (unit + length (gather (λ (w : ℕ). strandUnits (now index) tag (allSorted (now attributes) (now sections) n) m (strandIn w .mode)) (tabulate (λ (k : ℕ). getD (now words) k 0) 0 count)) ≤ 65536) ⌝ }
+    requires { ⌜ (n ≤ 16) × (m ≤ 16) × (count ≤ 16) × (unit + length (gather (λ (w : ℕ). strandUnits (now index) tag (sortedHeld (now attributes) n) m (strandIn w .mode)) (tabulate (λ (k : ℕ). getD (now words) k 0) 0 count)) ≤ 65536) ⌝ }
     ensures { λ r. ⌜ (
-        let us = gather (λ (w : ℕ). strandUnits (now (index .entry)) tag (allSorted (now (attributes .entry)) (now (sections .entry)) n) m (strandIn w .mode)) (tabulate (λ (k : ℕ). getD (now (words .entry)) k 0) 0 count) in
+        let us = gather (λ (w : ℕ). strandUnits (now (index .entry)) tag (sortedHeld (now (attributes .entry)) n) m (strandIn w .mode)) (tabulate (λ (k : ℕ). getD (now (words .entry)) k 0) 0 count) in
         (r .unit ≡ unit + length us)
         × (laid (now (out .exit)) (r .used) ≡ laidRows (laid (now (out .entry)) 0) (map rowOf (attributesFrom (λ (u : ℕ). u) unit us)))
         ) ⌝ }
@@ -248,17 +232,7 @@ pub fn write_units(
     let mut wrote = Wrote { unit, used: 0 };
     let mut k = 0;
     while k < count {
-        wrote = write_sections(
-            index,
-            attributes,
-            sections,
-            n,
-            m,
-            mode_of(words[k]),
-            tag,
-            wrote,
-            out,
-        );
+        wrote = write_sections(index, attributes, n, m, mode_of(words[k]), tag, wrote, out);
         k += 1;
     }
     wrote

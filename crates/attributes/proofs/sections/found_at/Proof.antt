@@ -1,8 +1,11 @@
--- `strands::sections::found_at` meets its contract: the last of eight numbers.
+-- `attributes::sections::found_at` meets its contract: the last of eight numbers.
 use Prim.Native.Nat.{_+_, _*_}
+use mathlib.Core.Path.{sym, ap, _∙_}
 use native.Mathlib.Omega.{arith}
 use borrow.Author.Needs.{needs}
-use Rattle.attributes.specs.Attributes.{givenIn}
+use Rattle.reader.specs.Stored.{foundIn}
+use Rattle.attributes.specs.Attributes.{Given, givenIn}
+use Rattle.attributes.proofs.HeldParts.{same-given}
 use Rattle.attributes.proofs.sections.found_at.Statement.{statement}
 use Rattle.attributes.proofs.sections.found_at.Tie as tie
 
@@ -26,7 +29,9 @@ found-in-requires c κs = search needs
 
 returns : tie.Need-returns
 unfolding givenIn
-returns c = search needs
+returns c =
+    let a = c .before .before .before .args in
+    c .found-in .ensures ∙ ap (λ (g : Given). foundIn (g .code)) (sym (same-given (a .attributes .now) (a .k) (omega arith)))
 
 pub found-at-spec : {M : Type 1} → statement M
 found-at-spec =

@@ -2,6 +2,7 @@
 use mathlib.Core.Path.{sym, ap, _∙_, subst}
 use Prim.Native.Nat.{ℕ}
 use borrow.Author.Needs.{needs}
+use Rattle.attributes.specs.Attributes.{attributesIn, sectionsIn}
 use Rattle.openings.specs.Openings.{Openable}
 use Rattle.strands.specs.Levels.{levelNames, levelSpaces, levelStrands}
 use Rattle.dispatcher.specs.Turns.{stepBy}
@@ -19,7 +20,7 @@ returns c =
     let a = c .before .before .before .before .args in
     λ table s attrs codes header ds ready told placing-is as-decided.
     ap (λ (r : Turn). stepBy r (levelNames (a .levels .now)) (a .bindings .now) (levelSpaces (a .levels .now)) (levelStrands (a .levels .now)) (a .out .now)) (c .stop .ensures)
-    ∙ refused-start table s attrs codes header (a .started .found) ds (a .index .now) (a .own .now) (a .words .now) (a .schemas .now) (a .attributes .now) (a .sections .now) (a .started .at) (a .started .tag) (a .placing) (a .started .owned) (a .decided) (a .head) (levelNames (a .levels .now)) (a .bindings .now) (levelSpaces (a .levels .now)) (levelStrands (a .levels .now)) (a .out .now)
+    ∙ refused-start table s attrs codes header (a .started .found) ds (a .index .now) (a .own .now) (a .words .now) (a .schemas .now) (attributesIn (a .attributes .now)) (sectionsIn (a .attributes .now)) (a .started .at) (a .started .tag) (a .placing) (a .started .owned) (a .decided) (a .head) (levelNames (a .levels .now)) (a .bindings .now) (levelSpaces (a .levels .now)) (levelStrands (a .levels .now)) (a .out .now)
     (c .before .before .before .before .pre .0) ready told placing-is as-decided (c .before .if1 .taken)
 
 stop-requires-2 : tie.Need-stop-requires-2
@@ -30,7 +31,7 @@ returns-2 c =
     let a = c .before .before .before .before .before .args in
     λ table s attrs codes header ds ready told placing-is as-decided.
     ap (λ (r : Turn). stepBy r (levelNames (a .levels .now)) (a .bindings .now) (levelSpaces (a .levels .now)) (levelStrands (a .levels .now)) (a .out .now)) (c .stop2 .ensures)
-    ∙ full-start table s attrs codes header (a .started .found) ds (a .index .now) (a .own .now) (a .words .now) (a .schemas .now) (a .attributes .now) (a .sections .now) (a .started .at) (a .started .tag) (a .placing) (a .started .owned) (a .decided) (a .head) (levelNames (a .levels .now)) (a .bindings .now) (levelSpaces (a .levels .now)) (levelStrands (a .levels .now)) (a .out .now)
+    ∙ full-start table s attrs codes header (a .started .found) ds (a .index .now) (a .own .now) (a .words .now) (a .schemas .now) (attributesIn (a .attributes .now)) (sectionsIn (a .attributes .now)) (a .started .at) (a .started .tag) (a .placing) (a .started .owned) (a .decided) (a .head) (levelNames (a .levels .now)) (a .bindings .now) (levelSpaces (a .levels .now)) (levelStrands (a .levels .now)) (a .out .now)
     (c .before .before .before .before .before .pre .0) ready told placing-is as-decided (c .before .before .if1 .left) (c .before .if2 .taken)
 
 begun-of-requires : tie.Need-begun-of-requires
@@ -39,7 +40,7 @@ begun-of-requires c κs = search needs
 write-start-requires : tie.Need-write-start-requires
 write-start-requires c κs =
     let a = c .before .before .before .before .before .before .before .args in
-    subst (λ (n : ℕ). Openable (a .index .now) (a .attributes .now) (a .sections .now) (a .words .now) (a .schemas .now) n (a .head .units) (a .decided))
+    subst (λ (n : ℕ). Openable (a .index .now) (attributesIn (a .attributes .now)) (sectionsIn (a .attributes .now)) (a .words .now) (a .schemas .now) n (a .head .units) (a .decided))
     (sym (ap (λ (b : Begun). b .tag) (c .before .before .begun-of .ensures))) (c .before .before .before .before .before .before .before .pre .1 (c .before .before .before .before .if1 .left))
 
 push-start-requires : tie.Need-push-start-requires
@@ -58,7 +59,7 @@ returns-3 c =
     let a = c .before .before .before .before .before .before .before .before .before .before .before .before .before .before .args in
     let p = c .before .push-start .ensures in
     λ table s attrs codes header ds ready told placing-is as-decided.
-    room-start table s attrs codes header (a .started .found) ds (a .index .now) (a .own .now) (a .words .now) (a .schemas .now) (a .attributes .now) (a .sections .now) (a .started .at) (a .started .tag) (a .placing) (a .started .owned) (a .decided) (a .head) (levelNames (a .levels .now)) (a .bindings .now) (levelSpaces (a .levels .now)) (levelStrands (a .levels .now)) (a .out .now)
+    room-start table s attrs codes header (a .started .found) ds (a .index .now) (a .own .now) (a .words .now) (a .schemas .now) (attributesIn (a .attributes .now)) (sectionsIn (a .attributes .now)) (a .started .at) (a .started .tag) (a .placing) (a .started .owned) (a .decided) (a .head) (levelNames (a .levels .now)) (a .bindings .now) (levelSpaces (a .levels .now)) (levelStrands (a .levels .now)) (a .out .now)
     (c .before .before .before .before .before .before .before .before .before .before .before .before .before .before .pre .0) ready told placing-is as-decided (c .before .before .before .before .before .before .before .before .before .before .before .if1 .left) (c .before .before .before .before .before .before .before .before .before .begun-of .result) (c .before .before .before .before .before .before .before .before .before .begun-of .ensures)
     (c .opened-head .result) _ _ _ _ _ _ (c .before .before .before .before .before .before .before .before .before .before .if2 .left) (c .before .before .before .before .before .before .write-start .ensures) (c .opened-head .ensures) (p .0) (p .1) (p .2) (p .3)
 

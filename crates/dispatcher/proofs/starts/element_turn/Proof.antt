@@ -68,10 +68,10 @@ space-of-requires c κs =
 
 decide-requires : tie.Need-decide-requires
 decide-requires c κs =
-    let b = c .before .before .before .before .before .before .before .before .before .before .before .before .before .before .before .before .before .before .before .before .before in
+    let b = c .before .before .before .before .before .before .before .before .before .before .before .before .before .before .before .before .before .before .before .before in
     let a = b .args in
     let h = b .pre in
-    let d = decidable (a .table .now) (headerOf (a .table .now)) (a .index .now) (a .scene .now) (a .head) (levelNames (a .levels .now)) (a .bindings .now) (levelSpaces (a .levels .now)) (levelStrands (a .levels .now)) (h .0 .ready) (c .before .before .before .before .before .before .before .before .before .before .before .before .before .before .before .before .if1 .left) in (
+    let d = decidable (a .table .now) (headerOf (a .table .now)) (a .index .now) (a .scene .now) (a .head) (levelNames (a .levels .now)) (a .bindings .now) (levelSpaces (a .levels .now)) (levelStrands (a .levels .now)) (h .0 .ready) (c .before .before .before .before .before .before .before .before .before .before .before .before .before .before .before .if1 .left) in (
       d .0,
       d .1,
       d .2,
@@ -82,18 +82,18 @@ decide-requires c κs =
 
 open-level-requires : tie.Need-open-level-requires
 open-level-requires c κs =
-    let b = c .before .before .before .before .before .before .before .before .before .before .before .before .before .before .before .before .before .before .before .before .before .before .before .before .before .before .before .before .before .before in
+    let b = c .before .before .before .before .before .before .before .before .before .before .before .before .before .before .before .before .before .before .before .before .before .before .before .before .before .before .before .before in
     let a = b .args in
     let h = b .pre in
     let s = a .scene .now in
     let z = sessionAt (a .head) (a .levels .now) (a .bindings .now) in
     let ds = declarationsOf s (attrsIn (a .attrs .now) (a .started .tag .count)) in
-    let k = classed (a .table .now) (a .index .now) s (a .known .now) _ (a .own .now) (a .attrs .now) (a .codes .now) (c .before .before .before .before .before .before .before .before .before .before .before .before .before .before .before .before .before .before .before .before .before .before .header-of .result) (a .head) (levelNames (a .levels .now)) (a .bindings .now) (levelSpaces (a .levels .now)) (levelStrands (a .levels .now)) (a .started) (h .0) (h .1) (c .before .before .before .before .before .before .before .before .before .before .before .before .before .before .before .before .before .before .before .before .before .before .header-of .ensures) (c .before .before .before .before .before .before .before .before .before .before .before .before .before .before .before .before .before .before .before .put-classes .ensures) in
+    let k = classed (a .table .now) (a .index .now) s (a .known .now) _ (a .own .now) (a .attrs .now) (a .codes .now) (c .before .before .before .before .before .before .before .before .before .before .before .before .before .before .before .before .before .before .before .before .header-of .result) (a .head) (levelNames (a .levels .now)) (a .bindings .now) (levelSpaces (a .levels .now)) (levelStrands (a .levels .now)) (a .started) (h .0) (h .1) (c .before .before .before .before .before .before .before .before .before .before .before .before .before .before .before .before .before .before .before .before .header-of .ensures) (c .before .before .before .before .before .before .before .before .before .before .before .before .before .before .before .before .before .put-classes .ensures) in
     let e = startOf s (a .bindings .now) (a .own .now) (a .attrs .now) (a .codes .now) (a .started .at) (a .started .tag) (a .started .found) in
-    let w = c .before .before .before .before .before .before .before .before .before .before .before .before .before .before .before .before .space-of .ensures (a .table .now) (headerOf (a .table .now)) s (a .started .owned) (names-few (a .table .now) (h .0 .ready .accepted)) (k .beside .classes) (k .own-classes) (h .1 .found-within) in
-    let d = c .before .before .before .before .before .before .before .before .decide .ensures (a .table .now) (headerOf (a .table .now)) (h .0 .ready) (k .beside) (k .own-classes) (k .met) w in (
-      roomy s (a .bindings .now) (a .own .now) (a .attrs .now) (a .codes .now) (a .started .at) (a .started .tag) (a .started .found) (a .started .owned) ds (h .1 .told) (a .head) (c .before .before .before .before .before .before .before .before .before .before .before .before .before .before .before .before .before .before .before .before .before .before .before .before .before .if1 .left) (c .before .before .before .before .before .before .before .before .before .before .before .before .before .before .before .before .before .before .before .before .before .before .before .if2 .left),
-      λ n. made-openable (a .table .now) (headerOf (a .table .now)) (a .index .now) s z (h .0 .ready) e (c .before .before .before .before .before .before .before .before .decide .result) _ _ _ _ (d .made n) (a .started .at) refl (h .1 .told .at-inside),
+    let w = c .before .before .before .before .before .before .before .before .before .before .before .before .before .before .space-of .ensures (a .table .now) (headerOf (a .table .now)) s (a .started .owned) (names-few (a .table .now) (h .0 .ready .accepted)) (k .beside .classes) (k .own-classes) (h .1 .found-within) in
+    let d = c .before .before .before .before .before .before .before .decide .ensures (a .table .now) (headerOf (a .table .now)) (h .0 .ready) (k .beside) (k .own-classes) (k .met) w in (
+      roomy s (a .bindings .now) (a .own .now) (a .attrs .now) (a .codes .now) (a .started .at) (a .started .tag) (a .started .found) (a .started .owned) ds (h .1 .told) (a .head) (c .before .before .before .before .before .before .before .before .before .before .before .before .before .before .before .before .before .before .before .before .before .before .before .if1 .left) (c .before .before .before .before .before .before .before .before .before .before .before .before .before .before .before .before .before .before .before .before .before .if2 .left),
+      λ n. made-openable (a .table .now) (headerOf (a .table .now)) (a .index .now) s z (h .0 .ready) e (c .before .before .before .before .before .before .before .decide .result) _ _ _ _ (d .made n) (a .started .at) refl (h .1 .told .at-inside),
     )
 
 same-length : tie.Need-same-length
@@ -101,15 +101,15 @@ same-length c = search needs
 
 returns-3 : tie.Need-returns-3
 returns-3 c =
-    let b = c .before .before .before .before .before .before .before .before .before .before .before .before .before .before .before .before .before .before .before .before .before .before .before .before .before .before .before .before .before .before .before .before .before in
+    let b = c .before .before .before .before .before .before .before .before .before .before .before .before .before .before .before .before .before .before .before .before .before .before .before .before .before .before .before .before .before .before .before in
     let a = b .args in
     let h = b .pre in
     let s = a .scene .now in
     let z = sessionAt (a .head) (a .levels .now) (a .bindings .now) in
     let ds = declarationsOf s (attrsIn (a .attrs .now) (a .started .tag .count)) in
-    let k = classed (a .table .now) (a .index .now) s (a .known .now) _ (a .own .now) (a .attrs .now) (a .codes .now) (c .before .before .before .before .before .before .before .before .before .before .before .before .before .before .before .before .before .before .before .before .before .before .before .before .before .header-of .result) (a .head) (levelNames (a .levels .now)) (a .bindings .now) (levelSpaces (a .levels .now)) (levelStrands (a .levels .now)) (a .started) (h .0) (h .1) (c .before .before .before .before .before .before .before .before .before .before .before .before .before .before .before .before .before .before .before .before .before .before .before .before .before .header-of .ensures) (c .before .before .before .before .before .before .before .before .before .before .before .before .before .before .before .before .before .before .before .before .before .before .put-classes .ensures) in
-    let w = c .before .before .before .before .before .before .before .before .before .before .before .before .before .before .before .before .before .before .before .space-of .ensures (a .table .now) (headerOf (a .table .now)) s (a .started .owned) (names-few (a .table .now) (h .0 .ready .accepted)) (k .beside .classes) (k .own-classes) (h .1 .found-within) in
-    let d = c .before .before .before .before .before .before .before .before .before .before .before .decide .ensures (a .table .now) (headerOf (a .table .now)) (h .0 .ready) (k .beside) (k .own-classes) (k .met) w in
+    let k = classed (a .table .now) (a .index .now) s (a .known .now) _ (a .own .now) (a .attrs .now) (a .codes .now) (c .before .before .before .before .before .before .before .before .before .before .before .before .before .before .before .before .before .before .before .before .before .before .before .header-of .result) (a .head) (levelNames (a .levels .now)) (a .bindings .now) (levelSpaces (a .levels .now)) (levelStrands (a .levels .now)) (a .started) (h .0) (h .1) (c .before .before .before .before .before .before .before .before .before .before .before .before .before .before .before .before .before .before .before .before .before .before .before .header-of .ensures) (c .before .before .before .before .before .before .before .before .before .before .before .before .before .before .before .before .before .before .before .before .put-classes .ensures) in
+    let w = c .before .before .before .before .before .before .before .before .before .before .before .before .before .before .before .before .before .space-of .ensures (a .table .now) (headerOf (a .table .now)) s (a .started .owned) (names-few (a .table .now) (h .0 .ready .accepted)) (k .beside .classes) (k .own-classes) (h .1 .found-within) in
+    let d = c .before .before .before .before .before .before .before .before .before .before .decide .ensures (a .table .now) (headerOf (a .table .now)) (h .0 .ready) (k .beside) (k .own-classes) (k .met) w in
     opened-turn (a .table .now) s _ (a .own .now) z ds (k .kept) _ (a .started .tag .next) (a .out .now) _
     (c .before .before .open-level .ensures (a .table .now) s (a .attrs .now) (a .codes .now) (headerOf (a .table .now)) ds (h .0 .ready) (h .1 .told) w d)
 

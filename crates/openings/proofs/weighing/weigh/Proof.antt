@@ -3,7 +3,7 @@ use native.Mathlib.Omega.{arith}
 use borrow.Author.Needs.{needs}
 use denote.Ref.{now}
 use Rattle.openings.proofs.Deciding.{weigh-heavy, weigh-light}
-use Rattle.attributes.specs.Attributes.{allSorted}
+use Rattle.attributes.specs.Attributes.{sortedHeld}
 use Rattle.openings.proofs.weighing.weigh.Statement.{statement}
 use Rattle.openings.proofs.weighing.weigh.Tie as tie
 
@@ -25,7 +25,7 @@ only-requires c κs = search needs
 returns : tie.Need-returns
 returns c =
     let a = c .before .before .before .before .before .before .before .args in
-    weigh-heavy (now (a .index)) (allSorted (now (a .attributes)) (now (a .sections)) (a .n)) (a .n) (a .m) (a .count) (a .units) (now (a .words)) _ _ _
+    weigh-heavy (now (a .index)) (sortedHeld (now (a .attributes)) (a .n)) (a .n) (a .m) (a .count) (a .units) (now (a .words)) _ _ _
     (c .before .before .before .before .before .load-all .ensures .0) (c .before .before .new-units .ensures .0) _ (c .only .ensures) (c .before .if1 .taken)
 
 number-units-requires : tie.Need-number-units-requires
@@ -43,7 +43,7 @@ returns-2 : tie.Need-returns-2
 returns-2 c =
     let a = c .before .before .before .before .before .before .before .before .before .before .before .args in
     let d = c .before .before .before .before .before .before .before .before .before .load-all .ensures in
-    weigh-light (now (a .index)) (allSorted (now (a .attributes)) (now (a .sections)) (a .n)) (a .n) (a .m) (a .count) (a .units) (now (a .words)) _ _ _
+    weigh-light (now (a .index)) (sortedHeld (now (a .attributes)) (a .n)) (a .n) (a .m) (a .count) (a .units) (now (a .words)) _ _ _
     (d .0) (c .before .before .before .before .before .before .new-units .ensures .0) (c .before .before .before .before .before .if1 .left) _ _ (d .1) (c .before .elements-count .ensures .0) (c .before .before .before .number-units .ensures)
 
 pub weigh-spec : {M : Type 1} → statement M

@@ -1,6 +1,9 @@
 -- `strands::counts::class_at` meets its contract.
-use mathlib.Core.Path.{refl}
+use mathlib.Core.Path.{refl, ap, _∙_}
+use native.Mathlib.Omega.{arith}
 use borrow.Author.Needs.{needs}
+use Rattle.attributes.specs.Attributes.{Sorted}
+use Rattle.attributes.proofs.HeldParts.{same-sorted}
 use Rattle.strands.proofs.Counting.{class-of}
 use Rattle.strands.proofs.counts.class_at.Statement.{statement}
 use Rattle.strands.proofs.counts.class_at.Tie as tie
@@ -21,7 +24,9 @@ cast-result : tie.Need-cast-result
 cast-result c = search needs
 
 returns : tie.Need-returns
-returns c = λ sections. class-of _ sections _ _ refl
+returns c = λ sections.
+    let a = c .before .args in
+    class-of (a .attributes .now) sections (a .k) _ refl ∙ ap (λ (x : Sorted). x .class) (same-sorted (a .attributes .now) sections (a .k) (omega arith))
 
 pub class-at-spec : {M : Type 1} → statement M
 class-at-spec =

@@ -6,7 +6,7 @@ use native.Mathlib.Omega.{arith}
 use lib.ListN.{getD}
 use Rattle.laws.specs.Gather.{total}
 use Rattle.strands.specs.Entries.{entriesIn}
-use Rattle.attributes.specs.Attributes.{allSorted}
+use Rattle.attributes.specs.Attributes.{sortedHeld}
 use Rattle.strands.specs.Writing.{elementCount}
 use Rattle.strands.proofs.Counting.{entries-start, entries-next, entries-end}
 use borrow.Author.Needs.{needs}
@@ -14,11 +14,11 @@ use Rattle.strands.proofs.counts.elements_count.Statement.{statement}
 use Rattle.strands.proofs.counts.elements_count.Tie as tie
 
 abbrev Inv-loop : tie.InvT-loop
-Inv-loop index words count attributes sections n m r₀ k₀ r k =
-    (k ≤ count) × (r ≤ 34 * k) × ((schemas : List ℕ) → r ≡ total (elementCount index (allSorted attributes sections n)) (entriesIn words schemas k))
+Inv-loop index words count attributes n m r₀ k₀ r k =
+    (k ≤ count) × (r ≤ 34 * k) × ((schemas : List ℕ) → r ≡ total (elementCount index (sortedHeld attributes n)) (entriesIn words schemas k))
 
 abbrev μ-loop : tie.MeasureT-loop
-μ-loop index words count attributes sections n m r₀ k₀ r k = count - k
+μ-loop index words count attributes n m r₀ k₀ r k = count - k
 
 loop-holds : tie.Need-loop-holds Inv-loop μ-loop
 loop-holds c = (omega arith, omega arith, λ schemas. entries-start _ schemas _)

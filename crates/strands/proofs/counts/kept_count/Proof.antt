@@ -6,17 +6,17 @@ use native.Mathlib.Omega.{arith}
 use borrow.Author.Needs.{needs}
 use lib.ListN.{length}
 use Rattle.laws.specs.Lists.{keep}
-use Rattle.attributes.specs.Attributes.{sortedIn, allSorted}
+use Rattle.attributes.specs.Attributes.{sortedHeld, sortedIn}
 use Rattle.strands.specs.Writing.{keeps}
 use Rattle.strands.proofs.Counting.{kept-start, kept-next, kept-past, kept-end}
 use Rattle.strands.proofs.counts.kept_count.Statement.{statement}
 use Rattle.strands.proofs.counts.kept_count.Tie as tie
 
 abbrev Inv-loop : tie.InvT-loop
-Inv-loop index mode attributes sections n m₀ k₀ m k = (k ≤ n) × (m ≤ k) × (m ≡ length (keep (keeps index mode) (allSorted attributes sections k)))
+Inv-loop index mode attributes n m₀ k₀ m k = (k ≤ n) × (m ≤ k) × (m ≡ length (keep (keeps index mode) (sortedHeld attributes k)))
 
 abbrev μ-loop : tie.MeasureT-loop
-μ-loop index mode attributes sections n m₀ k₀ m k = n - k
+μ-loop index mode attributes n m₀ k₀ m k = n - k
 
 loop-holds : tie.Need-loop-holds Inv-loop μ-loop
 loop-holds c = (omega arith, omega arith, kept-start (sortedIn _ _) _)

@@ -7,7 +7,7 @@ use Rattle.laws.specs.Lists.{tabulate}
 use Rattle.laws.specs.Gather.{total}
 use Rattle.strands.specs.Packed.{strandIn}
 use Rattle.strands.specs.Rules.{unitsFor}
-use Rattle.attributes.specs.Attributes.{allSorted}
+use Rattle.attributes.specs.Attributes.{attributesIn, sectionsIn, sortedHeld, allSorted}
 use Rattle.strands.specs.Writing.{members, headClass, sectionCount}
 use Rattle.strands.proofs.Counting.{total-start, sum-next, sum-end, units-in-mode, records-in-mode, no-sections}
 use borrow.Author.Needs.{needs}
@@ -15,18 +15,18 @@ use Rattle.strands.proofs.counts.load_all.Statement.{statement}
 use Rattle.strands.proofs.counts.load_all.Tie as tie
 
 abbrev Inv-loop : tie.InvT-loop
-Inv-loop index attributes sections n m words count units₀ records₀ k₀ units records k =
+Inv-loop index attributes n m words count units₀ records₀ k₀ units records k =
     (k ≤ count) × (units ≤ 2048 * k) × (records ≤ 73728 * k)
-    × (units ≡ total (λ (w : ℕ). total (λ (j : ℕ). unitsFor index (strandIn w .mode) (headClass (members (allSorted attributes sections n) j))) (tabulate (λ (j : ℕ). j) 1 m)) (tabulate (λ (i : ℕ). getD words i 0) 0 k))
-    × (records ≡ total (λ (w : ℕ). total (sectionCount index (strandIn w .mode) (allSorted attributes sections n)) (tabulate (λ (j : ℕ). j) 1 m)) (tabulate (λ (i : ℕ). getD words i 0) 0 k))
+    × (units ≡ total (λ (w : ℕ). total (λ (j : ℕ). unitsFor index (strandIn w .mode) (headClass (members (sortedHeld attributes n) j))) (tabulate (λ (j : ℕ). j) 1 m)) (tabulate (λ (i : ℕ). getD words i 0) 0 k))
+    × (records ≡ total (λ (w : ℕ). total (sectionCount index (strandIn w .mode) (sortedHeld attributes n)) (tabulate (λ (j : ℕ). j) 1 m)) (tabulate (λ (i : ℕ). getD words i 0) 0 k))
 
 abbrev μ-loop : tie.MeasureT-loop
-μ-loop index attributes sections n m words count units₀ records₀ k₀ units records k = count - k
+μ-loop index attributes n m words count units₀ records₀ k₀ units records k = count - k
 
 returns : tie.Need-returns Inv-loop μ-loop
 returns c =
     let a = c .before .args in
-    let l = allSorted (a .attributes .now) (a .sections .now) (a .n) in
+    let l = allSorted (attributesIn (a .attributes .now)) (sectionsIn (a .attributes .now)) (a .n) in
     let ws = tabulate (λ (i : ℕ). getD (a .words .now) i 0) 0 (a .count) in
     (no-sections (λ (w j : ℕ). unitsFor (a .index .now) (strandIn w .mode) (headClass (members l j))) (a .m) ws (c .if1 .taken), no-sections (λ (w : ℕ). sectionCount (a .index .now) (strandIn w .mode) l) (a .m) ws (c .if1 .taken), omega arith, omega arith)
 

@@ -6,20 +6,20 @@ use borrow.Author.Needs.{needs}
 use Rattle.laws.specs.Lists.{tabulate}
 use Rattle.laws.specs.Gather.{total}
 use Rattle.strands.specs.Rules.{unitsFor}
-use Rattle.attributes.specs.Attributes.{allSorted}
+use Rattle.attributes.specs.Attributes.{sortedHeld}
 use Rattle.strands.specs.Writing.{members, headClass, sectionCount}
 use Rattle.strands.proofs.Counting.{total-start, load-few, sections-next, sections-end, counted-units, counted-records}
 use Rattle.strands.proofs.counts.load_of.Statement.{statement}
 use Rattle.strands.proofs.counts.load_of.Tie as tie
 
 abbrev Inv-loop : tie.InvT-loop
-Inv-loop index attributes sections n m mode units₀ records₀ j₀ units records j =
+Inv-loop index attributes n m mode units₀ records₀ j₀ units records j =
     (1 ≤ j) × (j ≤ m + 1) × (units ≤ 128 * (j - 1)) × (records ≤ 4608 * (j - 1))
-    × (units ≡ total (λ (i : ℕ). unitsFor index mode (headClass (members (allSorted attributes sections n) i))) (tabulate (λ (i : ℕ). i) 1 (j - 1)))
-    × (records ≡ total (sectionCount index mode (allSorted attributes sections n)) (tabulate (λ (i : ℕ). i) 1 (j - 1)))
+    × (units ≡ total (λ (i : ℕ). unitsFor index mode (headClass (members (sortedHeld attributes n) i))) (tabulate (λ (i : ℕ). i) 1 (j - 1)))
+    × (records ≡ total (sectionCount index mode (sortedHeld attributes n)) (tabulate (λ (i : ℕ). i) 1 (j - 1)))
 
 abbrev μ-loop : tie.MeasureT-loop
-μ-loop index attributes sections n m mode units₀ records₀ j₀ units records j = m + 1 - j
+μ-loop index attributes n m mode units₀ records₀ j₀ units records j = m + 1 - j
 
 loop-holds : tie.Need-loop-holds Inv-loop μ-loop
 loop-holds c = (omega arith, omega arith, omega arith, omega arith, total-start (λ (i : ℕ). i) _ 1, total-start (λ (i : ℕ). i) _ 1)
@@ -70,7 +70,7 @@ loop-again c =
       omega (arith, i .0, i .2, u .1),
       omega (arith, i .0, i .3, f),
       sections-next _ (l .j) (l .units) (i .4) _ (i .0) (counted-units _ _ _ (l .j) _ _ s (u .0)),
-      sections-next _ (l .j) (l .records) (i .5) _ (i .0) (counted-records _ _ _ (l .j) _ _ s (u .0) _ (m .0 _)),
+      sections-next _ (l .j) (l .records) (i .5) _ (i .0) (counted-records _ _ _ (l .j) _ _ s (u .0) _ (m .0)),
     )
 
 returns : tie.Need-returns Inv-loop μ-loop

@@ -1,6 +1,14 @@
 -- `lay_attribute` lays the words of two rows.
+use Prim.Native.Nat.{_+_, _*_}
+use mathlib.Core.Path.{sym, ap, _∙_}
 use native.Mathlib.Omega.{arith}
 use lib.ListN.{length-set}
+use Rattle.laws.specs.Over.{overwrite}
+use Rattle.laws.specs.Gather.{gather}
+use Rattle.records.specs.Rows.{bodyWords}
+use Rattle.attributes.specs.Attributes.{Sorted}
+use Rattle.attributes.proofs.HeldParts.{same-sorted}
+use Rattle.strands.specs.Writing.{sortedBodies}
 use Rattle.strands.proofs.Copies.{attribute-laid}
 use borrow.Author.Needs.{needs}
 use Rattle.strands.proofs.elements.lay_attribute.Statement.{statement}
@@ -120,7 +128,9 @@ same-length c = simp length-set
 returns : tie.Need-returns
 returns c sections =
     let a = c .before .before .before .before .before .before .before .before .before .before .before .before .args in
-    attribute-laid (a .attributes .now) sections (a .k) (a .rows .now) _ _ _ _ _ (omega arith) (c .before .before .before .before .before .before .before .before .class-at .ensures sections) (c .before .before .before .before .before .before .first-word .ensures) (c .before .before .before .last-word .ensures) (c .before .first-word2 .ensures) (c .last-word2 .ensures)
+    let same = same-sorted (a .attributes .now) sections (a .k) (omega arith) in
+    attribute-laid (a .attributes .now) sections (a .k) (a .rows .now) _ _ _ _ _ (omega arith) (c .before .before .before .before .before .before .before .before .class-at .ensures sections ∙ ap (λ (x : Sorted). x .class) (sym same)) (c .before .before .before .before .before .before .first-word .ensures) (c .before .before .before .last-word .ensures) (c .before .first-word2 .ensures) (c .last-word2 .ensures)
+    ∙ ap (λ (x : Sorted). overwrite (a .rows .now) (4 * a .k + 2) (gather bodyWords (sortedBodies x))) same
 
 pub lay-attribute-spec : {M : Type 1} → statement M
 lay-attribute-spec =

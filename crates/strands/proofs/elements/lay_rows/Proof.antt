@@ -6,6 +6,7 @@ use native.Mathlib.Omega.{arith}
 use lib.ListN.{length, length-set}
 use Rattle.laws.specs.Over.{overwrite}
 use Rattle.model.specs.Records.{Body}
+use Rattle.attributes.specs.Attributes.{attributesIn}
 use Rattle.strands.specs.Writing.{begunBody}
 use Rattle.strands.proofs.Copies.{laidWords, start-laid, rows-turn, rows-held}
 use borrow.Author.Needs.{needs}
@@ -15,7 +16,7 @@ use Rattle.strands.proofs.elements.lay_rows.Tie as tie
 abbrev Inv-loop : tie.InvT-loop
 Inv-loop attributes n all₀ k₀ all k =
     (k ≤ n) × (length all ≡ 82)
-    × ((begun : Body) (rows sections : List ℕ) → all₀ ≡ overwrite rows 0 (laidWords begun attributes sections 0) → all ≡ overwrite rows 0 (laidWords begun attributes sections k))
+    × ((begun : Body) (rows sections : List ℕ) → all₀ ≡ overwrite rows 0 (laidWords begun (attributesIn attributes) sections 0) → all ≡ overwrite rows 0 (laidWords begun (attributesIn attributes) sections k))
 
 abbrev μ-loop : tie.MeasureT-loop
 μ-loop attributes n all₀ k₀ all k = n - k
@@ -48,7 +49,7 @@ loop-again : tie.Need-loop-again Inv-loop μ-loop
 loop-again c =
     let a = c .before .before .before .before .before .before .before .before .before .args in
     let l = c .before .before .before .before .before .loop in
-    (search needs, search needs, λ begun rows sections e. rows-turn begun (a .attributes .now) sections rows (l .all) _ (l .k) (l .inv .2 begun rows sections e) (c .before .before .lay-attribute .ensures sections))
+    (search needs, search needs, λ begun rows sections e. rows-turn begun (attributesIn (a .attributes .now)) sections rows (l .all) _ (l .k) (l .inv .2 begun rows sections e) (c .before .before .lay-attribute .ensures sections))
 
 returns : tie.Need-returns Inv-loop μ-loop
 returns c sections =
@@ -56,9 +57,9 @@ returns c sections =
     let l = c .before .loop in
     let b = begunBody (a .begun) in
     let e : l .k ≡ a .n = omega arith in
-    rows-held b (a .attributes .now) sections (a .n) (a .rows .now) _ (omega arith, omega arith)
-    (l .inv .2 b (a .rows .now) sections (start-laid b (a .attributes .now) sections (a .rows .now) _ _ (omega arith) (c .before .before .before .first-word .ensures) (c .before .before .last-word .ensures))
-    ∙ ap (λ (k : ℕ). overwrite (a .rows .now) 0 (laidWords b (a .attributes .now) sections k)) e)
+    rows-held b (attributesIn (a .attributes .now)) sections (a .n) (a .rows .now) _ (omega arith, omega arith)
+    (l .inv .2 b (a .rows .now) sections (start-laid b (attributesIn (a .attributes .now)) sections (a .rows .now) _ _ (omega arith) (c .before .before .before .first-word .ensures) (c .before .before .last-word .ensures))
+    ∙ ap (λ (k : ℕ). overwrite (a .rows .now) 0 (laidWords b (attributesIn (a .attributes .now)) sections k)) e)
 
 pub lay-rows-spec : {M : Type 1} → statement M
 lay-rows-spec =

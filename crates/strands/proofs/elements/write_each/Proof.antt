@@ -8,25 +8,25 @@ use borrow.Author.Needs.{needs}
 use Rattle.laws.specs.Gather.{gather}
 use Rattle.records.specs.Rows.{laid, laidRows}
 use Rattle.strands.specs.Entries.{entriesIn}
-use Rattle.attributes.specs.Attributes.{allSorted}
+use Rattle.attributes.specs.Attributes.{attributesIn, sectionsIn, sortedHeld, allSorted}
 use Rattle.strands.specs.Writing.{rowOf, begunBody, elementRecords}
 use Rattle.strands.proofs.ElementRows.{elementRows, elements-holds, elements-on, elements-done}
 use Rattle.strands.proofs.elements.write_each.Statement.{statement}
 use Rattle.strands.proofs.elements.write_each.Tie as tie
 
 abbrev Inv-loop : tie.InvT-loop
-Inv-loop index attributes sections n words schemas count begun out₀ from used₀ k₀ out used k =
-    let records = elementRecords index (begun .tag) (begunBody begun) (allSorted attributes sections n) in
+Inv-loop index attributes n words schemas count begun out₀ from used₀ k₀ out used k =
+    let records = elementRecords index (begun .tag) (begunBody begun) (sortedHeld attributes n) in
     (length out ≡ length out₀)
     × (laidRows (laid out used) (elementRows records words schemas count k) ≡ laidRows (laid out₀ from) (map rowOf (gather records (entriesIn words schemas count))))
 
 abbrev μ-loop : tie.MeasureT-loop
-μ-loop index attributes sections n words schemas count begun out₀ from used₀ k₀ out used k = count - k
+μ-loop index attributes n words schemas count begun out₀ from used₀ k₀ out used k = count - k
 
 loop-holds : tie.Need-loop-holds Inv-loop μ-loop
 loop-holds c =
     let a = c .before .args in
-    let records = elementRecords (a .index .now) (a .begun .tag) (begunBody (a .begun)) (allSorted (a .attributes .now) (a .sections .now) (a .n)) in
+    let records = elementRecords (a .index .now) (a .begun .tag) (begunBody (a .begun)) (allSorted (attributesIn (a .attributes .now)) (sectionsIn (a .attributes .now)) (a .n)) in
     (refl, elements-holds records (a .words .now) (a .schemas .now) (a .count) (laid (a .out .now) (a .from)))
 
 mul-write-element : tie.Need-mul-write-element Inv-loop μ-loop
@@ -56,9 +56,9 @@ loop-again : tie.Need-loop-again Inv-loop μ-loop
 loop-again c =
     let a = c .before .before .before .before .before .before .before .before .before .args in
     let l = c .before .before .before .before .before .before .before .loop in
-    let records = elementRecords (a .index .now) (a .begun .tag) (begunBody (a .begun)) (allSorted (a .attributes .now) (a .sections .now) (a .n)) in
+    let records = elementRecords (a .index .now) (a .begun .tag) (begunBody (a .begun)) (allSorted (attributesIn (a .attributes .now)) (sectionsIn (a .attributes .now)) (a .n)) in
     let w = c .before .before .write-element in
-    (omega (arith, l .inv .0, w .kept .1 .1 .1 .1 .1 .1 .1 .0), elements-on records (a .words .now) (a .schemas .now) (a .count) _ (laid (l .out) (l .used)) _ (l .k) (l .inv .1) (c .before .before .before .before .before .before .loop-test .taken) (w .ensures))
+    (omega (arith, l .inv .0, w .kept .1 .1 .1 .1 .1 .1 .0), elements-on records (a .words .now) (a .schemas .now) (a .count) _ (laid (l .out) (l .used)) _ (l .k) (l .inv .1) (c .before .before .before .before .before .before .loop-test .taken) (w .ensures))
 
 same-length : tie.Need-same-length Inv-loop μ-loop
 same-length c = search needs
@@ -67,7 +67,7 @@ returns : tie.Need-returns Inv-loop μ-loop
 returns c =
     let a = c .before .before .before .args in
     let l = c .before .loop in
-    let records = elementRecords (a .index .now) (a .begun .tag) (begunBody (a .begun)) (allSorted (a .attributes .now) (a .sections .now) (a .n)) in
+    let records = elementRecords (a .index .now) (a .begun .tag) (begunBody (a .begun)) (allSorted (attributesIn (a .attributes .now)) (sectionsIn (a .attributes .now)) (a .n)) in
     elements-done records (a .words .now) (a .schemas .now) (a .count) _ (laid (l .out) (l .used)) (l .k) (l .inv .1) (c .loop-test .left)
 
 pub write-each-spec : {M : Type 1} → statement M

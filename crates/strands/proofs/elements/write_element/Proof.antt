@@ -1,7 +1,7 @@
 -- `write_element` lays the rows of the element along a strand, if a unit gets them.
 use borrow.Author.Needs.{needs}
 use Rattle.records.specs.Rows.{laid}
-use Rattle.attributes.specs.Attributes.{allSorted}
+use Rattle.attributes.specs.Attributes.{attributesIn, sectionsIn, allSorted}
 use Rattle.strands.specs.Writing.{begunBody}
 use Rattle.strands.proofs.ElementRows.{element-none, element-laid}
 use Rattle.strands.proofs.elements.write_element.Statement.{statement}
@@ -14,7 +14,7 @@ returns : tie.Need-returns
 returns c =
     let a = c .before .before .before .args in
     let d = c .before .delivers in
-    let l = allSorted (a .attributes .now) (a .sections .now) (a .n) in
+    let l = allSorted (attributesIn (a .attributes .now)) (sectionsIn (a .attributes .now)) (a .n) in
     element-none (a .index .now) (a .begun .tag) (begunBody (a .begun)) l (a .w) (a .schema) (d .result) (d .ensures) (laid (a .out .now) (a .from)) (c .if1 .taken)
 
 target-of-requires : tie.Need-target-of-requires
@@ -45,7 +45,7 @@ returns-2 : tie.Need-returns-2
 returns-2 c =
     let a = c .before .before .before .before .before .before .before .before .before .before .before .before .before .before .before .before .before .before .args in
     let d = c .before .before .before .before .before .before .before .before .before .before .before .before .before .before .before .before .delivers in
-    let l = allSorted (a .attributes .now) (a .sections .now) (a .n) in
+    let l = allSorted (attributesIn (a .attributes .now)) (sectionsIn (a .attributes .now)) (a .n) in
     element-laid (a .index .now) (a .begun .tag) (begunBody (a .begun)) l (a .w) (a .schema) (d .result) (d .ensures) (c .before .before .before .before .before .before .before .before .before .before .before .before .before .before .before .if1 .left)
     (c .before .before .before .before .before .before .before .before .before .before .before .before .before .before .target-of .result) (c .before .before .before .before .mode-of .result) (c .before .before .before .before .before .before .before .before .before .before .before .before .is-here .result) (c .before .before .before .before .before .before .before .before .before .before .before .before .before .before .target-of .ensures) (c .before .before .before .before .mode-of .ensures .0) (c .before .before .before .before .before .before .before .before .before .before .before .before .is-here .ensures)
     (laid (a .out .now) (a .from)) _ _ _ (c .before .before .before .before .before .before .before .before .before .before .before .put-row-if .ensures) (c .before .before .before .before .before .before .before .put-row .ensures) (c .before .before .write-kept .ensures)

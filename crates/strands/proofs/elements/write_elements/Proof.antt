@@ -8,6 +8,7 @@ use lib.Dec.{eqb}
 use lib.ListN.{length}
 use Rattle.laws.proofs.Flags.{and-left, and-right}
 use Rattle.records.specs.Rows.{laid, laidRows}
+use Rattle.attributes.specs.Attributes.{attributesIn, sectionsIn}
 use Rattle.strands.specs.Entries.{entriesIn}
 use Rattle.strands.specs.Writing.{rowOf, begunBody}
 use Rattle.strands.proofs.Copies.{elements-whole, bytes-few}
@@ -41,9 +42,9 @@ returns : tie.Need-returns
 returns c =
     let a = c .before .before .before .before .before .before .before .before .args in
     let z = eqb-true (a .m) 0 (and-left (eqb (a .m) 0) (c .before .before .before .before .before .before .has-room .result) (c .before .before .before .before .before .if1 .taken)) in
-    c .before .before .write-copies .ensures (a .sections .now)
+    c .before .before .write-copies .ensures (sectionsIn (a .attributes .now))
     ∙ ap (λ rs. laidRows (laid (a .out .now) (a .from)) (map rowOf rs))
-    (elements-whole (a .attributes .now) (a .sections .now) (a .n) (c .before .before .before .before .before .before .before .before .pre .3 z) (a .index .now) (a .begun .tag) (begunBody (a .begun)) (entriesIn (a .words .now) (a .schemas .now) (a .count)))
+    (elements-whole (attributesIn (a .attributes .now)) (sectionsIn (a .attributes .now)) (a .n) (c .before .before .before .before .before .before .before .before .pre .3 z) (a .index .now) (a .begun .tag) (begunBody (a .begun)) (entriesIn (a .words .now) (a .schemas .now) (a .count)))
 
 write-each-requires : tie.Need-write-each-requires
 write-each-requires c κs = search needs

@@ -7,25 +7,25 @@ use borrow.Author.Needs.{needs}
 use Rattle.laws.specs.Lists.{keep}
 use Rattle.laws.specs.Gather.{gather}
 use Rattle.records.specs.Rows.{laid, laidRows}
-use Rattle.attributes.specs.Attributes.{sortedIn, allSorted}
+use Rattle.attributes.specs.Attributes.{attributesIn, sectionsIn, sortedHeld, sortedIn}
 use Rattle.strands.specs.Writing.{rowFor, sortedBodies, keeps}
 use Rattle.strands.proofs.UnitRows.{keptRows, kept-holds, kept-on, kept-done}
 use Rattle.strands.proofs.elements.write_kept.Statement.{statement}
 use Rattle.strands.proofs.elements.write_kept.Tie as tie
 
 abbrev Inv-loop : tie.InvT-loop
-Inv-loop index mode attributes sections n unit out₀ from used₀ k₀ out used k =
+Inv-loop index mode attributes n unit out₀ from used₀ k₀ out used k =
     (length out ≡ length out₀)
-    × (laidRows (laid out used) (keptRows unit (sortedIn attributes sections) (keeps index mode) n k)
-    ≡ laidRows (laid out₀ from) (map (rowFor unit) (gather sortedBodies (keep (keeps index mode) (allSorted attributes sections n)))))
+    × (laidRows (laid out used) (keptRows unit (sortedIn (attributesIn attributes) (sectionsIn attributes)) (keeps index mode) n k)
+    ≡ laidRows (laid out₀ from) (map (rowFor unit) (gather sortedBodies (keep (keeps index mode) (sortedHeld attributes n)))))
 
 abbrev μ-loop : tie.MeasureT-loop
-μ-loop index mode attributes sections n unit out₀ from used₀ k₀ out used k = n - k
+μ-loop index mode attributes n unit out₀ from used₀ k₀ out used k = n - k
 
 loop-holds : tie.Need-loop-holds Inv-loop μ-loop
 loop-holds c =
     let a = c .before .args in
-    (search needs, kept-holds (a .unit) (sortedIn (a .attributes .now) (a .sections .now)) (keeps (a .index .now) (a .mode)) (a .n) (laid (a .out .now) (a .from)))
+    (search needs, kept-holds (a .unit) (sortedIn (attributesIn (a .attributes .now)) (sectionsIn (a .attributes .now))) (keeps (a .index .now) (a .mode)) (a .n) (laid (a .out .now) (a .from)))
 
 is-kept-requires : tie.Need-is-kept-requires Inv-loop μ-loop
 is-kept-requires c κs = search needs
@@ -43,7 +43,7 @@ loop-again : tie.Need-loop-again Inv-loop μ-loop
 loop-again c =
     let a = c .before .before .before .before .before .before .before .before .args in
     let l = c .before .before .before .before .before .before .loop in
-    (search needs, kept-on (a .unit) (sortedIn (a .attributes .now) (a .sections .now)) (keeps (a .index .now) (a .mode)) (a .n) _ (laid (l .out) (l .used)) _ (l .k) (c .before .before .before .before .is-kept .result) (l .inv .1) (c .before .before .before .before .before .loop-test .taken) (c .before .before .before .before .is-kept .ensures) (c .before .before .put-attribute-if .ensures (a .sections .now)))
+    (search needs, kept-on (a .unit) (sortedIn (attributesIn (a .attributes .now)) (sectionsIn (a .attributes .now))) (keeps (a .index .now) (a .mode)) (a .n) _ (laid (l .out) (l .used)) _ (l .k) (c .before .before .before .before .is-kept .result) (l .inv .1) (c .before .before .before .before .before .loop-test .taken) (c .before .before .before .before .is-kept .ensures) (c .before .before .put-attribute-if .ensures (sectionsIn (a .attributes .now))))
 
 same-length : tie.Need-same-length Inv-loop μ-loop
 same-length c = search needs
@@ -52,7 +52,7 @@ returns : tie.Need-returns Inv-loop μ-loop
 returns c =
     let a = c .before .before .before .args in
     let l = c .before .loop in
-    kept-done (a .unit) (sortedIn (a .attributes .now) (a .sections .now)) (keeps (a .index .now) (a .mode)) (a .n) _ (laid (l .out) (l .used)) (l .k) (l .inv .1) (c .loop-test .left)
+    kept-done (a .unit) (sortedIn (attributesIn (a .attributes .now)) (sectionsIn (a .attributes .now))) (keeps (a .index .now) (a .mode)) (a .n) _ (laid (l .out) (l .used)) (l .k) (l .inv .1) (c .loop-test .left)
 
 pub write-kept-spec : {M : Type 1} → statement M
 write-kept-spec =

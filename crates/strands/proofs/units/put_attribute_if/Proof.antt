@@ -1,7 +1,13 @@
 -- `put_attribute_if` lays an attribute's two rows where they are due.
 use mathlib.Core.Path.{ap, _∙_}
+use mathlib.Core.List.{[], map}
+use mathlib.Core.Bool.{cond}
+use native.Mathlib.Omega.{arith}
 use borrow.Author.Needs.{needs}
 use Rattle.records.specs.Rows.{laid, laidRows}
+use Rattle.attributes.specs.Attributes.{Sorted}
+use Rattle.attributes.proofs.HeldParts.{same-sorted}
+use Rattle.strands.specs.Writing.{rowFor, sortedBodies}
 use Rattle.strands.proofs.UnitRows.{nameRow, valueRow, two-rows, attribute-rows}
 use Rattle.strands.proofs.units.put_attribute_if.Statement.{statement}
 use Rattle.strands.proofs.units.put_attribute_if.Tie as tie
@@ -88,6 +94,7 @@ returns c sections =
     c .before .before .put-row-if2 .ensures
     ∙ two-rows w _ (a .due) (nameRow (a .attributes .now) (a .k) (a .unit)) (valueRow (a .attributes .now) (a .k) (a .unit)) (c .before .before .before .before .before .before .put-row-if .ensures)
     ∙ ap (laidRows w) (attribute-rows (a .attributes .now) (a .k) (a .unit) sections (a .due))
+    ∙ ap (λ (x : Sorted). laidRows w (map (rowFor (a .unit)) (cond (a .due) (sortedBodies x) []))) (same-sorted (a .attributes .now) sections (a .k) (omega arith))
 
 pub put-attribute-if-spec : {M : Type 1} → statement M
 put-attribute-if-spec =

@@ -2,7 +2,7 @@
 use native.Mathlib.Omega.{arith}
 use borrow.Author.Needs.{needs}
 use Rattle.records.specs.Rows.{laid}
-use Rattle.attributes.specs.Attributes.{allSorted}
+use Rattle.attributes.specs.Attributes.{attributesIn, sectionsIn, allSorted}
 use Rattle.strands.specs.Writing.{members}
 use Rattle.strands.proofs.UnitRows.{by-attach, by-unwrap, one-unit, by-validate}
 use Rattle.strands.proofs.units.write_by.Statement.{statement}
@@ -20,25 +20,25 @@ enum-told-3 c = search needs
 cast-write-unit : tie.Need-cast-write-unit
 cast-write-unit c =
     let a = c .before .before .before .args in
-    let l = members (allSorted (a .attributes .now) (a .sections .now) (a .n)) (a .j) in
-    omega (arith, c .before .before .before .pre .1, one-unit (a .tag) l (a .schema) (a .action) (c .enum-told3 .given .1))
+    let l = members (allSorted (attributesIn (a .attributes .now)) (sectionsIn (a .attributes .now)) (a .n)) (a .j) in
+    omega (arith, c .before .before .before .pre .2, one-unit (a .tag) l (a .schema) (a .action) (c .enum-told3 .given .1))
 
 write-unit-requires : tie.Need-write-unit-requires
 write-unit-requires c κs = search needs
 
-add-t16 : tie.Need-add-t16
-add-t16 c = search needs
+add-t15 : tie.Need-add-t15
+add-t15 c = search needs
 
 returns : tie.Need-returns
 returns c =
     let a = c .before .before .before .args in
-    let l = members (allSorted (a .attributes .now) (a .sections .now) (a .n)) (a .j) in
+    let l = members (allSorted (attributesIn (a .attributes .now)) (sectionsIn (a .attributes .now)) (a .n)) (a .j) in
     by-attach (a .tag) l (a .schema) (a .action) (c .enum-told .given .1) (a .wrote .unit) (laid (a .out .now) (a .wrote .used))
 
 returns-2 : tie.Need-returns-2
 returns-2 c =
     let a = c .before .before .before .args in
-    let l = members (allSorted (a .attributes .now) (a .sections .now) (a .n)) (a .j) in
+    let l = members (allSorted (attributesIn (a .attributes .now)) (sectionsIn (a .attributes .now)) (a .n)) (a .j) in
     by-unwrap (a .tag) l (a .schema) (a .action) (c .enum-told2 .given .1) (a .wrote .unit) (laid (a .out .now) (a .wrote .used))
 
 same-length : tie.Need-same-length
@@ -47,7 +47,7 @@ same-length c = search needs
 returns-3 : tie.Need-returns-3
 returns-3 c =
     let a = c .before .before .before .before .before .before .before .args in
-    let l = members (allSorted (a .attributes .now) (a .sections .now) (a .n)) (a .j) in
+    let l = members (allSorted (attributesIn (a .attributes .now)) (sectionsIn (a .attributes .now)) (a .n)) (a .j) in
     by-validate (a .tag) l (a .schema) (a .action) (c .before .before .before .before .enum-told3 .given .1) (a .wrote .unit) (laid (a .out .now) (a .wrote .used)) _ (c .before .before .write-unit .ensures)
 
 pub write-by-spec : {M : Type 1} → statement M
@@ -59,7 +59,7 @@ write-by-spec =
     enum-told-3
     cast-write-unit
     write-unit-requires
-    add-t16
+    add-t15
     returns
     returns-2
     same-length

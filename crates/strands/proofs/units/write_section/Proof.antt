@@ -5,7 +5,7 @@ use native.Mathlib.Omega.{arith}
 use lib.ListN.{length}
 use borrow.Author.Needs.{needs}
 use Rattle.records.specs.Rows.{laid}
-use Rattle.attributes.specs.Attributes.{allSorted}
+use Rattle.attributes.specs.Attributes.{attributesIn, sectionsIn, sortedHeld, allSorted}
 use Rattle.strands.specs.Writing.{sectionUnits}
 use Rattle.strands.proofs.Ruled.{left, At, at-first, at-next, next-on}
 use Rattle.strands.proofs.UnitRows.{Going, going-holds, byRules, rules-all, rule-fits, rule-on, rule-done}
@@ -13,16 +13,16 @@ use Rattle.strands.proofs.units.write_section.Statement.{statement}
 use Rattle.strands.proofs.units.write_section.Tie as tie
 
 abbrev Inv-loop : tie.InvT-loop
-Inv-loop index attributes sections n j mode tag out₀ c rules wrote₀ i₀ out wrote i =
+Inv-loop index attributes n j mode tag out₀ c rules wrote₀ i₀ out wrote i =
     (length out ≡ length out₀)
     × (length index ≡ 256)
     × (c .end ≤ 128)
     × At index c i
-    × Going (laid out₀ (wrote₀ .used)) (wrote₀ .unit) (sectionUnits index mode tag (allSorted attributes sections n) j)
-    (laid out (wrote .used)) (wrote .unit) (byRules tag (allSorted attributes sections n) j (left index c i))
+    × Going (laid out₀ (wrote₀ .used)) (wrote₀ .unit) (sectionUnits index mode tag (sortedHeld attributes n) j)
+    (laid out (wrote .used)) (wrote .unit) (byRules tag (sortedHeld attributes n) j (left index c i))
 
 abbrev μ-loop : tie.MeasureT-loop
-μ-loop index attributes sections n j mode tag out₀ c rules wrote₀ i₀ out wrote i = c .end - i
+μ-loop index attributes n j mode tag out₀ c rules wrote₀ i₀ out wrote i = c .end - i
 
 section-class-requires : tie.Need-section-class-requires Inv-loop μ-loop
 section-class-requires c κs = search needs
@@ -33,7 +33,7 @@ choose-requires c κs = search needs
 loop-holds : tie.Need-loop-holds Inv-loop μ-loop
 loop-holds c =
     let a = c .before .before .before .before .args in
-    let l = allSorted (a .attributes .now) (a .sections .now) (a .n) in
+    let l = allSorted (attributesIn (a .attributes .now)) (sectionsIn (a .attributes .now)) (a .n) in
     let size : length (a .index .now) ≡ 256 = search needs in
     let k = c .before .before .section-class in
     let q = c .before .choose in
@@ -53,8 +53,8 @@ write-by-requires : tie.Need-write-by-requires Inv-loop μ-loop
 write-by-requires c κs =
     let a = c .before .before .before .before .before .before .before .before .before .before .args in
     let i = c .before .before .before .before .before .loop .inv in
-    let l = allSorted (a .attributes .now) (a .sections .now) (a .n) in
-    (c .before .before .before .before .before .before .before .before .before .before .pre .0, rule-fits (a .tag) l (a .j) (a .index .now) (c .before .before .before .before .before .before .before .choose .result) (c .before .before .before .before .before .loop .i) (i .3) _ _ _ _ _ (i .4) (c .before .rule-of .result) (c .before .before .before .if1 .taken) (c .before .rule-of .ensures) 65536 (c .before .before .before .before .before .before .before .before .before .before .pre .1))
+    let l = allSorted (attributesIn (a .attributes .now)) (sectionsIn (a .attributes .now)) (a .n) in
+    (c .before .before .before .before .before .before .before .before .before .before .pre .0, c .before .before .before .before .before .before .before .before .before .before .pre .1, rule-fits (a .tag) l (a .j) (a .index .now) (c .before .before .before .before .before .before .before .choose .result) (c .before .before .before .before .before .loop .i) (i .3) _ _ _ _ _ (i .4) (c .before .rule-of .result) (c .before .before .before .if1 .taken) (c .before .rule-of .ensures) 65536 (c .before .before .before .before .before .before .before .before .before .before .pre .2))
 
 add-next-rule : tie.Need-add-next-rule Inv-loop μ-loop
 add-next-rule c = search needs
@@ -73,11 +73,11 @@ loop-again : tie.Need-loop-again Inv-loop μ-loop
 loop-again c =
     let a = c .before .before .before .before .before .before .before .before .before .before .before .before .before .before .args in
     let i = c .before .before .before .before .before .before .before .before .before .loop .inv in
-    let l = allSorted (a .attributes .now) (a .sections .now) (a .n) in
+    let l = allSorted (attributesIn (a .attributes .now)) (sectionsIn (a .attributes .now)) (a .n) in
     let q = c .before .before .before .before .before .before .before .before .before .before .before .choose .result in
     let h = c .before .before .before .before .before .before .before .if1 .taken in
     let n = c .next-rule in (
-      omega (arith, i .0, c .before .before .before .write-by .kept .1 .1 .1 .1 .1 .1 .1 .1 .0),
+      omega (arith, i .0, c .before .before .before .write-by .kept .1 .1 .1 .1 .1 .1 .1 .0),
       i .1,
       i .2,
       at-next (a .index .now) q (c .before .before .before .before .before .before .before .before .before .loop .i) (n .result) (i .3) h (n .ensures),
@@ -91,7 +91,7 @@ returns : tie.Need-returns Inv-loop μ-loop
 returns c =
     let a = c .before .before .before .before .before .before .before .args in
     let i = c .before .before .loop .inv in
-    let l = allSorted (a .attributes .now) (a .sections .now) (a .n) in
+    let l = allSorted (attributesIn (a .attributes .now)) (sectionsIn (a .attributes .now)) (a .n) in
     rule-done (a .tag) l (a .j) (a .index .now) (c .before .before .before .before .choose .result) (c .before .before .loop .i) (i .3) _ _ _ _ _ (i .4) (c .if1 .left)
 
 pub write-section-spec : {M : Type 1} → statement M

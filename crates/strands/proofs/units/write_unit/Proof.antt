@@ -2,7 +2,7 @@
 use native.Mathlib.Omega.{arith}
 use borrow.Author.Needs.{needs}
 use Rattle.records.specs.Rows.{laid}
-use Rattle.attributes.specs.Attributes.{allSorted}
+use Rattle.attributes.specs.Attributes.{attributesIn, sectionsIn, allSorted}
 use Rattle.strands.specs.Writing.{members}
 use Rattle.strands.proofs.UnitRows.{unit-laid}
 use Rattle.strands.proofs.units.write_unit.Statement.{statement}
@@ -33,12 +33,12 @@ put-row-requires-4 : tie.Need-put-row-requires-4
 put-row-requires-4 c κs = search needs
 
 same-length : tie.Need-same-length
-same-length c = omega (arith, c .before .before .put-row4 .kept .0, c .before .before .before .before .before .before .before .put-row3 .kept .0, c .before .before .before .before .before .before .before .before .before .before .before .before .write-members .kept .1 .1 .1 .1 .1 .0, c .before .before .before .before .before .before .before .before .before .before .before .before .before .before .before .before .put-row2 .kept .0, c .before .before .before .before .before .before .before .before .before .before .before .before .before .before .before .before .before .before .before .before .before .put-row .kept .0)
+same-length c = omega (arith, c .before .before .put-row4 .kept .0, c .before .before .before .before .before .before .before .put-row3 .kept .0, c .before .before .before .before .before .before .before .before .before .before .before .before .write-members .kept .1 .1 .1 .1 .0, c .before .before .before .before .before .before .before .before .before .before .before .before .before .before .before .before .put-row2 .kept .0, c .before .before .before .before .before .before .before .before .before .before .before .before .before .before .before .before .before .before .before .before .before .put-row .kept .0)
 
 returns : tie.Need-returns
 returns c =
     let a = c .before .before .before .before .before .before .before .before .before .before .before .before .before .before .before .before .before .before .before .before .before .before .before .before .args in
-    unit-laid (a .unit) (a .schema) (a .tag) (members (allSorted (a .attributes .now) (a .sections .now) (a .n)) (a .j))
+    unit-laid (a .unit) (a .schema) (a .tag) (members (allSorted (attributesIn (a .attributes .now)) (sectionsIn (a .attributes .now)) (a .n)) (a .j))
     (laid (a .out .now) (a .from)) _ _ _ _ _ _ _ _
     (c .before .before .before .before .before .before .before .before .before .before .before .before .before .before .before .before .before .before .before .before .before .put-row .ensures)
     (c .before .before .before .before .before .before .before .before .before .before .before .before .before .before .before .before .before .plain-row .ensures)
