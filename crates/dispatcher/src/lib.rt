@@ -264,27 +264,13 @@ pub fn run(table: &[u8], scene: &[u8], out: &mut [u8]) -> Answer
     let advanced = advance_in(
         table,
         scene,
-        fresh_head(),
+        Session::fresh().head(),
         &mut levels,
         &mut bindings,
         steps_within(scene),
         out,
     );
     answer_of(advanced)
-}
-
-// A fresh session's numbers.
-fn fresh_head() -> Head
-    ensures { λ r. ⌜ r ≡ headOf freshOf ⌝ }
-{
-    Head {
-        place: 0,
-        units: 0,
-        closed: false,
-        awaited: false,
-        depth: 0,
-        bound: 0,
-    }
 }
 
 // So many steps suffice. A scene that is too long is refused by the first.

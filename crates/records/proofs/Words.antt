@@ -4,14 +4,16 @@
 --     stored, laid-more      one number more behind those that are laid, and some more
 --     word-stored            a word's bytes stored one by one
 --     words-start, -turn     the loop that lays rows kept as words
---     words-rows             what an array holds as words, laid: the bytes of the rows
+--     pair-laid              two of them laid
+--     part-rows              some of what an array holds as words, laid: the bytes of the rows
 --     words-few, -length     the first words of rows; how many words they are
 use mathlib.Core.Path.{_≡_, refl, sym, ap, ap₂, _∙_}
 use mathlib.Core.List.{List, [], _∷_, _++_, append-nil, append-assoc}
 use Prim.Native.Nat.{ℕ, zero, suc, _+_, _-_, _*_, _/_, _%_, _^_, _≤_, _<_}
 use native.Mathlib.Nat.{zero-add, mod-eq-of-lt}
 use native.Mathlib.Omega.{arith}
-use lib.ListN.{length, getD, set, length-append}
+use lib.ListN.{length, getD, set, length-append, List·getD-append}
+use lib.Seq.{getD-append-add}
 use Rattle.laws.specs.Lists.{tabulate}
 use Rattle.laws.specs.Gather.{gather}
 use Rattle.laws.specs.Members.{All}
@@ -21,6 +23,7 @@ use Rattle.laws.proofs.Lists.{length-tabulate}
 use Rattle.laws.proofs.Gather.{gather-append}
 use Rattle.reader.proofs.Tabulated.{tabulate-append}
 use Rattle.model.specs.Records.{Body, recordBytes}
+use Rattle.model.proofs.Lists.{all-left, all-right}
 use Rattle.records.specs.declared.Row.{Row}
 use Rattle.records.specs.Rows.{bodyOf, rowBytes, bytes8, firstWord, unitWord, lastWord, bodyWords, wordsRow, ByteFields, InWords}
 
@@ -190,7 +193,38 @@ module _ (words : List ℕ) (unit : ℕ) where
         g
         ∙ ap (overwrite out at) (append-assoc (wordsRows j) a b ∙ sym (rows-next j))
 
+    -- two rows: four words
+    pub pair-laid : (x y z v : List ℕ) (j : ℕ) → at ≤ length out
+        → x ≡ overwrite out at (bytes8 (getD words (2 * j) 0 + unit)) → y ≡ overwrite x (at + 8) (bytes8 (getD words (2 * j + 1) 0))
+        → z ≡ overwrite y (at + 16) (bytes8 (getD words (2 * j + 2) 0 + unit)) → v ≡ overwrite z (at + 24) (bytes8 (getD words (2 * j + 3) 0))
+        → v ≡ overwrite out at (gather (wordsRow words unit) (tabulate (λ (i : ℕ). i) j 2))
+    unfolding tabulate gather wordsRow
+    pair-laid x y z v j h e f g k =
+        let a : List ℕ = bytes8 (getD words (2 * j) 0 + unit) in
+        let b : List ℕ = bytes8 (getD words (2 * j + 1) 0) in
+        let c : List ℕ = bytes8 (getD words (2 * j + 2) 0 + unit) in
+        let d : List ℕ = bytes8 (getD words (2 * j + 3) 0) in
+        let la : length a ≡ 8 = bytes-length (getD words (2 * j) 0 + unit) in
+        let lb : length b ≡ 8 = bytes-length (getD words (2 * j + 1) 0) in
+        let lc : length c ≡ 8 = bytes-length (getD words (2 * j + 2) 0 + unit) in
+        let r1 = laid-more out at x y a b (at + 8) h e (omega (arith, la)) f in
+        let r2 = laid-more out at y z (a ++ b) c (at + 16) h r1 (omega (arith, la, lb, length-append a b)) g in
+        let r3 = laid-more out at z v ((a ++ b) ++ c) d (at + 24) h r2 (omega (arith, la, lb, lc, length-append a b, length-append (a ++ b) c)) k in
+        let p : 2 * j + 2 ≡ 2 * suc j = omega arith in
+        let q : 2 * j + 3 ≡ 2 * suc j + 1 = omega arith in
+        r3
+        ∙ ap (overwrite out at)
+        (append-assoc (a ++ b) c d
+        ∙ ap₂ (λ (s t : ℕ). (a ++ b) ++ (bytes8 (getD words s 0 + unit) ++ bytes8 (getD words t 0))) p q
+        ∙ ap (λ (l : List ℕ). (a ++ b) ++ l) (sym (append-nil (bytes8 (getD words (2 * suc j) 0 + unit) ++ bytes8 (getD words (2 * suc j + 1) 0)))))
+
 -- ---- rows that an array holds as words
+-- two to each
+pub words-length : (bodies : List Body) → length (gather bodyWords bodies) ≡ 2 * length bodies
+unfolding gather
+words-length [] = refl
+words-length (b ∷ bodies) = omega (arith, words-length bodies)
+
 module _ (words : List ℕ) (unit : ℕ) where
   from-row : (bodies : List Body) (k : ℕ) → All ByteFields bodies → ((i : ℕ) → i < 2 * length bodies → getD words (2 * k + i) 0 ≡ getD (gather bodyWords bodies) i 0)
       → gather (wordsRow words (unitWord unit)) (tabulate (λ (i : ℕ). i) k (length bodies)) ≡ gather (recordBytes unit) bodies
@@ -203,8 +237,20 @@ module _ (words : List ℕ) (unit : ℕ) where
       (ap₂ (λ (x y : ℕ). bytes8 (x + unitWord unit) ++ bytes8 y) e f ∙ sym (record-words unit b (a .0 .0) (a .0 .1)))
       (from-row bodies (suc k) (a .1) (λ (i : ℕ) (q : i < 2 * length bodies). ap (λ (j : ℕ). getD words j 0) (omega arith) ∙ h (suc (suc i)) (omega arith)))
 
-  pub words-rows : (bodies : List Body) → InWords words bodies → gather (wordsRow words (unitWord unit)) (tabulate (λ (i : ℕ). i) 0 (length bodies)) ≡ gather (recordBytes unit) bodies
-  words-rows bodies w = from-row bodies 0 (w .fields) (λ (i : ℕ) (q : i < 2 * length bodies). ap (λ (j : ℕ). getD words j 0) (omega arith) ∙ w .held i q)
+  pub part-rows : (before part after : List Body) → InWords words (before ++ (part ++ after))
+      → gather (wordsRow words (unitWord unit)) (tabulate (λ (i : ℕ). i) (length before) (length part)) ≡ gather (recordBytes unit) part
+  part-rows before part after w = from-row part (length before) (all-left ByteFields part after (all-right ByteFields before (part ++ after) (w .fields))) at
+    where
+      at : (i : ℕ) → i < 2 * length part → getD words (2 * length before + i) 0 ≡ getD (gather bodyWords part) i 0
+      at i h =
+          let l = length-append before (part ++ after) in
+          let m = length-append part after in
+          w .held (2 * length before + i) (omega (arith, l, m))
+          ∙ ap₂ (λ (ws : List ℕ) (k : ℕ). getD ws (k + i) 0)
+          (gather-append bodyWords before (part ++ after) ∙ ap (λ (ws : List ℕ). gather bodyWords before ++ ws) (gather-append bodyWords part after))
+          (sym (words-length before))
+          ∙ getD-append-add (gather bodyWords before) (gather bodyWords part ++ gather bodyWords after) i 0
+          ∙ List·getD-append (gather bodyWords part) (gather bodyWords after) 0 i (omega (arith, words-length part))
 
 -- so each first word leaves room for a unit
 few-at : (bodies : List Body) (j : ℕ) → All ByteFields bodies → j < length bodies → getD (gather bodyWords bodies) (2 * j) 0 < 2 ^ 48
@@ -217,9 +263,3 @@ few-at (b ∷ bodies) (suc j) a h =
 
 pub words-few : (words : List ℕ) (bodies : List Body) (j : ℕ) → InWords words bodies → j < length bodies → getD words (2 * j) 0 < 2 ^ 48
 words-few words bodies j w h = omega (arith, w .held (2 * j) (omega arith), few-at bodies j (w .fields) h)
-
--- the words of rows, two to each
-pub words-length : (bodies : List Body) → length (gather bodyWords bodies) ≡ 2 * length bodies
-unfolding gather
-words-length [] = refl
-words-length (b ∷ bodies) = omega (arith, words-length bodies)

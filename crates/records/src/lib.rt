@@ -148,3 +148,15 @@ pub fn put_words(out: &mut [u8], at: usize, words: &[u64; 82], n: usize, unit: u
         j += 1;
     }
 }
+
+// Two rows of an array of words, the j-th and the next, laid at `at`, with what the unit adds.
+pub fn put_pair(out: &mut [u8], at: usize, words: &[u64; 82], j: usize, unit: u64)
+    requires { ⌜ (j + 2 ≤ 33) × (at + 32 ≤ length (now out)) × (getD (now words) (2 * j) 0 + unit < 2 ^ 64) × (getD (now words) (2 * j + 2) 0 + unit < 2 ^ 64) ⌝ }
+    ensures { λ _. ⌜ now (out .exit) ≡ overwrite (now (out .entry)) at (gather (wordsRow (now (words .entry)) unit) (tabulate (λ (i : ℕ). i) j 2)) ⌝ }
+{
+    let i = 2 * j;
+    put8(out, at, words[i] + unit);
+    put8(out, at + 8, words[i + 1]);
+    put8(out, at + 16, words[i + 2] + unit);
+    put8(out, at + 24, words[i + 3]);
+}

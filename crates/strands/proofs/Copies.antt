@@ -3,11 +3,12 @@
 --     attribute-laid, start-laid, rows-turn          the words of its rows laid
 --     bodies-many, rows-held, rows-kept              what the array holds then
 --     units-start, units-turn                        what each strand's unit adds
+--     part-copied                                    some of the rows copied
 --     copy-none, copy-laid                           along one strand
 --     room-late, room-left, room-here, room-next     room for the rows; bytes-few: how many bytes they are
 use Prim.Native.Nat.{ℕ, zero, suc, _+_, _-_, _*_, _%_, _^_, _≤_, _<_}
-use mathlib.Core.Path.{_≡_, refl, sym, ap, ap₂, _∙_}
-use mathlib.Core.List.{List, [], _∷_, _++_, map}
+use mathlib.Core.Path.{_≡_, refl, sym, ap, ap₂, _∙_, subst}
+use mathlib.Core.List.{List, [], _∷_, _++_, map, append-nil}
 use mathlib.Core.Bool.{Bool, true, false, cond, not}
 use mathlib.Core.Option.{Option, some}
 use native.Mathlib.Nat.{zero-add, add-mul, mul-le-mul, one-mul, le-refl}
@@ -34,7 +35,7 @@ use Rattle.model.proofs.Lists.{gather-same, gather-map}
 use Rattle.records.specs.declared.Row.{Row}
 use Rattle.records.specs.Rows.{Laid, laid, laidIf, laidRows, rowBytes, firstWord, unitWord, lastWord, bodyWords, wordsRow, ByteFields, InWords}
 use Rattle.records.proofs.Laid.{rows-none, rows-append, rows-if, rows-fit}
-use Rattle.records.proofs.Words.{stored, laid-more, words-rows, words-length}
+use Rattle.records.proofs.Words.{stored, laid-more, part-rows, words-length}
 use Rattle.strands.specs.Packed.{strandIn, receives, isUnit, targetIn}
 use Rattle.attributes.specs.Attributes.{Sorted, givenIn, sortedIn, allSorted}
 use Rattle.strands.specs.Writing.{rowFor, rowOf, opensWith, sortedBodies, elementRecords, wholeBodies, wholeRecords}
@@ -156,6 +157,21 @@ module _ (words rows₀ : List ℕ) where
             (le-or-lt k j);
       }
 
+-- some of the rows copied
+pub part-copied : (rows : List ℕ) (before part after : List Body) (unit mark : ℕ) (out out′ : List ℕ) (place j n : ℕ)
+    → InWords rows (before ++ (part ++ after)) → length before ≡ j → length part ≡ n → mark ≡ unitWord unit → place + 16 * n ≤ length out
+    → out′ ≡ overwrite out place (gather (wordsRow rows mark) (tabulate (λ (i : ℕ). i) j n)) → laid out′ (place + 16 * n) ≡ laidRows (laid out place) (map (rowFor unit) part)
+unfolding rowBytes
+part-copied rows before part after unit mark out out′ place j n w b l m h g =
+    let e : length (map (rowFor unit) part) ≡ n = length-map part (rowFor unit) ∙ l in
+    ap₂ (λ (o : List ℕ) (i : ℕ). laid o (place + 16 * i))
+    (g
+    ∙ ap (λ (x : ℕ). overwrite out place (gather (wordsRow rows x) (tabulate (λ (i : ℕ). i) j n))) m
+    ∙ ap₂ (λ (x y : ℕ). overwrite out place (gather (wordsRow rows (unitWord unit)) (tabulate (λ (i : ℕ). i) x y))) (sym b) (sym l)
+    ∙ ap (overwrite out place) (part-rows rows unit before part after w ∙ sym (gather-map rowBytes (rowFor unit) part)))
+    (sym e)
+    ∙ sym (rows-fit (map (rowFor unit) part) out place (omega arith))
+
 -- ---- along one strand
 module _ (word schema at : ℕ) (b : Bool) (e : b ≡ isUnit (receives (strandIn word))) (bodies : List Body) where
   abbrev entry : Entry
@@ -179,19 +195,6 @@ module _ (word schema at : ℕ) (b : Bool) (e : b ≡ isUnit (receives (strandIn
       ∙ sym (rows-append w₀ (cond here (rowFor unit (plain 0 schema (span at 0)) ∷ []) []) (map (rowFor unit) bodies))
       ∙ ap (laidRows w₀) (sym (given-rows unit here))
 
-  -- the rows copied
-  rows-copied : (rows : List ℕ) (unit : ℕ) (out out′ : List ℕ) (place n : ℕ) → InWords rows bodies → length bodies ≡ n → place + 16 * n ≤ length out
-      → out′ ≡ overwrite out place (gather (wordsRow rows (unitWord unit)) (tabulate (λ (i : ℕ). i) 0 n)) → laid out′ (place + 16 * n) ≡ laidRows (laid out place) (map (rowFor unit) bodies)
-  unfolding rowBytes
-  rows-copied rows unit out out′ place n h l f g =
-      let m : length (map (rowFor unit) bodies) ≡ n = length-map bodies (rowFor unit) ∙ l in
-      ap₂ (λ (o : List ℕ) (i : ℕ). laid o (place + 16 * i))
-      (g
-      ∙ ap (λ (i : ℕ). overwrite out place (gather (wordsRow rows (unitWord unit)) (tabulate (λ (j : ℕ). j) 0 i))) (sym l)
-      ∙ ap (overwrite out place) (words-rows rows unit bodies h ∙ sym (gather-map rowBytes (rowFor unit) bodies)))
-      (sym m)
-      ∙ sym (rows-fit (map (rowFor unit) bodies) out place (omega arith))
-
   pub copy-laid : not b ≡ false → (unit : ℕ) (here : Bool) → unit ≡ targetIn word → here ≡ strandIn word .here
       → (rows out₀ out₁ out₂ : List ℕ) (from place n mark : ℕ)
       → laid out₁ place ≡ laidIf here (laid out₀ from) (rowFor unit (plain 0 schema (span at 0)))
@@ -201,8 +204,7 @@ module _ (word schema at : ℕ) (b : Bool) (e : b ≡ isUnit (receives (strandIn
   unfolding wholeRecords
   copy-laid h unit here u k rows out₀ out₁ out₂ from place n mark q w l f m g =
       let r : receives (strandIn word) ≡ some unit = receives-target word (sym e ∙ not-false b h) ∙ ap some (sym u) in
-      rows-copied rows unit out₁ out₂ place n w l f
-      (g ∙ ap (λ (x : ℕ). overwrite out₁ place (gather (wordsRow rows x) (tabulate (λ (i : ℕ). i) 0 n))) (m ∙ ap unitWord (sym u)))
+      part-copied rows [] bodies [] unit mark out₁ out₂ place 0 n (subst (InWords rows) (sym (append-nil bodies)) w) refl l (m ∙ ap unitWord (sym u)) f g
       ∙ given-laid unit here (laid out₀ from) (laid out₁ place) q
       ∙ ap₂ (λ (o : Option ℕ) (x : Bool). laidRows (laid out₀ from) (map rowOf (give o (opensWith at schema x ++ map holds bodies)))) (sym r) k
 

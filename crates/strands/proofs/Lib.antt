@@ -16,3 +16,4 @@ pub mod UnitNumbers
 pub mod Entered
 pub mod Copies
 pub mod LevelNumbers
+pub mod KeptCopies

@@ -11,6 +11,7 @@ use attributes::HELD;
 use records::Row;
 use records::first_word;
 use records::last_word;
+use records::put_pair;
 use records::put_row;
 use records::put_row_if;
 use records::put_words;
@@ -242,6 +243,118 @@ fn has_room(size: usize, from: usize, bytes: usize) -> bool
     bytes <= size - from
 }
 
+// The rows of the attributes that are kept along a strand of this mode, copied.
+fn copy_kept(
+    index: &[u32; 256],
+    mode: u8,
+    attributes: &[u32; HELD],
+    n: usize,
+    rows: &[u64; 82],
+    unit: u64,
+    out: &mut [u8],
+    from: usize,
+) -> usize
+    requires { ⌜ (n ≤ 16) × (from + 32 * n ≤ length (now out)) × ((j : ℕ) → j < 2 * n + 1 → getD (now rows) (2 * j) 0 + unit < 2 ^ 64) ⌝ }
+    ensures { λ r. ⌜ (
+        let sorted = sortedHeld (now (attributes .entry)) n in
+        (r ≤ from + 32 * n)
+        × ((begun : Body) (target : ℕ) → InWords (now (rows .entry)) (wholeBodies begun sorted) → unit ≡ unitWord target → laid (now (out .exit)) r ≡ laidRows (laid (now (out .entry)) from) (map (rowFor target) (gather sortedBodies (keep (keeps (now (index .entry)) mode) sorted))))
+        ) ⌝ }
+{
+    let mut used = from;
+    let mut k = 0;
+    while k < n {
+        if is_kept(index, mode, attributes, k) {
+            put_pair(out, used, rows, 2 * k + 1, unit);
+            used += 32;
+        }
+        k += 1;
+    }
+    used
+}
+
+// The element along the k-th strand, its rows copied: the start and the attributes that are kept.
+fn copy_element(
+    index: &[u32; 256],
+    attributes: &[u32; HELD],
+    n: usize,
+    rows: &[u64; 82],
+    k: usize,
+    w: u32,
+    schema: u32,
+    tag: u32,
+    out: &mut [u8],
+    from: usize,
+) -> usize
+    requires { ⌜ (
+        (n ≤ 16) × (k < 16) × (schema < 256) × (from + 32 * (n + 1) ≤ length (now out))
+        × (getD (now rows) (66 + k) 0 ≡ unitWord (targetIn w))
+        × ((j : ℕ) → j < 2 * n + 1 → getD (now rows) (2 * j) 0 < 2 ^ 48)
+        ) ⌝ }
+    ensures { λ r. ⌜ (
+        let sorted = sortedHeld (now (attributes .entry)) n in
+        (r ≤ from + 32 * (n + 1))
+        × ((begun : Body) → InWords (now (rows .entry)) (wholeBodies begun sorted) → laid (now (out .exit)) r ≡ laidRows (laid (now (out .entry)) from) (map rowOf (elementRecords (now (index .entry)) tag begun sorted (record { strand = strandIn w; schema = schema }))))
+        ) ⌝ }
+{
+    if !delivers(w) {
+        return from;
+    }
+    let open = Row {
+        unit: target_of(w),
+        kind: 0,
+        class: schema as u8,
+        at: tag,
+        len: 0,
+        uri_at: 0,
+        uri_len: 0,
+    };
+    let a = put_row_if(out, from, is_here(w), open);
+    let unit = rows[UNITS + k];
+    put_words(out, a, rows, 1, unit);
+    let b = a + 16;
+    let mode = mode_of(w);
+    copy_kept(index, mode, attributes, n, rows, unit, out, b)
+}
+
+// The element along all strands, each with the attributes that it keeps: its rows are laid once and copied.
+fn copy_elements(
+    index: &[u32; 256],
+    attributes: &[u32; HELD],
+    n: usize,
+    words: &[u32; 16],
+    schemas: &[u32; 16],
+    count: usize,
+    begun: Begun,
+    rows: &mut [u64; 82],
+    out: &mut [u8],
+    from: usize,
+) -> usize
+    requires { ⌜ (n ≤ 16) × (count ≤ 16) × ((k : ℕ) → k < count → getD (now schemas) k 0 < 256) × (from + count * (32 * (n + 1)) ≤ length (now out)) ⌝ }
+    ensures { λ r. ⌜ laid (now (out .exit)) r ≡ laidRows (laid (now (out .entry)) from) (map rowOf (gather (elementRecords (now (index .entry)) (begun .tag) (begunBody begun) (sortedHeld (now (attributes .entry)) n)) (entriesIn (now (words .entry)) (now (schemas .entry)) count))) ⌝ }
+{
+    lay_rows(begun, attributes, n, rows);
+    lay_units(words, count, rows);
+    let mut used = from;
+    let mut k = 0;
+    while k < count {
+        used = copy_element(
+            index,
+            attributes,
+            n,
+            rows,
+            k,
+            words[k],
+            schemas[k],
+            begun.tag,
+            out,
+            used,
+        );
+        k += 1;
+    }
+    used
+}
+
 // The element along all strands. Where there are no sections every attribute is kept.
 pub fn write_elements(
     index: &[u32; 256],
@@ -259,8 +372,22 @@ pub fn write_elements(
     requires { ⌜ (n ≤ 16) × (count ≤ 16) × ((k : ℕ) → k < count → getD (now schemas) k 0 < 256) × (m ≡ 0 → (k : ℕ) → k < n → getD (sectionsIn (now attributes)) k 0 ≡ 0) ⌝ }
     ensures { λ r. ⌜ laid (now (out .exit)) r ≡ laidRows (laid (now (out .entry)) from) (map rowOf (gather (elementRecords (now (index .entry)) (begun .tag) (begunBody begun) (sortedHeld (now (attributes .entry)) n)) (entriesIn (now (words .entry)) (now (schemas .entry)) count))) ⌝ }
 {
-    if (m == 0) & has_room(out.len(), from, count * (32 * (n + 1))) {
-        return write_copies(attributes, n, words, schemas, count, begun, rows, out, from);
+    if has_room(out.len(), from, count * (32 * (n + 1))) {
+        if m == 0 {
+            return write_copies(attributes, n, words, schemas, count, begun, rows, out, from);
+        }
+        return copy_elements(
+            index,
+            attributes,
+            n,
+            words,
+            schemas,
+            count,
+            begun,
+            rows,
+            out,
+            from,
+        );
     }
     write_each(
         index,
