@@ -15,8 +15,8 @@ use Rattle.laws.proofs.Gather.{gather-none, gather-more, gather-append}
 use Rattle.laws.proofs.Over.{over-none, over-set, over-over, set-over}
 use Rattle.strands.specs.Levels.{levelNames, levelSpaces, levelStrands}
 use Rattle.strands.proofs.LevelNumbers.{each-long}
+use Rattle.openings.proofs.LevelArrays.{each-row}
 use Rattle.dispatcher.specs.declared.Session.{Session}
-use Rattle.dispatcher.proofs.LevelArrays.{each-row}
 use Rattle.capi.specs.Layout.{flag, bytes4, bytes8, sessionBytes}
 use Rattle.capi.specs.Parts.{headBytes, levelWords}
 use Rattle.capi.proofs.Filled.{tabulate-more}

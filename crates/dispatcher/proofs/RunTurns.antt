@@ -16,6 +16,7 @@ use Rattle.table.specs.declared.Header.{Header}
 use Rattle.table.specs.Judge.{judged, Accepted}
 use Rattle.strands.specs.Levels.{levelNames, levelSpaces, levelStrands}
 use Rattle.strands.proofs.LevelNumbers.{each-long}
+use Rattle.openings.proofs.LevelArrays.{each-zero}
 use Rattle.dispatcher.specs.Sessions.{freshOf, headOf, sessionOf, sessionAt}
 use Rattle.dispatcher.specs.Coherence.{coherent}
 use Rattle.dispatcher.specs.Stepping.{planOf, planned, Step, answered, refusedStep, stepOf, advanceOf, handed, runBy, runOf, ran}
@@ -23,7 +24,6 @@ use Rattle.dispatcher.specs.Turns.{TurnReady, Sized, advancedAnswer, adv
 use Rattle.dispatcher.specs.declared.Session.{Session}
 use Rattle.dispatcher.specs.declared.Head.{Head}
 use Rattle.dispatcher.specs.declared.Advanced.{Advanced}
-use Rattle.dispatcher.proofs.LevelArrays.{each-zero}
 use Rattle.dispatcher.proofs.Sound.{Sound}
 use Rattle.dispatcher.proofs.SoundCoherent.{sound-coherent}
 use Rattle.dispatcher.proofs.CoherentSound.{coherent-sound}

@@ -1,5 +1,4 @@
 // The dispatcher: a session, its steps, one and many, and a run.
-mod arrays;
 mod checks;
 mod decisions;
 mod ends;
@@ -8,10 +7,10 @@ mod readings;
 mod starts;
 mod steps;
 
-use crate::arrays::join_levels;
-use crate::arrays::part_levels;
 use crate::steps::steps_from;
 use lexer::Tag;
+use openings::arrays::join_levels;
+use openings::arrays::part_levels;
 use reader::Found;
 use reader::Scope;
 use strands::LEVELS;

@@ -1,3 +1,4 @@
 pub mod Deciding
 pub mod Stores
 pub mod Openings
+pub mod LevelArrays

@@ -1,5 +1,6 @@
 // The levels of a session, from its arrays to one and back.
-use crate::Session;
+use crate::STRANDS;
+use reader::Scope;
 use strands::LEVELS;
 ghost use mathlib.Core.Path.{_≡_};
 ghost use Prim.Native.Nat.{_+_, _*_, _≤_};
@@ -21,9 +22,9 @@ fn copy(to: &mut [u32], at: usize, from: &[u32], first: usize, n: usize)
 
 // The levels' names, spaces and strands, laid into one array.
 pub fn join_levels(
-    names: &[u32; 3 * Session::DEPTH],
-    spaces: &[u32; 4 * Session::DEPTH],
-    strands: &[u32; Session::STRANDS * Session::DEPTH],
+    names: &[u32; 3 * Scope::DEPTH],
+    spaces: &[u32; 4 * Scope::DEPTH],
+    strands: &[u32; STRANDS * Scope::DEPTH],
     levels: &mut [u32; LEVELS],
 )
     ensures { λ _. ⌜ (
@@ -35,7 +36,7 @@ pub fn join_levels(
     let fours: &[u32] = spaces;
     let sixteens: &[u32] = strands;
     let mut k = 0;
-    while k < Session::DEPTH {
+    while k < Scope::DEPTH {
         copy(all, 24 * k, threes, 3 * k, 3);
         copy(all, 24 * k + 3, fours, 4 * k, 4);
         copy(all, 24 * k + 8, sixteens, 16 * k, 16);
@@ -51,7 +52,7 @@ pub fn part_levels(levels: &[u32; LEVELS], wide: usize, from: usize, numbers: &m
     let all: &[u32] = levels;
     let mut at = 0;
     let mut k = 0;
-    while k < Session::DEPTH {
+    while k < Scope::DEPTH {
         copy(numbers, at, all, 24 * k + from, wide);
         at += wide;
         k += 1;

@@ -1,10 +1,10 @@
 -- `arrays::join_levels` meets its contract: the first k levels are joined.
 use Prim.Native.Nat.{_-_}
 use native.Mathlib.Omega.{arith}
-use Rattle.dispatcher.proofs.LevelArrays.{Joining, join-first, join-turn, join-last}
+use Rattle.openings.proofs.LevelArrays.{Joining, join-first, join-turn, join-last}
 use borrow.Author.Needs.{needs}
-use Rattle.dispatcher.proofs.arrays.join_levels.Statement.{statement}
-use Rattle.dispatcher.proofs.arrays.join_levels.Tie as tie
+use Rattle.openings.proofs.arrays.join_levels.Statement.{statement}
+use Rattle.openings.proofs.arrays.join_levels.Tie as tie
 
 abbrev Inv-loop : tie.InvT-loop
 Inv-loop names spaces strands all₀ threes fours sixteens k₀ all k = Joining all₀ threes fours sixteens all k

@@ -1,10 +1,10 @@
 -- `arrays::part_levels` meets its contract: the numbers of the first k levels are laid down.
 use Prim.Native.Nat.{_-_}
 use native.Mathlib.Omega.{arith}
-use Rattle.dispatcher.proofs.LevelArrays.{Parting, part-fits, part-first, part-turn, part-last}
+use Rattle.openings.proofs.LevelArrays.{Parting, part-fits, part-first, part-turn, part-last}
 use borrow.Author.Needs.{needs}
-use Rattle.dispatcher.proofs.arrays.part_levels.Statement.{statement}
-use Rattle.dispatcher.proofs.arrays.part_levels.Tie as tie
+use Rattle.openings.proofs.arrays.part_levels.Statement.{statement}
+use Rattle.openings.proofs.arrays.part_levels.Tie as tie
 
 abbrev Inv-loop : tie.InvT-loop
 Inv-loop levels wide from numbers₀ all at₀ k₀ numbers at k = Parting all numbers₀ wide from numbers at k

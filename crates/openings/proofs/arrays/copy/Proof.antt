@@ -6,9 +6,9 @@ use borrow.Author.Needs.{needs}
 use lib.ListN.{length, take, drop}
 use Rattle.laws.specs.Over.{overwrite}
 use Rattle.laws.proofs.Over.{over-none}
-use Rattle.dispatcher.proofs.LevelArrays.{copied}
-use Rattle.dispatcher.proofs.arrays.copy.Statement.{statement}
-use Rattle.dispatcher.proofs.arrays.copy.Tie as tie
+use Rattle.openings.proofs.LevelArrays.{copied}
+use Rattle.openings.proofs.arrays.copy.Statement.{statement}
+use Rattle.openings.proofs.arrays.copy.Tie as tie
 
 abbrev Inv-loop : tie.InvT-loop
 Inv-loop to₀ at from first n j₀ to j = (j ≤ n) × (length to ≡ length to₀) × (to ≡ overwrite to₀ at (take j (drop first from)))
