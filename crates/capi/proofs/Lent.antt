@@ -13,7 +13,7 @@ use Rattle.reader.proofs.Tabulated.{tabulate-same}
 use Rattle.strands.specs.Levels.{ofEach, levelNames, levelSpaces, levelStrands}
 use Rattle.dispatcher.specs.Sessions.{headOf, sessionAt}
 use Rattle.dispatcher.specs.Stepping.{Step, handed}
-use Rattle.dispatcher.specs.Turns.{Sized, advancedAnswer, advancedIn}
+use Rattle.dispatcher.specs.Turns.{advancedAnswer, advancedIn}
 use Rattle.dispatcher.specs.declared.Session.{Session}
 use Rattle.dispatcher.specs.declared.Head.{Head}
 use Rattle.dispatcher.specs.declared.Advanced.{Advanced}
@@ -58,13 +58,6 @@ module _ (b : List ℕ) where
       ap levelSpaces e ∙ each-read 4 3 spaceAt (omega arith) (omega arith) (λ i. omega arith),
       ap levelStrands e ∙ each-read 16 8 strandAt (omega arith) (omega arith) (λ i. omega arith),
     )
-
-    pub arrays-sized : (bindings : List ℕ) → bindings ≡ tabulate (λ (i : ℕ). word4 b (bindingAt i)) 0 256 → Sized levels bindings
-    arrays-sized bindings f =
-        record {
-          levels-long = ap length e ∙ length-tabulate (λ (i : ℕ). word4 b (1064 + 4 * i)) 0 1536;
-          bindings-long = ap length f ∙ length-tabulate (λ (i : ℕ). word4 b (bindingAt i)) 0 256;
-        }
 
 pub lent-handed : (r : Advanced) (a : Answer) (levels bindings out : List ℕ) (x : Step) → a ≡ advancedAnswer r → advancedIn r levels bindings out ≡ x
     → handed (record { answer = a; session = sessionAt (r .head) levels bindings }) out ≡ x

@@ -11,7 +11,6 @@ ghost use Rattle.laws.specs.Gather.{gather};
 ghost use Rattle.laws.specs.Over.{overwrite};
 ghost use Rattle.strands.specs.Levels.{levelNames, levelSpaces, levelStrands};
 ghost use Rattle.dispatcher.specs.Sessions.{freshOf, headOf, sessionAt};
-ghost use Rattle.dispatcher.specs.Turns.{Sized};
 ghost use Rattle.capi.specs.Layout.{sessionSize, word4, word8, bytes4, bytes8, flag, bindingAt, strandAt, sessionIn, packs, holdsSession, sessionBytes};
 ghost use Rattle.capi.specs.Parts.{headBytes, levelWords};
 
@@ -66,8 +65,7 @@ pub(crate) fn arrays_in(b: &[u8], levels: &mut [u32; LEVELS], bindings: &mut [u3
     requires { ⌜ sessionSize ≤ length (now b) ⌝ }
     ensures { λ _. ⌜ (
         let z = sessionIn (now (b .entry)) in
-        Sized (now (levels .exit)) (now (bindings .exit))
-        × (levelNames (now (levels .exit)) ≡ z .scope .levels)
+        (levelNames (now (levels .exit)) ≡ z .scope .levels)
         × (now (bindings .exit) ≡ z .scope .bindings)
         × (levelSpaces (now (levels .exit)) ≡ z .spaces)
         × (levelStrands (now (levels .exit)) ≡ z .strands)

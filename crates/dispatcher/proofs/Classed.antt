@@ -28,7 +28,8 @@ use Rattle.reader.specs.Scope.{opensIn, opensOf}
 use Rattle.reader.specs.Known.{keysIn, KeysAt, Within}
 use Rattle.attributes.specs.Known.{classesIn, ClassesAt}
 use Rattle.attributes.proofs.Known.{classes-long, classes-laid}
-use Rattle.dispatcher.specs.Sessions.{sessionOf}
+use Rattle.strands.specs.Levels.{levelNames, levelSpaces, levelStrands}
+use Rattle.dispatcher.specs.Sessions.{sessionAt, sessionOf}
 use Rattle.dispatcher.specs.Stepping.{Plan, Step, planBy, planned, startPlan}
 use Rattle.dispatcher.specs.Turns.{TurnReady, LoopReady, Beside, Met, startOf, readPlan, ReadMet, ReadAs, stopTurn, stepBy}
 use Rattle.dispatcher.specs.declared.Session.{Session}
@@ -118,11 +119,11 @@ refused-start-turned table s head levels bindings spaces strands at x own attrs 
     (stop-step n p head levels bindings spaces strands out (subst (ReadMet s z own attrs codes known) q (h .met)) ∙ ap (λ (y : Plan). planned y z out) (sym (h .plan-is ∙ ap (readPlan (decode table) s z own attrs codes) q)))
 
 -- ---- the start of step, advance and run
-pub from-loop : (table : List ℕ) (header : Header) (index s : List ℕ) (head : Head) (levels bindings spaces strands : List ℕ) → TurnReady table header index s (sessionOf head levels bindings spaces strands) → length bindings ≡ 256
+pub from-loop : (table : List ℕ) (header : Header) (index s : List ℕ) (head : Head) (levels bindings : List ℕ) → TurnReady table header index s (sessionAt head levels bindings) → length bindings ≡ 256
     → (known known′ : List ℕ) → known ≡ overwrite (replicate 160 0) 0 (keysIn s bindings (head .bound)) → known′ ≡ overwrite known (80 + 0) (classesIn (tableOf table header) s bindings (head .bound))
-    → LoopReady table index s known′ (sessionOf head levels bindings spaces strands)
-from-loop table header index s head levels bindings spaces strands r long known known′ p q =
-    let n = few-bound table header index s head levels bindings spaces strands r in
+    → LoopReady table index s known′ (sessionAt head levels bindings)
+from-loop table header index s head levels bindings r long known known′ p q =
+    let n = few-bound table header index s head (levelNames levels) bindings (levelSpaces levels) (levelStrands levels) r in
     let l₀ : length {A = ℕ} (replicate 160 0) ≡ 160 = length-replicate {A = ℕ} 160 0 in
     let k = keys-many s bindings (head .bound) in
     let l₁ : length known ≡ 160 = ap length p ∙ length-over (replicate 160 0) 0 (keysIn s bindings (head .bound)) (omega arith) ∙ l₀ in

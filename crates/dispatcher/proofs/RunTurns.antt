@@ -20,7 +20,7 @@ use Rattle.openings.proofs.LevelArrays.{each-zero}
 use Rattle.dispatcher.specs.Sessions.{freshOf, headOf, sessionOf, sessionAt}
 use Rattle.dispatcher.specs.Coherence.{coherent}
 use Rattle.dispatcher.specs.Stepping.{planOf, planned, Step, answered, refusedStep, stepOf, advanceOf, handed, runBy, runOf, ran}
-use Rattle.dispatcher.specs.Turns.{TurnReady, Sized, advancedAnswer, advancedIn}
+use Rattle.dispatcher.specs.Turns.{TurnReady, LoopReady, advancedAnswer, advancedIn}
 use Rattle.dispatcher.specs.declared.Session.{Session}
 use Rattle.dispatcher.specs.declared.Head.{Head}
 use Rattle.dispatcher.specs.declared.Advanced.{Advanced}
@@ -135,10 +135,9 @@ module _ (table s : List ℕ) (z₀ : Session) (out₀ : List ℕ) (most : ℕ) 
   going-turned = record { room = turn-room; stops = turn-stops; goes = turn-goes }
 
 -- ---- before the first turn
-pub sized-sound : (table : List ℕ) (header : Header) (index s : List ℕ) (head : Head) (levels bindings : List ℕ)
-    → TurnReady table header index s (sessionAt head levels bindings) → Sized levels bindings → Sound (decode table) s (sessionAt head levels bindings)
-sized-sound table header index s head levels bindings r l =
-    coherent-sound (decode table) s (sessionAt head levels bindings) (each-long 3 0 levels) (l .bindings-long) (each-long 4 3 levels) (each-long 16 8 levels) (r .coherent′)
+pub loop-sound : (table index s known : List ℕ) (head : Head) (levels bindings : List ℕ) → LoopReady table index s known (sessionAt head levels bindings) → Sound (decode table) s (sessionAt head levels bindings)
+loop-sound table index s known head levels bindings r =
+    coherent-sound (decode table) s (sessionAt head levels bindings) (each-long 3 0 levels) (r .beside .bindings-long) (each-long 4 3 levels) (each-long 16 8 levels) (r .ready .coherent′)
 
 -- ---- a first step that is refused
 -- any advance by some step is it

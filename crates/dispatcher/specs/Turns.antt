@@ -140,11 +140,6 @@ pub record LoopReady (table index s known : List ℕ) (z : Session) : Type 0 whe
   pub ready : TurnReady table (headerOf table) index s z
   pub beside : Beside table s known z
 
--- the arrays have the lengths of their types
-pub record Sized (levels bindings : List ℕ) : Type 0 where
-  pub levels-long : length levels ≡ 1536
-  pub bindings-long : length bindings ≡ 256
-
 -- ---- a start
 -- the start that a tag makes, with its own declarations, the open ones and the codes of its attributes as the arrays have them
 abbrev pub startOf : List ℕ → List ℕ → List ℕ → List ℕ → List ℕ → ℕ → Tag → Found → Start

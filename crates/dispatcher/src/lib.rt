@@ -22,7 +22,7 @@ ghost use Prim.Native.Nat.{_+_, _*_, _≤_};
 ghost use lib.ListN.{length};
 ghost use Rattle.dispatcher.specs.Sessions.{freshOf, headOf, sessionAt, sessionOf};
 ghost use Rattle.dispatcher.specs.Stepping.{answered, stepOf, advanceOf, handed, runOf, ran};
-ghost use Rattle.dispatcher.specs.Turns.{Sized, advancedAnswer, advancedIn};
+ghost use Rattle.dispatcher.specs.Turns.{advancedAnswer, advancedIn};
 
 // Where a run over a scene is. A caller may hand in any: number 20 judges it.
 pub struct Session {
@@ -225,7 +225,6 @@ pub fn advance_in(
     most: usize,
     out: &mut [u8],
 ) -> Advanced
-    requires { ⌜ Sized (now levels) (now bindings) ⌝ }
     ensures { λ r. ⌜ (
         let z = sessionAt head (now (levels .entry)) (now (bindings .entry)) in
         advancedIn r (now (levels .exit)) (now (bindings .exit)) (now (out .exit))

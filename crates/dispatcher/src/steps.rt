@@ -29,7 +29,7 @@ ghost use Rattle.table.specs.Judge.{Accepted};
 ghost use Rattle.lexer.specs.Stops.{numberOf, stopPlace};
 ghost use Rattle.dispatcher.specs.Sessions.{sessionAt};
 ghost use Rattle.dispatcher.specs.Stepping.{planOf, planned, advanceOf};
-ghost use Rattle.dispatcher.specs.Turns.{LoopReady, Beside, Sized, stopTurn, stepIn, advancedIn};
+ghost use Rattle.dispatcher.specs.Turns.{LoopReady, Beside, stopTurn, stepIn, advancedIn};
 
 // A refusal: the session's numbers stay.
 pub fn stop(number: u8, place: usize, head: Head) -> Turn
@@ -110,7 +110,7 @@ fn judged_steps(
     most: usize,
     out: &mut [u8],
 ) -> Advanced
-    requires { ⌜ LoopReady (now table) (now index) (now scene) (now known) (sessionAt from (now levels) (now bindings)) × Sized (now levels) (now bindings) ⌝ }
+    requires { ⌜ LoopReady (now table) (now index) (now scene) (now known) (sessionAt from (now levels) (now bindings)) ⌝ }
     ensures { λ r. ⌜ (
         let z = sessionAt from (now (levels .entry)) (now (bindings .entry)) in
         advancedIn r (now (levels .exit)) (now (bindings .exit)) (now (out .exit))
@@ -176,7 +176,7 @@ pub fn steps_from(
     most: usize,
     out: &mut [u8],
 ) -> Advanced
-    requires { ⌜ (Accepted (now table) ≡ true) × (header ≡ headerOf (now table)) × (length (now scene) ≤ 16777215) × (1 ≤ most) × Sized (now levels) (now bindings) ⌝ }
+    requires { ⌜ (Accepted (now table) ≡ true) × (header ≡ headerOf (now table)) × (length (now scene) ≤ 16777215) × (1 ≤ most) ⌝ }
     ensures { λ r. ⌜ (
         let z = sessionAt from (now (levels .entry)) (now (bindings .entry)) in
         advancedIn r (now (levels .exit)) (now (bindings .exit)) (now (out .exit))
@@ -194,8 +194,9 @@ pub fn steps_from(
     }
     let index = load(table, header);
     let mut known: [u64; 2 * Scope::KNOWN] = [0; 2 * Scope::KNOWN];
-    put_keys(scene, bindings, from.bound, 0, &mut known);
-    put_classes(table, header, scene, bindings, from.bound, 0, &mut known);
+    let opened: &[u32] = bindings;
+    put_keys(scene, opened, from.bound, 0, &mut known);
+    put_classes(table, header, scene, opened, from.bound, 0, &mut known);
     judged_steps(
         table,
         &index,

@@ -86,10 +86,9 @@ module _ (xs names spaces strands : List ℕ) where
               ∙ laid-on (levelStrands xs) strands (16 * k) 16 (16 * (k + 1)) (omega arith) (omega arith);
         }
 
-    pub join-last : (l : List ℕ) (k : ℕ) → Joining l k → 64 ≤ k → (length l ≡ 1536) × (levelNames l ≡ names) × (levelSpaces l ≡ spaces) × (levelStrands l ≡ strands)
+    pub join-last : (l : List ℕ) (k : ℕ) → Joining l k → 64 ≤ k → (levelNames l ≡ names) × (levelSpaces l ≡ spaces) × (levelStrands l ≡ strands)
     join-last l k j h =
         let e : k ≡ 64 = omega (arith, j .few) in (
-          j .long,
           j .names-are ∙ ap (λ (x : ℕ). overwrite (levelNames xs) 0 (take (3 * x) names)) e ∙ laid-all (levelNames xs) names 192 (each-long 3 0 xs) n,
           j .spaces-are ∙ ap (λ (x : ℕ). overwrite (levelSpaces xs) 0 (take (4 * x) spaces)) e ∙ laid-all (levelSpaces xs) spaces 256 (each-long 4 3 xs) s,
           j .strands-are ∙ ap (λ (x : ℕ). overwrite (levelStrands xs) 0 (take (16 * x) strands)) e ∙ laid-all (levelStrands xs) strands 1024 (each-long 16 8 xs) w,

@@ -28,7 +28,7 @@ pub fn join_levels(
     levels: &mut [u32; LEVELS],
 )
     ensures { λ _. ⌜ (
-        (length (now (levels .exit)) ≡ 1536) × (levelNames (now (levels .exit)) ≡ now (names .entry)) × (levelSpaces (now (levels .exit)) ≡ now (spaces .entry)) × (levelStrands (now (levels .exit)) ≡ now (strands .entry))
+        (levelNames (now (levels .exit)) ≡ now (names .entry)) × (levelSpaces (now (levels .exit)) ≡ now (spaces .entry)) × (levelStrands (now (levels .exit)) ≡ now (strands .entry))
         ) ⌝ }
 {
     let all: &mut [u32] = levels;

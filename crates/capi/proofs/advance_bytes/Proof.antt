@@ -31,7 +31,7 @@ head-in-requires : tie.Need-head-in-requires
 head-in-requires c κs = search needs
 
 advance-in-requires : tie.Need-advance-in-requires
-advance-in-requires c κs = c .before .before .before .before .before .arrays-in .ensures .0
+advance-in-requires c κs = search needs
 
 answer-of-requires : tie.Need-answer-of-requires
 answer-of-requires c κs = search needs
@@ -53,7 +53,7 @@ returns-2 c =
     let before = ar .last .1 in
     let after = s .last .1 .1 .1 in
     let z = sessionAt (hd .result) (before .0) (before .1 .0) in
-    let joined = parts-joined (sessionIn (a .session .now)) (hd .result) (before .0) (before .1 .0) (hd .ensures) (ar .ensures .1) (ar .ensures .2) (ar .ensures .3) (ar .ensures .4) in
+    let joined = parts-joined (sessionIn (a .session .now)) (hd .result) (before .0) (before .1 .0) (hd .ensures) (ar .ensures .0) (ar .ensures .1) (ar .ensures .2) (ar .ensures .3) in
     let out′ = after .1 .1 .1 .0 in
     let gone = lent-handed (s .result) (w .result) (after .0) (after .1 .0) out′ (advanceOf (a .most) (a .table .now) (a .scene .now) z (a .out .now)) (w .ensures) (s .ensures) in
     let r : Stepped = record { answer = w .result; session = sessionAt (s .result .head) (after .0) (after .1 .0) } in
@@ -79,7 +79,7 @@ returns-3 c =
     let before = ar .last .1 in
     let after = s .last .1 .1 .1 in
     let z = sessionAt (hd .result) (before .0) (before .1 .0) in
-    let joined = parts-joined (sessionIn (a .session .now)) (hd .result) (before .0) (before .1 .0) (hd .ensures) (ar .ensures .1) (ar .ensures .2) (ar .ensures .3) (ar .ensures .4) in
+    let joined = parts-joined (sessionIn (a .session .now)) (hd .result) (before .0) (before .1 .0) (hd .ensures) (ar .ensures .0) (ar .ensures .1) (ar .ensures .2) (ar .ensures .3) in
     let out′ = after .1 .1 .1 .0 in
     let gone = lent-handed (s .result) (w .result) (after .0) (after .1 .0) out′ (advanceOf (a .most) (a .table .now) (a .scene .now) z (a .out .now)) (w .ensures) (s .ensures) in
     let r : Stepped = record { answer = w .result; session = sessionAt (s .result .head) (after .0) (after .1 .0) } in

@@ -51,7 +51,7 @@ steps-from-requires : tie.Need-steps-from-requires
 steps-from-requires c κs =
     let a = c .before .before .before .before .before .before .before .before .before .before .before .before .args in
     let j = c .before .before .before .before .before .before .before .judge in
-    (then-accepted (a .table .now) (a .scene .now) (j .result) (j .ensures) (c .before .before .before .before .before .if2 .left), c .before .before .before .header-of .ensures, c .before .before .before .before .if3 .left, omega (arith, c .before .before .before .before .before .before .before .before .if1 .left), c .before .before .before .before .before .before .before .before .before .before .before .before .pre)
+    (then-accepted (a .table .now) (a .scene .now) (j .result) (j .ensures) (c .before .before .before .before .before .if2 .left), c .before .before .before .header-of .ensures, c .before .before .before .before .if3 .left, omega (arith, c .before .before .before .before .before .before .before .before .if1 .left))
 
 same-length : tie.Need-same-length
 same-length c = search needs

@@ -1,7 +1,7 @@
 -- `capi::layout::arrays_in` meets its contract.
 use borrow.Author.Needs.{needs}
 use Rattle.capi.specs.Layout.{sessionIn}
-use Rattle.capi.proofs.Lent.{levels-read, arrays-sized}
+use Rattle.capi.proofs.Lent.{levels-read}
 use Rattle.capi.proofs.layout.arrays_in.Statement.{statement}
 use Rattle.capi.proofs.layout.arrays_in.Tie as tie
 
@@ -18,7 +18,7 @@ returns c =
     let e = c .before .before .levels-in .ensures in
     let f = c .bindings-in .ensures in
     let l = levels-read b _ e in
-    (arrays-sized b _ e _ f, l .0, f, l .1, l .2)
+    (l .0, f, l .1, l .2)
 
 pub arrays-in-spec : {M : Type 1} → statement M
 arrays-in-spec = tie.close (tie.spec levels-in-requires bindings-in-requires returns)

@@ -3,12 +3,12 @@ use Prim.Native.Nat.{_-_}
 use native.Mathlib.Omega.{arith}
 use lib.ListN.{length, take, drop}
 use Rattle.laws.proofs.Over.{part-whole, part-back}
-use Rattle.table.specs.Table.{decode, headerOf}
+use Rattle.table.specs.Table.{decode}
 use Rattle.dispatcher.specs.Sessions.{sessionAt}
 use Rattle.dispatcher.specs.Stepping.{Step}
 use Rattle.dispatcher.specs.Turns.{Beside, stepIn}
 use Rattle.dispatcher.proofs.SoundCoherent.{sound-coherent}
-use Rattle.dispatcher.proofs.RunTurns.{Going, Turned, sized-sound, going-first, going-turned, going-last}
+use Rattle.dispatcher.proofs.RunTurns.{Going, Turned, loop-sound, going-first, going-turned, going-last}
 use borrow.Author.Needs.{needs}
 use Rattle.dispatcher.proofs.steps.judged_steps.Statement.{statement}
 use Rattle.dispatcher.proofs.steps.judged_steps.Tie as tie
@@ -27,7 +27,7 @@ loop-holds c =
     let a = c .before .before .before .args in
     let p = c .before .before .before .pre in
     let z = sessionAt (a .from) (a .levels .now) (a .bindings .now) in
-    (going-first (a .table .now) (a .scene .now) z (a .out .now) (a .most) (sized-sound (a .table .now) (headerOf (a .table .now)) (a .index .now) (a .scene .now) (a .from) (a .levels .now) (a .bindings .now) (p .0 .ready) (p .1)), p .0 .beside)
+    (going-first (a .table .now) (a .scene .now) z (a .out .now) (a .most) (loop-sound (a .table .now) (a .index .now) (a .scene .now) (a .known .now) (a .from) (a .levels .now) (a .bindings .now) p), p .beside)
 
 sub-judged-step : tie.Need-sub-judged-step Inv-loop μ-loop
 sub-judged-step c = search needs
@@ -42,7 +42,7 @@ judged-step-requires : tie.Need-judged-step-requires Inv-loop μ-loop
 judged-step-requires c κs =
     let a = c .before .before .before .before .before .before .before .before .before .before .before .before .before .args in
     let l = c .before .before .before .before .before .before .before .before .before .loop in
-    let p = c .before .before .before .before .before .before .before .before .before .before .before .before .before .pre .0 .ready in
+    let p = c .before .before .before .before .before .before .before .before .before .before .before .before .before .pre .ready in
     record {
       ready =
           record {
@@ -68,7 +68,7 @@ turned : (c : tie.After-judged-step Inv-loop μ-loop) → (
 turned c =
     let a = c .before .before .before .before .before .before .before .before .before .before .before .before .before .before .args in
     let l = c .before .before .before .before .before .before .before .before .before .before .loop in
-    let p = c .before .before .before .before .before .before .before .before .before .before .before .before .before .before .pre .0 .ready in
+    let p = c .before .before .before .before .before .before .before .before .before .before .before .before .before .before .pre .ready in
     let z₀ = sessionAt (a .from) (a .levels .now) (a .bindings .now) in
     let z = sessionAt (l .head) (l .levels) (l .bindings) in
     going-turned (a .table .now) (a .scene .now) z₀ (a .out .now) (a .most) z (l .out) (l .used) (l .events) (l .records) (l .inv .0) (c .before .before .before .before .before .before .before .before .before .loop-test .taken) (p .accepted) (p .short)

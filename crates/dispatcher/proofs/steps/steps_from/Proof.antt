@@ -1,7 +1,7 @@
 -- `steps::steps_from` meets its contract: 20, or the steps of a coherent session.
 use native.Mathlib.Omega.{arith}
 use Rattle.strands.specs.Levels.{levelNames, levelSpaces, levelStrands}
-use Rattle.dispatcher.specs.Sessions.{sessionOf}
+use Rattle.dispatcher.specs.Sessions.{sessionAt}
 use Rattle.dispatcher.proofs.RunTurns.{from-refused, from-ready}
 use Rattle.dispatcher.proofs.Classed.{from-loop}
 use Rattle.dispatcher.proofs.StartTurns.{few-bound}
@@ -16,7 +16,7 @@ returns : tie.Need-returns
 returns c =
     let a = c .before .before .before .before .before .before .before .args in
     let p = c .before .before .before .before .before .before .before .pre in
-    let z = sessionOf (a .from) (levelNames (a .levels .now)) (a .bindings .now) (levelSpaces (a .levels .now)) (levelStrands (a .levels .now)) in
+    let z = sessionAt (a .from) (a .levels .now) (a .bindings .now) in
     from-refused (a .table .now) (a .scene .now) (a .header) z (p .1) (p .0) (p .2) (c .before .coherent .result) (c .before .coherent .ensures) (a .most) (a .out .now) (p .3) (c .if1 .taken)
 
 load-requires : tie.Need-load-requires
@@ -26,25 +26,25 @@ put-keys-requires : tie.Need-put-keys-requires
 put-keys-requires c κs =
     let a = c .before .before .before .before .before .before .before .before .before .before .before .args in
     let p = c .before .before .before .before .before .before .before .before .before .before .before .pre in
-    let z = sessionOf (a .from) (levelNames (a .levels .now)) (a .bindings .now) (levelSpaces (a .levels .now)) (levelStrands (a .levels .now)) in
+    let z = sessionAt (a .from) (a .levels .now) (a .bindings .now) in
     let r = from-ready (a .table .now) (a .scene .now) (a .header) z (p .1) (p .0) (p .2) (c .before .before .before .before .before .coherent .result) (c .before .before .before .before .before .coherent .ensures) (c .before .before .before .load .result) (c .before .before .before .before .if1 .left) (c .before .before .before .load .ensures) in
     omega (arith, few-bound (a .table .now) (a .header) (c .before .before .before .load .result) (a .scene .now) (a .from) (levelNames (a .levels .now)) (a .bindings .now) (levelSpaces (a .levels .now)) (levelStrands (a .levels .now)) r)
 
 put-classes-requires : tie.Need-put-classes-requires
 put-classes-requires c κs =
-    let a = c .before .before .before .before .before .before .before .before .before .before .before .before .before .before .before .args in
-    let p = c .before .before .before .before .before .before .before .before .before .before .before .before .before .before .before .pre in
-    let z = sessionOf (a .from) (levelNames (a .levels .now)) (a .bindings .now) (levelSpaces (a .levels .now)) (levelStrands (a .levels .now)) in
-    let r = from-ready (a .table .now) (a .scene .now) (a .header) z (p .1) (p .0) (p .2) (c .before .before .before .before .before .before .before .before .before .coherent .result) (c .before .before .before .before .before .before .before .before .before .coherent .ensures) (c .before .before .before .before .before .before .before .load .result) (c .before .before .before .before .before .before .before .before .if1 .left) (c .before .before .before .before .before .before .before .load .ensures) in
-    omega (arith, few-bound (a .table .now) (a .header) (c .before .before .before .before .before .before .before .load .result) (a .scene .now) (a .from) (levelNames (a .levels .now)) (a .bindings .now) (levelSpaces (a .levels .now)) (levelStrands (a .levels .now)) r)
+    let a = c .before .before .before .before .before .before .before .before .before .before .before .before .before .args in
+    let p = c .before .before .before .before .before .before .before .before .before .before .before .before .before .pre in
+    let z = sessionAt (a .from) (a .levels .now) (a .bindings .now) in
+    let r = from-ready (a .table .now) (a .scene .now) (a .header) z (p .1) (p .0) (p .2) (c .before .before .before .before .before .before .before .coherent .result) (c .before .before .before .before .before .before .before .coherent .ensures) (c .before .before .before .before .before .load .result) (c .before .before .before .before .before .before .if1 .left) (c .before .before .before .before .before .load .ensures) in
+    omega (arith, few-bound (a .table .now) (a .header) (c .before .before .before .before .before .load .result) (a .scene .now) (a .from) (levelNames (a .levels .now)) (a .bindings .now) (levelSpaces (a .levels .now)) (levelStrands (a .levels .now)) r)
 
 judged-steps-requires : tie.Need-judged-steps-requires
 judged-steps-requires c κs =
-    let a = c .before .before .before .before .before .before .before .before .before .before .before .before .before .before .before .before .before .before .before .before .before .args in
-    let p = c .before .before .before .before .before .before .before .before .before .before .before .before .before .before .before .before .before .before .before .before .before .pre in
-    let z = sessionOf (a .from) (levelNames (a .levels .now)) (a .bindings .now) (levelSpaces (a .levels .now)) (levelStrands (a .levels .now)) in
-    let r = from-ready (a .table .now) (a .scene .now) (a .header) z (p .1) (p .0) (p .2) (c .before .before .before .before .before .before .before .before .before .before .before .before .before .before .before .coherent .result) (c .before .before .before .before .before .before .before .before .before .before .before .before .before .before .before .coherent .ensures) (c .before .before .before .before .before .before .before .before .before .before .before .before .before .load .result) (c .before .before .before .before .before .before .before .before .before .before .before .before .before .before .if1 .left) (c .before .before .before .before .before .before .before .before .before .before .before .before .before .load .ensures) in
-    (from-loop (a .table .now) (a .header) (c .before .before .before .before .before .before .before .before .before .before .before .before .before .load .result) (a .scene .now) (a .from) (levelNames (a .levels .now)) (a .bindings .now) (levelSpaces (a .levels .now)) (levelStrands (a .levels .now)) r (p .4 .bindings-long) _ _ (c .before .before .before .before .before .before .before .before .before .put-keys .ensures) (c .before .before .before .before .before .put-classes .ensures), p .4)
+    let a = c .before .before .before .before .before .before .before .before .before .before .before .before .before .before .before .before .before .before .before .args in
+    let p = c .before .before .before .before .before .before .before .before .before .before .before .before .before .before .before .before .before .before .before .pre in
+    let z = sessionAt (a .from) (a .levels .now) (a .bindings .now) in
+    let r = from-ready (a .table .now) (a .scene .now) (a .header) z (p .1) (p .0) (p .2) (c .before .before .before .before .before .before .before .before .before .before .before .before .before .coherent .result) (c .before .before .before .before .before .before .before .before .before .before .before .before .before .coherent .ensures) (c .before .before .before .before .before .before .before .before .before .before .before .load .result) (c .before .before .before .before .before .before .before .before .before .before .before .before .if1 .left) (c .before .before .before .before .before .before .before .before .before .before .before .load .ensures) in
+    from-loop (a .table .now) (a .header) (c .before .before .before .before .before .before .before .before .before .before .before .load .result) (a .scene .now) (a .from) (a .levels .now) (a .bindings .now) r (c .before .before .before .before .before .before .before .before .before .opened2 .given .0) _ _ (c .before .before .before .before .before .before .before .put-keys .ensures) (c .before .before .before .before .before .put-classes .ensures)
 
 same-length : tie.Need-same-length
 same-length c = search needs
