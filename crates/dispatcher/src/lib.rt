@@ -20,6 +20,7 @@ use table::words::header_of;
 ghost use mathlib.Core.Path.{_≡_};
 ghost use Prim.Native.Nat.{_+_, _*_, _≤_};
 ghost use lib.ListN.{length};
+ghost use Rattle.strands.specs.Levels.{levelFree};
 ghost use Rattle.dispatcher.specs.Sessions.{freshOf, headOf, sessionAt, sessionOf};
 ghost use Rattle.dispatcher.specs.Stepping.{answered, stepOf, advanceOf, handed, runOf, ran};
 ghost use Rattle.dispatcher.specs.Turns.{advancedAnswer, advancedIn};
@@ -230,6 +231,7 @@ pub fn advance_in(
         advancedIn r (now (levels .exit)) (now (bindings .exit)) (now (out .exit))
         ≡ advanceOf most (now (table .entry)) (now (scene .entry)) z (now (out .entry))
         ) ⌝ }
+    ensures { λ _. ⌜ levelFree (now (levels .exit)) ≡ levelFree (now (levels .entry)) ⌝ }
 {
     if most == 0 {
         return none_taken(0, head.place, head);

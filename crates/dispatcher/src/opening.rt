@@ -20,6 +20,7 @@ ghost use Rattle.reader.specs.declared.Binding.{Binding};
 ghost use Rattle.reader.specs.Stored.{narrowed, storedSpace};
 ghost use Rattle.model.specs.Elements as elements;
 ghost use Rattle.attributes.specs.Attributes.{placingOf, sectionsIn, attributesIn};
+ghost use Rattle.strands.specs.Levels.{levelFree};
 ghost use Rattle.dispatcher.specs.Sessions.{sessionAt};
 ghost use Rattle.dispatcher.specs.Stepping.{startPlan, planned};
 ghost use Rattle.openings.specs.Openings.{Openable};
@@ -68,6 +69,7 @@ pub fn open_level(
         → stepIn r (now (levels .exit)) (now (bindings .exit)) (now (out .exit))
         ≡ planned (startPlan t s z e ds (started .tag .next)) z (now (out .entry))
         )) ⌝ }
+    ensures { λ _. ⌜ levelFree (now (levels .exit)) ≡ levelFree (now (levels .entry)) ⌝ }
 {
     let at = started.at;
     let tag = started.tag;

@@ -23,6 +23,7 @@ ghost use Rattle.lexer.specs.Tags.{tagAt};
 ghost use Rattle.reader.specs.Namespaces.{declarationsOf};
 ghost use Rattle.reader.specs.Scope.{opensOf};
 ghost use Rattle.reader.specs.Events.{startRead};
+ghost use Rattle.strands.specs.Levels.{levelFree};
 ghost use Rattle.dispatcher.specs.Sessions.{sessionAt};
 ghost use Rattle.dispatcher.specs.Stepping.{startPlan, planBy, planned};
 ghost use Rattle.dispatcher.specs.Turns.{LoopReady, Beside, Met, startOf, stepIn};
@@ -53,6 +54,7 @@ fn element_turn(
         (stepIn r (now (levels .exit)) (now (bindings .exit)) (now (out .exit)) ≡ planned (startPlan (decode (now (table .entry))) s z e ds (started .tag .next)) z (now (out .entry)))
         × Beside (now (table .entry)) s (now (known .exit)) (sessionAt (r .head) (now (levels .exit)) (now (bindings .exit)))
         ) ⌝ }
+    ensures { λ _. ⌜ levelFree (now (levels .exit)) ≡ levelFree (now (levels .entry)) ⌝ }
 {
     let owned = started.owned;
     if Session::DEPTH <= head.depth {
@@ -130,6 +132,7 @@ pub fn start_turn(
         (stepIn r (now (levels .exit)) (now (bindings .exit)) (now (out .exit)) ≡ planned (planBy (decode (now (table .entry))) s z (startRead s at (opensOf (z .scope)) (tagAt s (at + 1)) (tagAt s (at + 1) .answer))) z (now (out .entry)))
         × Beside (now (table .entry)) s (now (known .exit)) (sessionAt (r .head) (now (levels .exit)) (now (bindings .exit)))
         ) ⌝ }
+    ensures { λ _. ⌜ levelFree (now (levels .exit)) ≡ levelFree (now (levels .entry)) ⌝ }
 {
     let mut codes: [usize; 16] = [0; 16];
     match read_start(scene, at, head, bindings, known, attrs, own, &mut codes) {

@@ -27,6 +27,7 @@ ghost use lib.ListN.{length};
 ghost use Rattle.table.specs.Table.{decode, headerOf};
 ghost use Rattle.table.specs.Judge.{Accepted};
 ghost use Rattle.lexer.specs.Stops.{numberOf, stopPlace};
+ghost use Rattle.strands.specs.Levels.{levelFree};
 ghost use Rattle.dispatcher.specs.Sessions.{sessionAt};
 ghost use Rattle.dispatcher.specs.Stepping.{planOf, planned, advanceOf};
 ghost use Rattle.dispatcher.specs.Turns.{LoopReady, Beside, stopTurn, stepIn, advancedIn};
@@ -71,6 +72,7 @@ fn judged_step(
         (stepIn r (now (levels .exit)) (now (bindings .exit)) (now (out .exit)) ≡ planned (planOf (decode (now (table .entry))) (now (scene .entry)) z) z (now (out .entry)))
         × Beside (now (table .entry)) (now (scene .entry)) (now (known .exit)) (sessionAt (r .head) (now (levels .exit)) (now (bindings .exit)))
         ) ⌝ }
+    ensures { λ _. ⌜ levelFree (now (levels .exit)) ≡ levelFree (now (levels .entry)) ⌝ }
 {
     if head.awaited {
         return awaited_turn(scene, head, levels, out);
@@ -116,6 +118,7 @@ fn judged_steps(
         advancedIn r (now (levels .exit)) (now (bindings .exit)) (now (out .exit))
         ≡ advanceOf most (now (table .entry)) (now (scene .entry)) z (now (out .entry))
         ) ⌝ }
+    ensures { λ _. ⌜ levelFree (now (levels .exit)) ≡ levelFree (now (levels .entry)) ⌝ }
 {
     let mut attrs: [usize; 80] = [0; 80];
     let mut own: [u32; 64] = [0; 64];
@@ -182,6 +185,7 @@ pub fn steps_from(
         advancedIn r (now (levels .exit)) (now (bindings .exit)) (now (out .exit))
         ≡ advanceOf most (now (table .entry)) (now (scene .entry)) z (now (out .entry))
         ) ⌝ }
+    ensures { λ _. ⌜ levelFree (now (levels .exit)) ≡ levelFree (now (levels .entry)) ⌝ }
 {
     if !coherent(table, header, scene, from, levels, bindings) {
         return Advanced {

@@ -5,7 +5,7 @@
 --     part-first, part-turn, part-last   the loop that parts
 --     each-zero                          of an array of zeros
 use Prim.Native.Nat.{ℕ, _+_, _*_, _/_, _%_, _≤_, _<_}
-use mathlib.Core.Path.{_≡_, sym, ap, subst, _∙_}
+use mathlib.Core.Path.{_≡_, refl, sym, ap, subst, _∙_}
 use mathlib.Core.List.{List, append-nil}
 use native.Mathlib.Nat.{zero-add, mul-comm, mul-suc}
 use native.Mathlib.Numerals.{add-one}
@@ -18,9 +18,9 @@ use Rattle.laws.specs.Over.{overwrite}
 use Rattle.laws.specs.Reading.{le-or-lt}
 use Rattle.laws.proofs.Lists.{length-tabulate, getD-tabulate}
 use Rattle.laws.proofs.Over.{over-none, over-over, over-copy, length-over}
-use Rattle.strands.specs.Levels.{ofEach, levelNames, levelSpaces, levelStrands}
+use Rattle.strands.specs.Levels.{ofEach, levelNames, levelSpaces, levelStrands, levelFree}
 use Rattle.strands.proofs.LevelNumbers.{next-row, each-long, each-at}
-use Rattle.openings.proofs.Openings.{pushed-names, pushed-spaces, pushed-strands}
+use Rattle.openings.proofs.Openings.{pushed-names, pushed-spaces, pushed-strands, pushed-free}
 
 -- ---- numbers copied
 pub copied : (xs l s : List ℕ) (i f j : ℕ) → l ≡ overwrite xs i (take j (drop f s)) → f + j < length s → i + j < length xs → set l (i + j) (getD s (f + j) 0) ≡ overwrite xs i (take (j + 1) (drop f s))
@@ -54,9 +54,10 @@ module _ (xs names spaces strands : List ℕ) where
     pub names-are : levelNames l ≡ overwrite (levelNames xs) 0 (take (3 * k) names)
     pub spaces-are : levelSpaces l ≡ overwrite (levelSpaces xs) 0 (take (4 * k) spaces)
     pub strands-are : levelStrands l ≡ overwrite (levelStrands xs) 0 (take (16 * k) strands)
+    pub free-are : levelFree l ≡ levelFree xs
 
   pub join-first : length xs ≡ 1536 → Joining xs 0
-  join-first h = record { few = omega arith; long = h; names-are = sym (over-none (levelNames xs) 0); spaces-are = sym (over-none (levelSpaces xs) 0); strands-are = sym (over-none (levelStrands xs) 0) }
+  join-first h = record { few = omega arith; long = h; names-are = sym (over-none (levelNames xs) 0); spaces-are = sym (over-none (levelSpaces xs) 0); strands-are = sym (over-none (levelStrands xs) 0); free-are = refl }
 
   module _ (n : length names ≡ 192) (s : length spaces ≡ 256) (w : length strands ≡ 1024) where
     pub join-turn : (l l₁ l₂ l₃ : List ℕ) (k : ℕ) → Joining l k → k < 64
@@ -84,14 +85,16 @@ module _ (xs names spaces strands : List ℕ) where
               pushed-strands l l₁ l₂ l₃ k _ _ _ (j .long) h three four few e f g
               ∙ ap (λ (x : List ℕ). overwrite x (16 * k) (take 16 (drop (16 * k) strands))) (j .strands-are)
               ∙ laid-on (levelStrands xs) strands (16 * k) 16 (16 * (k + 1)) (omega arith) (omega arith);
+          free-are = pushed-free l l₁ l₂ l₃ k _ _ _ (j .long) h three four few e f g ∙ j .free-are;
         }
 
-    pub join-last : (l : List ℕ) (k : ℕ) → Joining l k → 64 ≤ k → (levelNames l ≡ names) × (levelSpaces l ≡ spaces) × (levelStrands l ≡ strands)
+    pub join-last : (l : List ℕ) (k : ℕ) → Joining l k → 64 ≤ k → (levelNames l ≡ names) × (levelSpaces l ≡ spaces) × (levelStrands l ≡ strands) × (levelFree l ≡ levelFree xs)
     join-last l k j h =
         let e : k ≡ 64 = omega (arith, j .few) in (
           j .names-are ∙ ap (λ (x : ℕ). overwrite (levelNames xs) 0 (take (3 * x) names)) e ∙ laid-all (levelNames xs) names 192 (each-long 3 0 xs) n,
           j .spaces-are ∙ ap (λ (x : ℕ). overwrite (levelSpaces xs) 0 (take (4 * x) spaces)) e ∙ laid-all (levelSpaces xs) spaces 256 (each-long 4 3 xs) s,
           j .strands-are ∙ ap (λ (x : ℕ). overwrite (levelStrands xs) 0 (take (16 * x) strands)) e ∙ laid-all (levelStrands xs) strands 1024 (each-long 16 8 xs) w,
+          j .free-are,
         )
 
 -- ---- parted

@@ -1,7 +1,7 @@
 -- What the parts of a start leave, as the code makes them.
 --     begun-is                          what the starts along the strands have in common
 --     rows-behind                       the rows of the attribute units, then those of the element
---     pushed-names, pushed-spaces, pushed-strands, pushed-name, pushed-bindings     what is laid down
+--     pushed-names, pushed-spaces, pushed-strands, pushed-free, pushed-name, pushed-bindings     what is laid down
 use Prim.Native.Nat.{ℕ, _+_, _*_, _-_, _%_, _^_, _≤_, _<_}
 use mathlib.Core.Path.{_≡_, sym, ap, _∙_}
 use mathlib.Core.List.{List, _++_, map, map-append}
@@ -18,7 +18,7 @@ use Rattle.reader.specs.Scope.{levelNumbers}
 use Rattle.reader.specs.Pushed.{pushedBindings}
 use Rattle.records.specs.Rows.{laid, laidRows}
 use Rattle.records.proofs.Laid.{rows-more}
-use Rattle.strands.specs.Levels.{ofEach, levelNames, levelSpaces, levelStrands}
+use Rattle.strands.specs.Levels.{ofEach, levelNames, levelSpaces, levelStrands, levelFree}
 use Rattle.strands.proofs.LevelNumbers.{each-laid, each-kept}
 use Rattle.strands.specs.Writing.{rowOf, begunBody, elementRecords}
 use Rattle.attributes.specs.declared.Placing.{Placing}
@@ -95,6 +95,15 @@ module _ (l l₁ l₂ l₃ : List ℕ) (depth : ℕ) (ns ss ws : List ℕ) (long
       ∙ each-laid 16 8 l₂ depth ws long₂ h few (omega arith)
       ∙ ap (λ (x : List ℕ). overwrite x (16 * depth) ws)
       (ap levelStrands f ∙ each-kept 16 8 l₁ depth 3 ss long₁ h (omega arith) (omega arith) (inl (omega arith)) ∙ first 16 8 ∙ each-kept 16 8 l depth 0 ns long h (omega arith) (omega arith) (inl (omega arith)))
+
+  pub pushed-free : levelFree l₃ ≡ levelFree l
+  pushed-free =
+      ap levelFree g
+      ∙ each-kept 1 7 l₂ depth 8 ws long₂ h (omega arith) (omega arith) (inr (omega arith))
+      ∙ ap levelFree f
+      ∙ each-kept 1 7 l₁ depth 3 ss long₁ h (omega arith) (omega arith) (inl (omega arith))
+      ∙ first 1 7
+      ∙ each-kept 1 7 l depth 0 ns long h (omega arith) (omega arith) (inl (omega arith))
 
 pub few-taken : (n : ℕ) (l : List ℕ) → n ≤ 16 → length (take n l) ≤ 16
 few-taken n l h = omega (arith, length-take n l)

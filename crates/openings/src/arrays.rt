@@ -6,7 +6,7 @@ ghost use mathlib.Core.Path.{_≡_};
 ghost use Prim.Native.Nat.{_+_, _*_, _≤_};
 ghost use lib.ListN.{length, take, drop};
 ghost use Rattle.laws.specs.Over.{overwrite};
-ghost use Rattle.strands.specs.Levels.{ofEach, levelNames, levelSpaces, levelStrands};
+ghost use Rattle.strands.specs.Levels.{ofEach, levelNames, levelSpaces, levelStrands, levelFree};
 
 // n numbers of `from`, from the first on, laid over `to` at a place.
 fn copy(to: &mut [u32], at: usize, from: &[u32], first: usize, n: usize)
@@ -28,7 +28,10 @@ pub fn join_levels(
     levels: &mut [u32; LEVELS],
 )
     ensures { λ _. ⌜ (
-        (levelNames (now (levels .exit)) ≡ now (names .entry)) × (levelSpaces (now (levels .exit)) ≡ now (spaces .entry)) × (levelStrands (now (levels .exit)) ≡ now (strands .entry))
+        (levelNames (now (levels .exit)) ≡ now (names .entry))
+        × (levelSpaces (now (levels .exit)) ≡ now (spaces .entry))
+        × (levelStrands (now (levels .exit)) ≡ now (strands .entry))
+        × (levelFree (now (levels .exit)) ≡ levelFree (now (levels .entry)))
         ) ⌝ }
 {
     let all: &mut [u32] = levels;

@@ -16,7 +16,7 @@ ghost use Rattle.laws.specs.Over.{overwrite};
 ghost use Rattle.reader.specs.Stored.{narrowed};
 ghost use Rattle.reader.specs.Scope.{levelNumbers};
 ghost use Rattle.reader.specs.Spans.{wholeSpan};
-ghost use Rattle.strands.specs.Levels.{levelNames, levelSpaces, levelStrands};
+ghost use Rattle.strands.specs.Levels.{levelNames, levelSpaces, levelStrands, levelFree};
 
 // Its name, and how many bindings it has.
 fn push_name(levels: &mut [u32; LEVELS], depth: usize, name: Span, owned: usize)
@@ -77,6 +77,7 @@ pub fn push_start(
         × (now (bindings .exit) ≡ overwrite (now (bindings .entry)) (4 * bound) (take (4 * owned) (now (own .entry))))
         × (levelSpaces (now (levels .exit)) ≡ overwrite (levelSpaces (now (levels .entry))) (4 * depth) (placing .class ∷ narrowed (placing .at) ∷ narrowed (placing .len) ∷ count ∷ []))
         × (levelStrands (now (levels .exit)) ≡ overwrite (levelStrands (now (levels .entry))) (16 * depth) (take count (now (words .entry))))
+        × (levelFree (now (levels .exit)) ≡ levelFree (now (levels .entry)))
         ) ⌝ }
 {
     let name = tag.name;

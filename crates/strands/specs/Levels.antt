@@ -17,3 +17,7 @@ levelSpaces l = ofEach 4 3 l
 
 abbrev pub levelStrands : List ℕ → List ℕ
 levelStrands l = ofEach 16 8 l
+
+-- the one that is free
+abbrev pub levelFree : List ℕ → List ℕ
+levelFree l = ofEach 1 7 l

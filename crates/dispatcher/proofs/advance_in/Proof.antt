@@ -1,4 +1,5 @@
 -- `advance_in` meets its contract: no step to take, a table that judge refuses, a scene that is too long, and the rest.
+use mathlib.Core.Path.{refl}
 use native.Mathlib.Omega.{arith}
 use Rattle.dispatcher.specs.Sessions.{sessionAt}
 use Rattle.dispatcher.proofs.RunTurns.{none-advanced, advance-none, advance-refused, advance-too-long, then-accepted}
@@ -13,9 +14,11 @@ returns : tie.Need-returns
 returns c =
     let a = c .before .before .before .before .before .args in
     let n = c .none-taken in
-    let z = sessionAt (a .head) (a .levels .now) (a .bindings .now) in
-    none-advanced (n .result) (a .head) (a .levels .now) (a .bindings .now) (a .out .now) _ (n .ensures .1)
-    (advance-none (a .table .now) (a .scene .now) z (a .out .now) (a .most) _ (omega (arith, c .before .if1 .taken)) (n .ensures .0))
+    let z = sessionAt (a .head) (a .levels .now) (a .bindings .now) in (
+      none-advanced (n .result) (a .head) (a .levels .now) (a .bindings .now) (a .out .now) _ (n .ensures .1)
+          (advance-none (a .table .now) (a .scene .now) z (a .out .now) (a .most) _ (omega (arith, c .before .if1 .taken)) (n .ensures .0)),
+      refl,
+    )
 
 judge-requires : tie.Need-judge-requires
 judge-requires c κs = search needs
@@ -28,9 +31,11 @@ returns-2 c =
     let a = c .before .before .before .before .before .before .before .before .args in
     let j = c .before .before .before .judge in
     let n = c .none-taken2 in
-    let z = sessionAt (a .head) (a .levels .now) (a .bindings .now) in
-    none-advanced (n .result) (a .head) (a .levels .now) (a .bindings .now) (a .out .now) _ (n .ensures .1)
-    (advance-refused (a .table .now) (a .scene .now) (j .result) (j .ensures) (a .most) (omega (arith, c .before .before .before .before .if1 .left)) z (a .out .now) _ (c .before .if2 .taken) (n .ensures .0))
+    let z = sessionAt (a .head) (a .levels .now) (a .bindings .now) in (
+      none-advanced (n .result) (a .head) (a .levels .now) (a .bindings .now) (a .out .now) _ (n .ensures .1)
+          (advance-refused (a .table .now) (a .scene .now) (j .result) (j .ensures) (a .most) (omega (arith, c .before .before .before .before .if1 .left)) z (a .out .now) _ (c .before .if2 .taken) (n .ensures .0)),
+      refl,
+    )
 
 none-taken-requires-3 : tie.Need-none-taken-requires-3
 none-taken-requires-3 c κs = search needs
@@ -40,9 +45,11 @@ returns-3 c =
     let a = c .before .before .before .before .before .before .before .before .before .args in
     let j = c .before .before .before .before .judge in
     let n = c .none-taken3 in
-    let z = sessionAt (a .head) (a .levels .now) (a .bindings .now) in
-    none-advanced (n .result) (a .head) (a .levels .now) (a .bindings .now) (a .out .now) _ (n .ensures .1)
-    (advance-too-long (a .table .now) (a .scene .now) (j .result) (j .ensures) (a .most) (omega (arith, c .before .before .before .before .before .if1 .left)) z (a .out .now) _ (c .before .before .if2 .left) (c .before .if3 .taken) (n .ensures .0))
+    let z = sessionAt (a .head) (a .levels .now) (a .bindings .now) in (
+      none-advanced (n .result) (a .head) (a .levels .now) (a .bindings .now) (a .out .now) _ (n .ensures .1)
+          (advance-too-long (a .table .now) (a .scene .now) (j .result) (j .ensures) (a .most) (omega (arith, c .before .before .before .before .before .if1 .left)) z (a .out .now) _ (c .before .before .if2 .left) (c .before .if3 .taken) (n .ensures .0)),
+      refl,
+    )
 
 header-of-requires : tie.Need-header-of-requires
 header-of-requires c κs = search needs

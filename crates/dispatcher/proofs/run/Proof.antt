@@ -30,7 +30,7 @@ returns c =
     let h = c .before .before .before .before .before .before .before .before .head in
     let n = c .before .before .before .before .before .steps-within in
     let r = c .before .before .before .advance-in in
-    run-within (a .table .now) (a .scene .now) (a .out .now) (n .result) (n .ensures .0) (n .ensures .1) (h .result) (h .ensures ∙ ap headOf (c .before .before .before .before .before .before .before .before .before .fresh .ensures)) (r .result) (c .answer-of .result) _ _ _ (c .answer-of .ensures) (r .ensures)
+    run-within (a .table .now) (a .scene .now) (a .out .now) (n .result) (n .ensures .0) (n .ensures .1) (h .result) (h .ensures ∙ ap headOf (c .before .before .before .before .before .before .before .before .before .fresh .ensures)) (r .result) (c .answer-of .result) _ _ _ (c .answer-of .ensures) (r .ensures .0)
 
 pub run-spec : {M : Type 1} → statement M
 run-spec = tie.close (tie.spec fresh-requires head-requires steps-within-requires advance-in-requires answer-of-requires same-length returns)

@@ -25,9 +25,11 @@ returns c =
     let h = b .pre in
     let s = a .scene .now in
     let z = sessionAt (a .head) (a .levels .now) (a .bindings .now) in
-    let ds = declarationsOf s (attrsIn (a .attrs .now) (a .started .tag .count)) in
-    refused-turn (a .table .now) s (a .known .now) (a .head) (levelNames (a .levels .now)) (a .bindings .now) (levelSpaces (a .levels .now)) (levelStrands (a .levels .now)) (a .out .now) _ _ (h .0 .beside) (c .stop .result) (c .stop .ensures)
-    (deep-turn (decode (a .table .now)) s (a .head) (levelNames (a .levels .now)) (a .bindings .now) (levelSpaces (a .levels .now)) (levelStrands (a .levels .now)) _ _ (a .started .tag .next) (a .out .now) (c .before .if1 .taken))
+    let ds = declarationsOf s (attrsIn (a .attrs .now) (a .started .tag .count)) in (
+      refused-turn (a .table .now) s (a .known .now) (a .head) (levelNames (a .levels .now)) (a .bindings .now) (levelSpaces (a .levels .now)) (levelStrands (a .levels .now)) (a .out .now) _ _ (h .0 .beside) (c .stop .result) (c .stop .ensures)
+          (deep-turn (decode (a .table .now)) s (a .head) (levelNames (a .levels .now)) (a .bindings .now) (levelSpaces (a .levels .now)) (levelStrands (a .levels .now)) _ _ (a .started .tag .next) (a .out .now) (c .before .if1 .taken)),
+      refl,
+    )
 
 add-if2 : tie.Need-add-if2
 add-if2 c =
@@ -46,10 +48,12 @@ returns-2 c =
     let h = b .pre in
     let s = a .scene .now in
     let z = sessionAt (a .head) (a .levels .now) (a .bindings .now) in
-    let ds = declarationsOf s (attrsIn (a .attrs .now) (a .started .tag .count)) in
-    refused-turn (a .table .now) s (a .known .now) (a .head) (levelNames (a .levels .now)) (a .bindings .now) (levelSpaces (a .levels .now)) (levelStrands (a .levels .now)) (a .out .now) _ _ (h .0 .beside) (c .stop2 .result) (c .stop2 .ensures)
-    (bound-turn (decode (a .table .now)) s (a .head) (levelNames (a .levels .now)) (a .bindings .now) (levelSpaces (a .levels .now)) (levelStrands (a .levels .now)) _ _ (a .started .tag .next) (a .out .now) (c .before .before .before .if1 .left)
-    (subst (λ (n : ℕ). 64 < a .head .bound + n) (h .1 .told .owned-is) (c .before .if2 .taken)))
+    let ds = declarationsOf s (attrsIn (a .attrs .now) (a .started .tag .count)) in (
+      refused-turn (a .table .now) s (a .known .now) (a .head) (levelNames (a .levels .now)) (a .bindings .now) (levelSpaces (a .levels .now)) (levelStrands (a .levels .now)) (a .out .now) _ _ (h .0 .beside) (c .stop2 .result) (c .stop2 .ensures)
+          (bound-turn (decode (a .table .now)) s (a .head) (levelNames (a .levels .now)) (a .bindings .now) (levelSpaces (a .levels .now)) (levelStrands (a .levels .now)) _ _ (a .started .tag .next) (a .out .now) (c .before .before .before .if1 .left)
+          (subst (λ (n : ℕ). 64 < a .head .bound + n) (h .1 .told .owned-is) (c .before .if2 .taken))),
+      refl,
+    )
 
 header-of-requires : tie.Need-header-of-requires
 header-of-requires c κs = search needs
@@ -109,9 +113,11 @@ returns-3 c =
     let ds = declarationsOf s (attrsIn (a .attrs .now) (a .started .tag .count)) in
     let k = classed (a .table .now) (a .index .now) s (a .known .now) _ (a .own .now) (a .attrs .now) (a .codes .now) (c .before .before .before .before .before .before .before .before .before .before .before .before .before .before .before .before .before .before .before .before .before .before .before .header-of .result) (a .head) (levelNames (a .levels .now)) (a .bindings .now) (levelSpaces (a .levels .now)) (levelStrands (a .levels .now)) (a .started) (h .0) (h .1) (c .before .before .before .before .before .before .before .before .before .before .before .before .before .before .before .before .before .before .before .before .before .before .before .header-of .ensures) (c .before .before .before .before .before .before .before .before .before .before .before .before .before .before .before .before .before .before .before .before .put-classes .ensures) in
     let w = c .before .before .before .before .before .before .before .before .before .before .before .before .before .before .before .before .before .space-of .ensures (a .table .now) (headerOf (a .table .now)) s (a .started .owned) (names-few (a .table .now) (h .0 .ready .accepted)) (k .beside .classes) (k .own-classes) (h .1 .found-within) in
-    let d = c .before .before .before .before .before .before .before .before .before .before .decide .ensures (a .table .now) (headerOf (a .table .now)) (h .0 .ready) (k .beside) (k .own-classes) (k .met) w in
-    opened-turn (a .table .now) s _ (a .own .now) z ds (k .kept) _ (a .started .tag .next) (a .out .now) _
-    (c .before .before .open-level .ensures (a .table .now) s (a .attrs .now) (a .codes .now) (headerOf (a .table .now)) ds (h .0 .ready) (h .1 .told) w d)
+    let d = c .before .before .before .before .before .before .before .before .before .before .decide .ensures (a .table .now) (headerOf (a .table .now)) (h .0 .ready) (k .beside) (k .own-classes) (k .met) w in (
+      opened-turn (a .table .now) s _ (a .own .now) z ds (k .kept) _ (a .started .tag .next) (a .out .now) _
+          (c .before .before .open-level .ensures .0 (a .table .now) s (a .attrs .now) (a .codes .now) (headerOf (a .table .now)) ds (h .0 .ready) (h .1 .told) w d),
+      c .before .before .open-level .ensures .1,
+    )
 
 pub element-turn-spec : {M : Type 1} → statement M
 element-turn-spec =

@@ -1,4 +1,5 @@
 -- `starts::start_turn` meets its contract, by what reading the tag comes to.
+use mathlib.Core.Path.{refl}
 use Prim.Native.Nat.{_+_}
 use Rattle.table.specs.Table.{headerOf}
 use Rattle.lexer.specs.Tags.{tagAt}
@@ -45,8 +46,8 @@ returns c =
     let h = b .pre in
     let z = sessionAt (a .head) (a .levels .now) (a .bindings .now) in
     let r = c .before .before .before .before .before .before .before .before .before .before .before .before .before .before .before .read-start .ensures (a .table .now) (a .index .now) (levelNames (a .levels .now)) (levelSpaces (a .levels .now)) (levelStrands (a .levels .now)) (headerOf (a .table .now)) (h .0 .ready) (h .0 .beside) in
-    let e = c .before .before .element-turn .ensures in
-    (start-turned (a .table .now) (a .scene .now) z (a .at) (tagAt (a .scene .now) (a .at + 1) .answer) _ _ _ _ (c .before .before .before .before .before .before .before .before .before .before .before .before .before .before .before .read-start .result) r _ (c .before .before .before .before .before .before .before .before .before .before .before .before .before .started .given .1) (a .out .now) _ (e .0), e .1)
+    let e = c .before .before .element-turn .ensures .0 in
+    ((start-turned (a .table .now) (a .scene .now) z (a .at) (tagAt (a .scene .now) (a .at + 1) .answer) _ _ _ _ (c .before .before .before .before .before .before .before .before .before .before .before .before .before .before .before .read-start .result) r _ (c .before .before .before .before .before .before .before .before .before .before .before .before .before .started .given .1) (a .out .now) _ (e .0), e .1), c .before .before .element-turn .ensures .1)
 
 returns-2 : tie.Need-returns-2
 returns-2 c =
@@ -54,7 +55,7 @@ returns-2 c =
     let a = b .args in
     let h = b .pre in
     let r = c .before .before .before .before .read-start .ensures (a .table .now) (a .index .now) (levelNames (a .levels .now)) (levelSpaces (a .levels .now)) (levelStrands (a .levels .now)) (headerOf (a .table .now)) (h .0 .ready) (h .0 .beside) in
-    refused-start-turned (a .table .now) (a .scene .now) (a .head) (levelNames (a .levels .now)) (a .bindings .now) (levelSpaces (a .levels .now)) (levelStrands (a .levels .now)) (a .at) (tagAt (a .scene .now) (a .at + 1) .answer) _ _ _ _ (c .before .before .before .before .read-start .result) r _ _ (c .before .before .number .given .1) (a .out .now) (c .stop .result) (c .stop .ensures)
+    (refused-start-turned (a .table .now) (a .scene .now) (a .head) (levelNames (a .levels .now)) (a .bindings .now) (levelSpaces (a .levels .now)) (levelStrands (a .levels .now)) (a .at) (tagAt (a .scene .now) (a .at + 1) .answer) _ _ _ _ (c .before .before .before .before .read-start .result) r _ _ (c .before .before .number .given .1) (a .out .now) (c .stop .result) (c .stop .ensures), refl)
 
 pub start-turn-spec : {M : Type 1} → statement M
 start-turn-spec =

@@ -31,7 +31,7 @@ returns c =
     let h = b .pre in
     let e = c .before .before .awaited-turn .ensures (decode (a .table .now)) (a .bindings .now) in
     let i = awaited-innermost (a .table .now) (headerOf (a .table .now)) (a .index .now) (a .scene .now) (a .head) (levelNames (a .levels .now)) (a .bindings .now) (levelSpaces (a .levels .now)) (levelStrands (a .levels .now)) (h .ready) (c .before .before .before .before .before .if1 .taken) in
-    (e, event-turn (a .table .now) (a .scene .now) (a .known .now) (a .head) (levelNames (a .levels .now)) (a .bindings .now) (levelSpaces (a .levels .now)) (levelStrands (a .levels .now)) _ (c .before .before .awaited-turn .result) _ (h .beside) e (awaited-fewer (decode (a .table .now)) (a .scene .now) (sessionAt (a .head) (a .levels .now) (a .bindings .now)) (a .out .now) (i .some-open) (c .before .before .before .before .before .if1 .taken)))
+    ((e, event-turn (a .table .now) (a .scene .now) (a .known .now) (a .head) (levelNames (a .levels .now)) (a .bindings .now) (levelSpaces (a .levels .now)) (levelStrands (a .levels .now)) _ (c .before .before .awaited-turn .result) _ (h .beside) e (awaited-fewer (decode (a .table .now)) (a .scene .now) (sessionAt (a .head) (a .levels .now) (a .bindings .now)) (a .out .now) (i .some-open) (c .before .before .before .before .before .if1 .taken))), refl)
 
 begin-at-requires : tie.Need-begin-at-requires
 begin-at-requires c κs = search needs
@@ -93,8 +93,8 @@ returns-2 c =
     let a = b .args in
     let h = b .pre in
     let r = c .before .before .before .before .before .before .before .before .before .before .before .before .before .before .begin-at in
-    let e = c .before .before .start-turn .ensures in
-    (begun-step (decode (a .table .now)) (a .scene .now) (a .head) (levelNames (a .levels .now)) (a .bindings .now) (levelSpaces (a .levels .now)) (levelStrands (a .levels .now)) (c .before .before .before .before .before .before .before .before .before .before .before .before .before .before .before .before .if1 .left) _ (r .result) (r .ensures) (c .before .before .before .before .before .before .before .before .before .before .before .before .at .given .1) _ (a .out .now) (e .0), e .1)
+    let e = c .before .before .start-turn .ensures .0 in
+    ((begun-step (decode (a .table .now)) (a .scene .now) (a .head) (levelNames (a .levels .now)) (a .bindings .now) (levelSpaces (a .levels .now)) (levelStrands (a .levels .now)) (c .before .before .before .before .before .before .before .before .before .before .before .before .before .before .before .before .if1 .left) _ (r .result) (r .ensures) (c .before .before .before .before .before .before .before .before .before .before .before .before .at .given .1) _ (a .out .now) (e .0), e .1), c .before .before .start-turn .ensures .1)
 
 same-length-3 : tie.Need-same-length-3
 same-length-3 c = search needs
@@ -106,8 +106,11 @@ returns-3 c =
     let h = b .pre in
     let r = c .before .before .before .before .before .before .before .before .begin-at in
     let e = c .before .before .end-turn .ensures (decode (a .table .now)) (a .bindings .now) in (
-      begun-step (decode (a .table .now)) (a .scene .now) (a .head) (levelNames (a .levels .now)) (a .bindings .now) (levelSpaces (a .levels .now)) (levelStrands (a .levels .now)) (c .before .before .before .before .before .before .before .before .before .before .if1 .left) _ (r .result) (r .ensures) (c .before .before .before .before .before .before .at2 .given .1) _ (a .out .now) e,
-      event-turn (a .table .now) (a .scene .now) (a .known .now) (a .head) (levelNames (a .levels .now)) (a .bindings .now) (levelSpaces (a .levels .now)) (levelStrands (a .levels .now)) _ (c .before .before .end-turn .result) _ (h .beside) e (end-fewer (decode (a .table .now)) (a .scene .now) (sessionAt (a .head) (a .levels .now) (a .bindings .now)) (a .out .now) _ (endTagAt (a .scene .now) (_ + 2))),
+      (
+        begun-step (decode (a .table .now)) (a .scene .now) (a .head) (levelNames (a .levels .now)) (a .bindings .now) (levelSpaces (a .levels .now)) (levelStrands (a .levels .now)) (c .before .before .before .before .before .before .before .before .before .before .if1 .left) _ (r .result) (r .ensures) (c .before .before .before .before .before .before .at2 .given .1) _ (a .out .now) e,
+        event-turn (a .table .now) (a .scene .now) (a .known .now) (a .head) (levelNames (a .levels .now)) (a .bindings .now) (levelSpaces (a .levels .now)) (levelStrands (a .levels .now)) _ (c .before .before .end-turn .result) _ (h .beside) e (end-fewer (decode (a .table .now)) (a .scene .now) (sessionAt (a .head) (a .levels .now) (a .bindings .now)) (a .out .now) _ (endTagAt (a .scene .now) (_ + 2))),
+      ),
+      refl,
     )
 
 same-length-4 : tie.Need-same-length-4
@@ -120,8 +123,11 @@ returns-4 c =
     let h = b .pre in
     let r = c .before .before .before .before .before .before .before .before .begin-at in
     let e = c .before .before .text-turn .ensures (decode (a .table .now)) (a .bindings .now) in (
-      begun-step (decode (a .table .now)) (a .scene .now) (a .head) (levelNames (a .levels .now)) (a .bindings .now) (levelSpaces (a .levels .now)) (levelStrands (a .levels .now)) (c .before .before .before .before .before .before .before .before .before .before .if1 .left) _ (r .result) (r .ensures) (c .before .before .before .before .before .before .at3 .given .1) _ (a .out .now) e,
-      event-turn (a .table .now) (a .scene .now) (a .known .now) (a .head) (levelNames (a .levels .now)) (a .bindings .now) (levelSpaces (a .levels .now)) (levelStrands (a .levels .now)) _ (c .before .before .text-turn .result) _ (h .beside) e (text-fewer (decode (a .table .now)) (a .scene .now) (sessionAt (a .head) (a .levels .now) (a .bindings .now)) (a .out .now) _ (textEnd (a .scene .now) _)),
+      (
+        begun-step (decode (a .table .now)) (a .scene .now) (a .head) (levelNames (a .levels .now)) (a .bindings .now) (levelSpaces (a .levels .now)) (levelStrands (a .levels .now)) (c .before .before .before .before .before .before .before .before .before .before .if1 .left) _ (r .result) (r .ensures) (c .before .before .before .before .before .before .at3 .given .1) _ (a .out .now) e,
+        event-turn (a .table .now) (a .scene .now) (a .known .now) (a .head) (levelNames (a .levels .now)) (a .bindings .now) (levelSpaces (a .levels .now)) (levelStrands (a .levels .now)) _ (c .before .before .text-turn .result) _ (h .beside) e (text-fewer (decode (a .table .now)) (a .scene .now) (sessionAt (a .head) (a .levels .now) (a .bindings .now)) (a .out .now) _ (textEnd (a .scene .now) _)),
+      ),
+      refl,
     )
 
 returns-5 : tie.Need-returns-5
@@ -129,9 +135,11 @@ returns-5 c =
     let b = c .before .before .before .before .before .before .before .before .before in
     let a = b .args in
     let h = b .pre in
-    let r = c .before .before .before .begin-at in
-    refused-turn (a .table .now) (a .scene .now) (a .known .now) (a .head) (levelNames (a .levels .now)) (a .bindings .now) (levelSpaces (a .levels .now)) (levelStrands (a .levels .now)) (a .out .now) 9 _ (h .beside) (c .stop .result) (c .stop .ensures)
-    (begun-step (decode (a .table .now)) (a .scene .now) (a .head) (levelNames (a .levels .now)) (a .bindings .now) (levelSpaces (a .levels .now)) (levelStrands (a .levels .now)) (c .before .before .before .before .before .if1 .left) begin.Finished (r .result) (r .ensures) (c .before .enum-told .given .1) _ (a .out .now) refl)
+    let r = c .before .before .before .begin-at in (
+      refused-turn (a .table .now) (a .scene .now) (a .known .now) (a .head) (levelNames (a .levels .now)) (a .bindings .now) (levelSpaces (a .levels .now)) (levelStrands (a .levels .now)) (a .out .now) 9 _ (h .beside) (c .stop .result) (c .stop .ensures)
+          (begun-step (decode (a .table .now)) (a .scene .now) (a .head) (levelNames (a .levels .now)) (a .bindings .now) (levelSpaces (a .levels .now)) (levelStrands (a .levels .now)) (c .before .before .before .before .before .if1 .left) begin.Finished (r .result) (r .ensures) (c .before .enum-told .given .1) _ (a .out .now) refl),
+      refl,
+    )
 
 returns-6 : tie.Need-returns-6
 returns-6 c =
@@ -139,9 +147,11 @@ returns-6 c =
     let a = b .args in
     let h = b .pre in
     let r = c .before .before .before .before .begin-at in
-    let x = c .before .before .x .given in
-    refused-turn (a .table .now) (a .scene .now) (a .known .now) (a .head) (levelNames (a .levels .now)) (a .bindings .now) (levelSpaces (a .levels .now)) (levelStrands (a .levels .now)) (a .out .now) _ _ (h .beside) (c .stopped .result) (c .stopped .ensures)
-    (begun-step (decode (a .table .now)) (a .scene .now) (a .head) (levelNames (a .levels .now)) (a .bindings .now) (levelSpaces (a .levels .now)) (levelStrands (a .levels .now)) (c .before .before .before .before .before .before .if1 .left) _ (r .result) (r .ensures) (x .1) _ (a .out .now) (stopped-step (a .scene .now) (x .0 .0) (a .head) (levelNames (a .levels .now)) (a .bindings .now) (levelSpaces (a .levels .now)) (levelStrands (a .levels .now)) (a .out .now)))
+    let x = c .before .before .x .given in (
+      refused-turn (a .table .now) (a .scene .now) (a .known .now) (a .head) (levelNames (a .levels .now)) (a .bindings .now) (levelSpaces (a .levels .now)) (levelStrands (a .levels .now)) (a .out .now) _ _ (h .beside) (c .stopped .result) (c .stopped .ensures)
+          (begun-step (decode (a .table .now)) (a .scene .now) (a .head) (levelNames (a .levels .now)) (a .bindings .now) (levelSpaces (a .levels .now)) (levelStrands (a .levels .now)) (c .before .before .before .before .before .before .if1 .left) _ (r .result) (r .ensures) (x .1) _ (a .out .now) (stopped-step (a .scene .now) (x .0 .0) (a .head) (levelNames (a .levels .now)) (a .bindings .now) (levelSpaces (a .levels .now)) (levelStrands (a .levels .now)) (a .out .now))),
+      refl,
+    )
 
 pub judged-step-spec : {M : Type 1} → statement M
 judged-step-spec =

@@ -1,9 +1,11 @@
 -- `steps::judged_steps` meets its contract: what is left to do is what was asked.
 use Prim.Native.Nat.{_-_}
+use mathlib.Core.Path.{refl, _≡_, _∙_}
 use native.Mathlib.Omega.{arith}
 use lib.ListN.{length, take, drop}
 use Rattle.laws.proofs.Over.{part-whole, part-back}
 use Rattle.table.specs.Table.{decode}
+use Rattle.strands.specs.Levels.{levelFree}
 use Rattle.dispatcher.specs.Sessions.{sessionAt}
 use Rattle.dispatcher.specs.Stepping.{Step}
 use Rattle.dispatcher.specs.Turns.{Beside, stepIn}
@@ -17,6 +19,7 @@ abbrev Inv-loop : tie.InvT-loop
 Inv-loop table index scene levels₀ bindings₀ known₀ most out₀ attrs₀ own₀ attributes₀ rows₀ head₀ used₀ events₀ records₀ levels bindings known out attrs own attributes rows head used events records =
     Going table scene (sessionAt head₀ levels₀ bindings₀) out₀ most (sessionAt head levels bindings) out used events records
     × Beside table scene known (sessionAt head levels bindings)
+    × (levelFree levels ≡ levelFree levels₀)
 
 abbrev μ-loop : tie.MeasureT-loop
 μ-loop table index scene levels₀ bindings₀ known₀ most out₀ attrs₀ own₀ attributes₀ rows₀ head₀ used₀ events₀ records₀ levels bindings known out attrs own attributes rows head used events records =
@@ -27,7 +30,7 @@ loop-holds c =
     let a = c .before .before .before .args in
     let p = c .before .before .before .pre in
     let z = sessionAt (a .from) (a .levels .now) (a .bindings .now) in
-    (going-first (a .table .now) (a .scene .now) z (a .out .now) (a .most) (loop-sound (a .table .now) (a .index .now) (a .scene .now) (a .known .now) (a .from) (a .levels .now) (a .bindings .now) p), p .beside)
+    (going-first (a .table .now) (a .scene .now) z (a .out .now) (a .most) (loop-sound (a .table .now) (a .index .now) (a .scene .now) (a .known .now) (a .from) (a .levels .now) (a .bindings .now) p), p .beside, refl)
 
 sub-judged-step : tie.Need-sub-judged-step Inv-loop μ-loop
 sub-judged-step c = search needs
@@ -72,7 +75,7 @@ turned c =
     let z₀ = sessionAt (a .from) (a .levels .now) (a .bindings .now) in
     let z = sessionAt (l .head) (l .levels) (l .bindings) in
     going-turned (a .table .now) (a .scene .now) z₀ (a .out .now) (a .most) z (l .out) (l .used) (l .events) (l .records) (l .inv .0) (c .before .before .before .before .before .before .before .before .before .loop-test .taken) (p .accepted) (p .short)
-    (take (length (l .out) - l .used) (drop (l .used) (l .out))) (part-whole (l .out) (l .used)) (stepped c) (c .judged-step .ensures .0)
+    (take (length (l .out) - l .used) (drop (l .used) (l .out))) (part-whole (l .out) (l .used)) (stepped c) (c .judged-step .ensures .0 .0)
 
 same-length : tie.Need-same-length Inv-loop μ-loop
 same-length c = search needs
@@ -80,7 +83,7 @@ same-length c = search needs
 returns : tie.Need-returns Inv-loop μ-loop
 returns c =
     let l = c .before .before .before .before .before .before .before .before .before .before .before .before .before .before .loop in
-    turned (c .before .before .before .before) .stops _ (part-back (l .out) (l .used) (stepped (c .before .before .before .before) .output)) (c .if1 .taken)
+    (turned (c .before .before .before .before) .stops _ (part-back (l .out) (l .used) (stepped (c .before .before .before .before) .output)) (c .if1 .taken), c .before .before .before .before .judged-step .ensures .1 ∙ l .inv .2)
 
 mul-used : tie.Need-mul-used Inv-loop μ-loop
 mul-used c = omega (arith, turned (c .before .before .before .before .before) .room, c .before .before .before .before .before .before .before .before .before .before .before .before .before .before .before .loop .inv .0 .same-length, c .before .before .before .before .before .before .before .before .before .before .before .before .before .before .before .before .before .before .before .good)
@@ -100,7 +103,7 @@ loop-less c = omega (arith, c .before .before .before .before .before .before .b
 loop-again : tie.Need-loop-again Inv-loop μ-loop
 loop-again c =
     let l = c .before .before .before .before .before .before .before .before .before .before .before .before .before .before .before .before .loop in
-    (turned (c .before .before .before .before .before .before) .goes _ (part-back (l .out) (l .used) (stepped (c .before .before .before .before .before .before) .output)) (c .before .before .if1 .left), c .before .before .before .before .before .before .judged-step .ensures .1)
+    (turned (c .before .before .before .before .before .before) .goes _ (part-back (l .out) (l .used) (stepped (c .before .before .before .before .before .before) .output)) (c .before .before .if1 .left), c .before .before .before .before .before .before .judged-step .ensures .0 .1, c .before .before .before .before .before .before .judged-step .ensures .1 ∙ l .inv .2)
 
 same-length-2 : tie.Need-same-length-2 Inv-loop μ-loop
 same-length-2 c = search needs
@@ -110,7 +113,7 @@ returns-2 c =
     let a = c .before .before .before .before .before .args in
     let l = c .before .loop in
     let z₀ = sessionAt (a .from) (a .levels .now) (a .bindings .now) in
-    going-last (a .table .now) (a .scene .now) z₀ (a .out .now) (a .most) (sessionAt (l .head) (l .levels) (l .bindings)) (l .out) (l .used) (l .events) (l .records) (l .inv .0) (omega (arith, c .loop-test .left))
+    (going-last (a .table .now) (a .scene .now) z₀ (a .out .now) (a .most) (sessionAt (l .head) (l .levels) (l .bindings)) (l .out) (l .used) (l .events) (l .records) (l .inv .0) (omega (arith, c .loop-test .left)), l .inv .2)
 
 pub judged-steps-spec : {M : Type 1} → statement M
 judged-steps-spec =

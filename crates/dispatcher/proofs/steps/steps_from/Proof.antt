@@ -1,4 +1,5 @@
 -- `steps::steps_from` meets its contract: 20, or the steps of a coherent session.
+use mathlib.Core.Path.{refl}
 use native.Mathlib.Omega.{arith}
 use Rattle.strands.specs.Levels.{levelNames, levelSpaces, levelStrands}
 use Rattle.dispatcher.specs.Sessions.{sessionAt}
@@ -17,7 +18,7 @@ returns c =
     let a = c .before .before .before .before .before .before .before .args in
     let p = c .before .before .before .before .before .before .before .pre in
     let z = sessionAt (a .from) (a .levels .now) (a .bindings .now) in
-    from-refused (a .table .now) (a .scene .now) (a .header) z (p .1) (p .0) (p .2) (c .before .coherent .result) (c .before .coherent .ensures) (a .most) (a .out .now) (p .3) (c .if1 .taken)
+    (from-refused (a .table .now) (a .scene .now) (a .header) z (p .1) (p .0) (p .2) (c .before .coherent .result) (c .before .coherent .ensures) (a .most) (a .out .now) (p .3) (c .if1 .taken), refl)
 
 load-requires : tie.Need-load-requires
 load-requires c κs = search needs

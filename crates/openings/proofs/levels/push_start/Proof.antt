@@ -2,7 +2,7 @@
 use Prim.Native.Nat.{_*_}
 use mathlib.Core.Path.{refl, _∙_}
 use borrow.Author.Needs.{needs}
-use Rattle.openings.proofs.Openings.{few-taken, pushed-names, pushed-spaces, pushed-strands, pushed-name, pushed-bindings}
+use Rattle.openings.proofs.Openings.{few-taken, pushed-names, pushed-spaces, pushed-strands, pushed-free, pushed-name, pushed-bindings}
 use Rattle.openings.proofs.levels.push_start.Statement.{statement}
 use Rattle.openings.proofs.levels.push_start.Tie as tie
 
@@ -37,6 +37,7 @@ returns c =
       pushed-bindings (a .bindings .now) _ (a .own .now) (a .bound) (a .owned) (c .before .before .before .before .push-bindings .ensures) (p .2) (p .3),
       pushed-spaces l _ _ _ (a .depth) _ _ _ (n .ensures .1) (p .0) refl refl few e f g,
       pushed-strands l _ _ _ (a .depth) _ _ _ (n .ensures .1) (p .0) refl refl few e f g,
+      pushed-free l _ _ _ (a .depth) _ _ _ (n .ensures .1) (p .0) refl refl few e f g,
     )
 
 pub push-start-spec : {M : Type 1} → statement M
