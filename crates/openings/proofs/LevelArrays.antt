@@ -17,17 +17,15 @@ use Rattle.laws.specs.Lists.{tabulate}
 use Rattle.laws.specs.Over.{overwrite}
 use Rattle.laws.specs.Reading.{le-or-lt}
 use Rattle.laws.proofs.Lists.{length-tabulate, getD-tabulate}
-use Rattle.laws.proofs.Over.{over-none, over-over, over-copy, length-over}
+use Rattle.laws.proofs.Over.{over-none, over-over, length-over}
+use Rattle.reader.proofs.Pushes as pushes
 use Rattle.strands.specs.Levels.{ofEach, levelNames, levelSpaces, levelStrands, levelFree}
 use Rattle.strands.proofs.LevelNumbers.{next-row, each-long, each-at}
 use Rattle.openings.proofs.Openings.{pushed-names, pushed-spaces, pushed-strands, pushed-free}
 
 -- ---- numbers copied
 pub copied : (xs l s : List ℕ) (i f j : ℕ) → l ≡ overwrite xs i (take j (drop f s)) → f + j < length s → i + j < length xs → set l (i + j) (getD s (f + j) 0) ≡ overwrite xs i (take (j + 1) (drop f s))
-copied xs l s i f j e hs hx =
-    ap (λ (x : List ℕ). set x (i + j) (getD s (f + j) 0)) e
-    ∙ ap (set (overwrite xs i (take j (drop f s))) (i + j)) (sym (getD-drop f s j 0))
-    ∙ over-copy xs i (drop f s) j 0 (omega (arith, length-drop f s)) hx
+copied xs l s i f j e hs hx = ap (set l (i + j)) (sym (getD-drop f s j 0)) ∙ pushes.copied xs l (drop f s) i j e (omega (arith, length-drop f s)) hx
 
 -- n more behind the first i of s
 laid-on : (xs s : List ℕ) (i n m : ℕ) → i ≤ length s → i + n ≡ m → overwrite (overwrite xs 0 (take i s)) i (take n (drop i s)) ≡ overwrite xs 0 (take m s)

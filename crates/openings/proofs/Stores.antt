@@ -1,6 +1,5 @@
 -- What the stores of a start leave in an array: one part overwritten.
 --     level-set, space-set     a level's three numbers, and its namespace's four
---     copied                   a turn of the loop that copies strands
 use Prim.Native.Nat.{ℕ, _+_, _%_, _^_, _≤_, _<_}
 use mathlib.Core.Path.{_≡_, ap, _∙_}
 use mathlib.Core.List.{List, [], _∷_}
@@ -8,7 +7,7 @@ use native.Mathlib.Omega.{arith}
 use native.Mathlib.Nat.{mod-eq-of-lt}
 use lib.ListN.{length, getD, set, take}
 use Rattle.laws.specs.Over.{overwrite}
-use Rattle.laws.proofs.Over.{set-over, over-set, over-copy}
+use Rattle.laws.proofs.Over.{set-over, over-set}
 
 -- a small number is as 32 bits hold it
 small : (x n : ℕ) → x ≡ n % 2 ^ 32 → n < 2 ^ 32 → x ≡ n
@@ -30,7 +29,3 @@ space-set l i class b c d at len count h p q r k =
     ∙ ap (λ (x : List ℕ). set x (i + 3) d) (over-set l i (class ∷ b ∷ []) c (omega arith))
     ∙ over-set l i (class ∷ b ∷ c ∷ []) d (omega arith)
     ∙ rw (p, q, small d count r (omega arith))
-
--- j numbers of s were laid over xs
-pub copied : (xs l s : List ℕ) (i j : ℕ) → l ≡ overwrite xs i (take j s) → j < length s → i + j < length xs → set l (i + j) (getD s j 0) ≡ overwrite xs i (take (j + 1) s)
-copied xs l s i j e hs hx = ap (λ (x : List ℕ). set x (i + j) (getD s j 0)) e ∙ over-copy xs i s j 0 hs hx

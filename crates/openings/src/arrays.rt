@@ -9,7 +9,7 @@ ghost use Rattle.laws.specs.Over.{overwrite};
 ghost use Rattle.strands.specs.Levels.{ofEach, levelNames, levelSpaces, levelStrands, levelFree};
 
 // n numbers of `from`, from the first on, laid over `to` at a place.
-fn copy(to: &mut [u32], at: usize, from: &[u32], first: usize, n: usize)
+pub(crate) fn copy(to: &mut [u32], at: usize, from: &[u32], first: usize, n: usize)
     requires { ⌜ (at + n ≤ length (now to)) × (first + n ≤ length (now from)) ⌝ }
     ensures { λ _. ⌜ now (to .exit) ≡ overwrite (now (to .entry)) at (take n (drop first (now (from .entry)))) ⌝ }
 {

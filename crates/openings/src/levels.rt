@@ -1,5 +1,6 @@
 // The numbers of a level, laid down behind the last refusal.
 use crate::STRANDS;
+use crate::arrays::copy;
 use attributes::Placing;
 use attributes::held::narrow;
 use lexer::Tag;
@@ -50,12 +51,7 @@ fn push_strands(levels: &mut [u32; LEVELS], depth: usize, words: &[u32; STRANDS]
 {
     let all: &mut [u32] = levels;
     let new: &[u32] = words;
-    let at = 24 * depth + 8;
-    let mut j = 0;
-    while j < count {
-        all[at + j] = new[j];
-        j += 1;
-    }
+    copy(all, 24 * depth + 8, new, 0, count);
 }
 
 // What a start that is accepted lays down.
