@@ -21,7 +21,6 @@ use Rattle.laws.proofs.Lists.{length-tabulate}
 use Rattle.table.specs.Table.{Table}
 use Rattle.lexer.specs.declared.Attr.{Attr}
 use Rattle.lexer.specs.Attrs.{attrIn, attrsIn}
-use Rattle.reader.specs.declared.Kind.the-variants.{Plain}
 use Rattle.reader.specs.Namespaces.{Namespace, nothing, sameNamespace}
 use Rattle.reader.specs.Stored.{Coded, coded, atMost, foundIn}
 use Rattle.reader.specs.Known.{plainAttr}

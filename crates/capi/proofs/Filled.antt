@@ -1,20 +1,15 @@
 -- An array filled with f 0, f 1, and so on: from an index on, number by number; from its front on, some numbers at a time.
-use Prim.Native.Nat.{ℕ, _+_, _≤_, _<_}
+use Prim.Native.Nat.{ℕ, _+_, _<_}
 use mathlib.Core.Path.{_≡_, sym, ap, _∙_}
-use mathlib.Core.List.{List, [], _∷_, _++_, append-nil}
+use mathlib.Core.List.{List, [], _∷_, _++_}
 use native.Mathlib.Nat.{zero-add}
 use native.Mathlib.Omega.{arith}
-use lib.ListN.{length, set, drop-of-length-le}
+use lib.ListN.{length, set}
 use Rattle.laws.specs.Lists.{tabulate}
 use Rattle.laws.specs.Over.{overwrite}
 use Rattle.laws.proofs.Lists.{length-tabulate}
-use Rattle.laws.proofs.Over.{over-none, over-set, over-over}
+use Rattle.laws.proofs.Over.{over-none, over-all, over-set, over-over}
 use Rattle.reader.proofs.Tabulated.{tabulate-same, tabulate-append}
-
--- a list as long as the one that it is laid over
-pub over-all : (xs ys : List ℕ) → length xs ≤ length ys → overwrite xs 0 ys ≡ ys
-unfolding overwrite
-over-all xs ys h = rw (zero-add (length ys), drop-of-length-le xs h) (append-nil ys)
 
 pub tabulate-more : (f : ℕ → ℕ) (i : ℕ) → tabulate f 0 (i + 1) ≡ tabulate f 0 i ++ (f i ∷ [])
 unfolding tabulate

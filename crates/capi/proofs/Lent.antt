@@ -5,9 +5,9 @@ use mathlib.Core.List.{List}
 use native.Mathlib.Nat.{zero-add, mod-lt, div-lt-iff-lt-mul}
 use native.Mathlib.Omega.{arith}
 use lib.Dec.{eqb}
-use lib.ListN.{length, getD}
+use lib.ListN.{getD}
 use Rattle.laws.specs.Lists.{tabulate}
-use Rattle.laws.proofs.Lists.{length-tabulate, getD-tabulate}
+use Rattle.laws.proofs.Lists.{getD-tabulate}
 use Rattle.table.specs.declared.Answer.{Answer}
 use Rattle.reader.proofs.Tabulated.{tabulate-same}
 use Rattle.strands.specs.Levels.{ofEach, levelNames, levelSpaces, levelStrands}
@@ -18,7 +18,7 @@ use Rattle.dispatcher.specs.declared.Session.{Session}
 use Rattle.dispatcher.specs.declared.Head.{Head}
 use Rattle.dispatcher.specs.declared.Advanced.{Advanced}
 use Rattle.dispatcher.proofs.RunTurns.{parted}
-use Rattle.capi.specs.Layout.{word4, word8, levelAt, bindingAt, spaceAt, strandAt, sessionIn}
+use Rattle.capi.specs.Layout.{word4, word8, levelAt, spaceAt, strandAt, sessionIn}
 
 pub head-read : (b : List ℕ) (place units depth bound : ℕ) → place ≡ word8 b 8 → units ≡ word8 b 16 → depth ≡ word8 b 24 → bound ≡ word8 b 32
     → record { place = place; units = units; closed = eqb (getD b 1 0) 1; awaited = eqb (getD b 2 0) 1; depth = depth; bound = bound } ≡ headOf (sessionIn b)

@@ -17,7 +17,7 @@ use borrow.Author.Tests.{ne-eqb, lt-ltb, le-ltb, le-leb, lt-leb, leb-true}
 use lib.ListN.{length, getD, take, drop, length-map, List·getD-eq-default}
 use lib.Dec.{leb, ltb, eqb}
 use Rattle.laws.specs.Reading.{le-or-lt, drop-here, drop-out}
-use Rattle.laws.specs.Lists.{all, tabulate}
+use Rattle.laws.specs.Lists.{all}
 use Rattle.laws.proofs.Flags.{flag-same, eqb-same}
 use Rattle.table.specs.Table.{actionOf, urisFrom, urisOf}
 use Rattle.table.specs.Places.{placed, placesFrom, placesOf, placeOf}

@@ -1,7 +1,7 @@
 -- "A session holds ..": what a session's numbers mean. Every number means something, so that number 20 has nothing to say of packing. Definitions.
 use Prim.Native.Nat.{ℕ, zero, suc, _+_, _*_, _-_}
 use mathlib.Core.List.{List, [], _∷_, map}
-use mathlib.Core.Bool.{Bool, true, false, cond}
+use mathlib.Core.Bool.{Bool, false, cond}
 use lib.ListN.{getD, replicate, length}
 use lib.Dec.{eqb}
 use Rattle.laws.specs.Lists.{tabulate}
@@ -16,7 +16,6 @@ use Rattle.reader.specs.Stored.{narrowed, bindingNumbers}
 use Rattle.reader.specs.Scope.{freshScope, nameIn, opensOf, withLevel, closedOf}
 use Rattle.reader.specs.Events.{ReaderState, partOf}
 use Rattle.model.specs.Elements.{Space}
-use Rattle.model.specs.Records.{OpenElement}
 use Rattle.model.specs.Stream.{Level, State, HeldStrand}
 use Rattle.model.specs.Dispatch.{dispatch}
 use Rattle.strands.specs.Packed.{strandIn, packed}

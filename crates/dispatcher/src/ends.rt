@@ -1,6 +1,5 @@
 // A text and an end.
 use crate::Head;
-use crate::Session;
 use crate::Turn;
 use crate::steps::stop;
 use crate::steps::stopped;

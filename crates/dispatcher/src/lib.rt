@@ -21,7 +21,7 @@ ghost use mathlib.Core.Path.{_≡_};
 ghost use Prim.Native.Nat.{_+_, _*_, _≤_};
 ghost use lib.ListN.{length};
 ghost use Rattle.strands.specs.Levels.{levelFree};
-ghost use Rattle.dispatcher.specs.Sessions.{freshOf, headOf, sessionAt, sessionOf};
+ghost use Rattle.dispatcher.specs.Sessions.{freshOf, headOf, sessionAt};
 ghost use Rattle.dispatcher.specs.Stepping.{answered, stepOf, advanceOf, handed, runOf, ran};
 ghost use Rattle.dispatcher.specs.Turns.{advancedAnswer, advancedIn};
 

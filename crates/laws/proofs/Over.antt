@@ -1,12 +1,12 @@
 -- Laws of `overwrite`, which is shut: a proof goes by these alone. Assumes nothing.
-use mathlib.Core.Path.{_≡_, refl, sym, ap, _∙_, subst}
+use mathlib.Core.Path.{_≡_, sym, ap, _∙_}
 use mathlib.Core.List.{List, [], _∷_, _++_, append-assoc, append-nil}
-use Prim.Native.Nat.{ℕ, zero, suc, _+_, _-_, _≤_, _<_}
-use native.Mathlib.Nat.{add-zero, add-suc, add-assoc}
+use Prim.Native.Nat.{ℕ, suc, _+_, _-_, _≤_, _<_}
+use native.Mathlib.Nat.{zero-add, add-zero, add-assoc}
 use native.Mathlib.Numerals.{add-one}
 use native.Mathlib.Omega.{arith}
-use lib.ListN.{length, getD, set, take, drop, length-set, length-append, take-append-drop, length-drop, length-take, List·getD-append, drop-of-length-le}
-use lib.Seq.{length-take-le, take-at, drop-at, set-at, drop-cons, drop-drop, drop-append-add, append-snoc, take-suc, take-append-le, take-take, getD-take, getD-append-add, getD-drop, take-add, take-length, take-all, set-split, set-append-left}
+use lib.ListN.{length, getD, set, take, drop, length-append, take-append-drop, length-drop, List·getD-append, drop-of-length-le}
+use lib.Seq.{length-take-le, take-at, drop-at, set-at, drop-cons, drop-drop, drop-append-add, append-snoc, take-suc, getD-take, getD-append-add, getD-drop, take-add, take-all}
 use Rattle.laws.specs.Over.{overwrite}
 
 module _ {ℓ} {A : Type ℓ} where
@@ -17,6 +17,11 @@ module _ {ℓ} {A : Type ℓ} where
   pub over-none : (xs : List A) (i : ℕ) → overwrite xs i [] ≡ xs
   unfolding overwrite
   over-none xs i = ap (λ (k : ℕ). take i xs ++ [] ++ drop k xs) (add-zero i) ∙ ap (λ (r : List A). r ++ drop i xs) (append-nil (take i xs)) ∙ take-append-drop i xs
+
+  -- a list as long as the one that it is laid over
+  pub over-all : (xs ys : List A) → length xs ≤ length ys → overwrite xs 0 ys ≡ ys
+  unfolding overwrite
+  over-all xs ys h = rw (zero-add (length ys), drop-of-length-le xs h) (append-nil ys)
 
   pub length-over : (xs : List A) (i : ℕ) (ys : List A) → i + length ys ≤ length xs → length (overwrite xs i ys) ≡ length xs
   unfolding overwrite

@@ -5,19 +5,18 @@
 --     part-first, part-turn, part-last   the loop that parts
 --     each-zero                          of an array of zeros
 use Prim.Native.Nat.{ℕ, _+_, _*_, _/_, _%_, _≤_, _<_}
-use mathlib.Core.Path.{_≡_, refl, sym, ap, subst, _∙_}
-use mathlib.Core.List.{List, append-nil}
+use mathlib.Core.Path.{_≡_, refl, sym, ap, _∙_}
+use mathlib.Core.List.{List}
 use native.Mathlib.Nat.{zero-add, mul-comm, mul-suc}
 use native.Mathlib.Numerals.{add-one}
 use native.Mathlib.Omega.{arith}
-use lib.ListN.{length, getD, set, take, drop, replicate, length-drop, length-replicate, getD-replicate, drop-of-length-le, List·getD-eq-default}
+use lib.ListN.{length, getD, set, take, drop, replicate, length-drop, length-replicate, getD-replicate, List·getD-eq-default}
 use lib.Seq.{take-add, take-all, length-take-le, getD-take, getD-drop, ext-getD}
 use mathlib.Core.Logic.{⊎-elim}
-use Rattle.laws.specs.Lists.{tabulate}
 use Rattle.laws.specs.Over.{overwrite}
 use Rattle.laws.specs.Reading.{le-or-lt}
-use Rattle.laws.proofs.Lists.{length-tabulate, getD-tabulate}
-use Rattle.laws.proofs.Over.{over-none, over-over, length-over}
+use Rattle.laws.proofs.Lists.{getD-tabulate}
+use Rattle.laws.proofs.Over.{over-none, over-all, over-over, length-over}
 use Rattle.reader.proofs.Pushes as pushes
 use Rattle.strands.specs.Levels.{ofEach, levelNames, levelSpaces, levelStrands, levelFree}
 use Rattle.strands.proofs.LevelNumbers.{next-row, each-long, each-at}
@@ -37,11 +36,7 @@ laid-on xs s i n m h e =
 
 -- all of s
 laid-all : (xs s : List ℕ) (n : ℕ) → length xs ≡ n → length s ≡ n → overwrite xs 0 (take n s) ≡ s
-unfolding overwrite
-laid-all xs s n l k =
-    let t : take n s ≡ s = take-all n s (omega arith) in
-    let z : 0 + length s ≡ n = zero-add (length s) ∙ k in
-    rw (t, z, drop-of-length-le xs {i = n} (omega arith)) (append-nil s)
+laid-all xs s n l k = ap (overwrite xs 0) (take-all n s (omega arith)) ∙ over-all xs s (omega arith)
 
 -- ---- joined
 module _ (xs names spaces strands : List ℕ) where

@@ -5,7 +5,7 @@ use mathlib.Core.Path.{_≡_, ap, _∙_}
 use mathlib.Core.List.{List, [], _∷_}
 use native.Mathlib.Omega.{arith}
 use native.Mathlib.Nat.{mod-eq-of-lt}
-use lib.ListN.{length, getD, set, take}
+use lib.ListN.{length, set}
 use Rattle.laws.specs.Over.{overwrite}
 use Rattle.laws.proofs.Over.{set-over, over-set}
 

@@ -10,7 +10,6 @@ use native.Mathlib.Nat.{add-comm, zero-add, mul-comm, div-eq-of-lt, div-lt-iff-l
 use native.Mathlib.Omega.{arith}
 use lib.ListN.{length, getD, take, drop, length-drop}
 use lib.Seq.{ext-getD, getD-take, getD-drop, length-take-le}
-use Rattle.laws.specs.Lists.{tabulate}
 use Rattle.laws.specs.Over.{overwrite}
 use Rattle.laws.specs.Reading.{le-or-lt}
 use Rattle.laws.proofs.Lists.{length-tabulate, getD-tabulate}

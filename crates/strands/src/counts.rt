@@ -14,7 +14,6 @@ ghost use Prim.Native.Nat.{ℕ, _+_, _*_, _≤_, _<_};
 ghost use lib.ListN.{length, getD};
 ghost use Rattle.laws.specs.Lists.{tabulate, keep};
 ghost use Rattle.laws.specs.Gather.{total};
-ghost use Rattle.model.specs.Stream.{Entry};
 ghost use Rattle.strands.specs.Packed.{strandIn, receives, isUnit};
 ghost use Rattle.strands.specs.Rules.{unitsFor};
 ghost use Rattle.strands.specs.Entries.{entriesIn};

@@ -8,7 +8,7 @@ use records::Row;
 use records::put_row_if;
 ghost use mathlib.Core.Path.{_≡_};
 ghost use mathlib.Core.List.{map};
-ghost use Prim.Native.Nat.{_*_, _≤_, _<_};
+ghost use Prim.Native.Nat.{_≤_, _<_};
 ghost use Rattle.laws.specs.Gather.{gather, total};
 ghost use Rattle.reader.specs.Spans.{span};
 ghost use Rattle.model.specs.Records.{plain};

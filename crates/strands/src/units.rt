@@ -21,7 +21,7 @@ ghost use Rattle.laws.specs.Lists.{tabulate};
 ghost use Rattle.laws.specs.Gather.{gather};
 ghost use Rattle.model.specs.Theory.{Validate};
 ghost use Rattle.model.specs.Stream.{attributesFrom};
-ghost use Rattle.records.specs.Rows.{laid, laidIf, laidRows};
+ghost use Rattle.records.specs.Rows.{laid, laidRows};
 ghost use Rattle.strands.specs.Packed.{strandIn};
 ghost use Rattle.attributes.specs.Attributes.{sortedIn, sortedHeld, attributesIn};
 ghost use Rattle.strands.specs.Writing.{rowFor, rowOf, members, sortedBodies, unitFor, sectionUnits, strandUnits};

@@ -1,12 +1,11 @@
 -- `attributes::held::hold_plain` meets its contract: after each turn one more attribute is held, with section 0.
-use mathlib.Core.Path.{_≡_, refl, ap, subst, _∙_}
-use Prim.Native.Nat.{ℕ, _+_, _-_, _*_, _≤_}
+use mathlib.Core.Path.{_≡_, refl, _∙_}
+use Prim.Native.Nat.{_-_}
 use native.Mathlib.Omega.{arith}
 use borrow.Author.Needs.{needs}
 use lib.ListN.{length, length-drop}
 use lib.Seq.{length-take-le}
-use Rattle.laws.proofs.Over.{length-over}
-use Rattle.attributes.specs.Attributes.{givenNumbers, attributesIn, sectionsIn}
+use Rattle.attributes.specs.Attributes.{attributesIn, sectionsIn}
 use Rattle.attributes.proofs.Plain.{Plainly, begin-plain, turn-held, ended-plain}
 use Rattle.attributes.proofs.held.hold_plain.Statement.{statement}
 use Rattle.attributes.proofs.held.hold_plain.Tie as tie

@@ -1,5 +1,4 @@
 -- `strands::counts::is_kept` meets its contract.
-use mathlib.Core.Path.{refl}
 use borrow.Author.Needs.{needs}
 use Rattle.strands.proofs.Counting.{section-is, section-not, keeps-own, keeps-other}
 use Rattle.strands.proofs.counts.is_kept.Statement.{statement}

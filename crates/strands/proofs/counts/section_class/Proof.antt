@@ -1,6 +1,6 @@
 -- `strands::counts::section_class` meets its contract: the first attribute of the section from k on is the first of all.
 use Prim.Native.Nat.{_-_, _≤_}
-use mathlib.Core.Path.{_≡_, refl, _∙_}
+use mathlib.Core.Path.{_≡_, _∙_}
 use native.Mathlib.Omega.{arith}
 use borrow.Author.Needs.{needs}
 use Rattle.laws.specs.Lists.{tabulate}
