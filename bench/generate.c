@@ -8,6 +8,7 @@
              bindings:B small elements of the outermost of B open bindings (1 to 64)
              text       long texts
              attr       tags of 12 to 16 attributes, some in namespaces of their own
+             comments   the rig scene with an XML declaration, two instructions, and one byte in ten in comments between elements
    SIZE      bytes of the scene, exactly; K and M for 1,024 and 1,048,576; at least 4K. 16M is taken as 16,777,215.
    SEED      a number. The same words give the same bytes, on every machine.
 
@@ -52,10 +53,10 @@ static int one_in(int n) {
 struct open { char name[NAME * 2 + 2]; int bindings; size_t closing; };
 
 static char *scene;
-static size_t used, limit, closing;
+static size_t used, limit, closing, commented;
 static struct open levels[DEPTH + 1];
-static int depth, deepest, bound, most_bound, in_tag, indented = 1;
-static unsigned long elements, attributes, declarations;
+static int depth, deepest, bound, most_bound, in_tag, indented = 1, commenting;
+static unsigned long elements, attributes, declarations, comment_count;
 
 static void putv(const char *form, va_list more) {
     int n = vsnprintf(scene + used, limit - used + 1, form, more);
@@ -79,8 +80,11 @@ static void new_line(int level) {
     put("\n%*s", indented ? level : 0, "");
 }
 
+static void remark(void);
+
 static void start(const char *name) {
     if (depth) new_line(depth);
+    if (depth && commenting) remark();
     put("<%s", name);
     if (depth == DEPTH) die("depth 65");
     struct open *o = &levels[depth++];
@@ -239,6 +243,34 @@ static const char *const words[] = {
     "twist", "bind pose checked", "see shot 040", "gain &lt; 0.5", "mirror &amp; freeze", "\xE9\x96\xA2\xE7\xAF\x80", "\xCE\xB2-pose", "volume kept", "from the old rig", "&quot;soft&quot; falloff",
     "two influences > one", "no scale", "exported twice",
 };
+
+/* Comments have random numbers of their own, so that all else is as without them; and they leave room for what begins behind them. */
+enum { COMMENT_ROOM = 200 };
+
+static uint64_t comment_state;
+static size_t spare = 6000;
+
+static void comment(void) {
+    size_t begin = used;
+    put("<!-- ");
+    if (one_in(4)) put("<c:aim target=\"root\" weight=\"0.%03d\"/>", between(0, 999));
+    else
+        for (int n = between(1, 5); n > 0; n--) put("%s%s", PICK(words), n > 1 ? ", " : "");
+    put(" -->");
+    commented += used - begin;
+    comment_count++;
+}
+
+/* a comment on a line of its own, where fewer than one byte in ten stand in comments so far */
+static void remark(void) {
+    if (commented * 10 >= used || room() <= spare + COMMENT_ROOM) return;
+    uint64_t others = state;
+    state = comment_state;
+    comment();
+    comment_state = state;
+    state = others;
+    new_line(depth);
+}
 
 static int joint_ids, outer;    /* joints of the character so far; the plug-in round its skeleton */
 
@@ -422,9 +454,18 @@ static void start_rig(void) {
 static void rig(void) {
     rig_rules();
     start_rig();
+    if (commenting) new_line(depth), put("<?rigout units=\"cm\" up=\"y\"?>");
     for (int k = 0; room() > 6000; k++) character(k);
+    spare = 240;
     while (room() > 240) note();
     end();
+}
+
+static void comments(void) {
+    commenting = 1;
+    comment_state = ~state;
+    put("<?xml version=\"1.0\" encoding=\"UTF-8\"?>\n<?xml-stylesheet type=\"text/css\" href=\"rig.css\"?>\n");
+    rig();
 }
 
 /* A small element of 60 bytes or so; one in four is a text. The prefix is that of all its names. */
@@ -607,7 +648,7 @@ static int is(const char *kind, const char *word) {
 }
 
 int main(int argc, char **argv) {
-    if (argc != 6) die("generate KIND[:COUNT] SIZE SEED SCENE RULES, KIND rig, deep, strands, bindings, text or attr");
+    if (argc != 6) die("generate KIND[:COUNT] SIZE SEED SCENE RULES, KIND rig, deep, strands, bindings, text, attr or comments");
     const char *kind = argv[1];
     limit = size_of(argv[2]);
     state = strtoull(argv[3], 0, 10);
@@ -619,10 +660,13 @@ int main(int argc, char **argv) {
     else if (is(kind, "bindings")) bindings(count_of(kind, BINDINGS));
     else if (is(kind, "text")) text();
     else if (is(kind, "attr")) attr();
-    else die("KIND is rig, deep, strands, bindings, text or attr");
+    else if (is(kind, "comments")) comments();
+    else die("KIND is rig, deep, strands, bindings, text, attr or comments");
     memset(scene + used, '\n', limit - used);
     save(argv[4], scene, limit);
     save_table(argv[5]);
-    fprintf(stderr, "%s: %zu bytes (%zu of them space behind the root), %lu elements, %lu attributes, %lu declarations, depth %d, %d open bindings, %d rules\n", kind, limit, limit - used, elements, attributes, declarations, deepest, most_bound, rule_count);
+    fprintf(stderr, "%s: %zu bytes (%zu of them space behind the root), %lu elements, %lu attributes, %lu declarations, depth %d, %d open bindings, %d rules", kind, limit, limit - used, elements, attributes, declarations, deepest, most_bound, rule_count);
+    if (commenting) fprintf(stderr, ", %zu bytes in %lu comments", commented, comment_count);
+    fprintf(stderr, "\n");
     return 0;
 }

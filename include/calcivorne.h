@@ -10,6 +10,10 @@
  * A call reads its slices and writes what is said of it here, and nothing else: it keeps no pointer, has no memory of earlier calls, allocates
  * nothing and prints nothing. Calls on different buffers may run at the same time.
  *
+ * A SCENE is XML in a subset: elements, attributes, text, the five references, comments, processing instructions, and an XML declaration at its first
+ * byte. Comments, instructions and the declaration make no event and no record: a step passes over those in front of its event, and its place is its
+ * event's. A text ends where one begins, and a new text starts behind it. No CDATA, no DTD, no numeric references: their bytes are refused with 2.
+ *
  * THE ANSWER. judge, run, step and advance write four numbers:
  *
  *     answer[0]  number    see below; the call returns it too
@@ -26,7 +30,7 @@
  *       5  a prefix that is not bound, or a declaration that is not allowed               the tag's <
  *       6  an attribute stands twice                                                      the tag's <
  *       7  the scene is over 16,777,215 bytes                                             0
- *       9  finished: the root has closed and only space follows                           the scene's length
+ *       9  finished: the root has closed; only space, comments, instructions follow       the scene's length
  *      10  the table is under 4 bytes, or not of the length that it needs                 0
  *      11  a field of the table is out of range                                           0
  *      12  the table repeats a URI or a rule, or two of its rules contradict              0
@@ -132,7 +136,7 @@ unsigned char calcivorne_fresh(
  *
  * The scene is always the whole scene so far, from its first byte on; a later call may give a longer one that begins with the same bytes. Number 1
  * says that the scene ends inside an event: append what comes next and call again with the same session. Number 9 says that the scene is whole as
- * it stands; more space may still follow.
+ * it stands; more space, comments and instructions may still follow.
  */
 unsigned char calcivorne_step(
     const unsigned char *table, size_t table_len,
@@ -157,7 +161,7 @@ unsigned char calcivorne_step(
  *       1  the scene ends inside an event: append what comes next and call again
  *      25  the next event's records exceed what is left of out: call again, with out free from its first byte on. Where answer[2] is 0 this one event
  *          needs a longer out
- *       9  the scene is whole as it stands; more space may still follow
+ *       9  the scene is whole as it stands; more space, comments and instructions may still follow
  *
  * With any other number the step behind the answer[2] events is refused, and would be again.
  *

@@ -4,10 +4,11 @@
 
    Without scenes their names are read from standard input, one a line. Each scene is run under a table that validates every element section and
    attaches every attribute section: every element, attribute and text is delivered, along one strand. From what expat reports the same list is
-   put together: units, places, names with their namespaces, values and texts. The two lists must be equal; where one of the two refuses
-   the scene, for a reason that document 01 gives (see enum reason), what it has delivered must be the beginning of the other's.
+   put together: units, places, names with their namespaces, values and texts, which a comment or a processing instruction ends. The two lists
+   must be equal; where one of the two refuses the scene, for a reason that document 01 or request N1 gives (see enum reason), what it has
+   delivered must be the beginning of the other's.
 
-   --well FILE   writes the names of the scenes that any XML parser must accept
+   --well FILE   writes the names of the scenes that any XML parser must accept: those that declare no encoding but UTF-8
    --ill FILE    writes the names of those that no namespace-aware one may, for a byte, an end tag or the scene's end
 
    Prints differences and counts. Ends with 1 on a difference, with 2 if a scene cannot be read. */
@@ -16,6 +17,7 @@
 #include <stdio.h>
 #include <stdlib.h>
 #include <string.h>
+#include <strings.h>
 #include "calcivorne.h"
 
 /* One mode, one schema; element sections: any, validate 0; attribute sections: any, attach. */
@@ -126,7 +128,6 @@ static struct record record(size_t number) {
 }
 
 static struct bytes ours;
-static size_t ours_last_text;
 static calcivorne_number answer[4];
 
 /* White space other than 20 stands in the URI of a name: expat reports another URI, and units are not compared. */
@@ -176,7 +177,6 @@ static size_t put_record(size_t number, size_t count) {
     static const char *words[] = {"open", "start", "attribute", "value", "text", "end", "close"};
     struct record r = record(number);
     if (r.at + r.length > scene.length || r.uri + r.uri_length > scene.length || r.kind > CLOSE) die(scene_name, ": a record's span is outside the scene, or of no kind");
-    if (r.kind == TEXT) ours_last_text = ours.length;
     putf(&ours, "%s ", words[r.kind]);
     put_unit(&ours, r.unit);
     if (r.kind == START || r.kind == ATTRIBUTE || r.kind == END) {
@@ -209,16 +209,9 @@ static void list_ours(void) {
     need(&out, 16 * (scene.length + 1));
     calcivorne_run(table, sizeof table, scene.at, scene.length, out.at, out.room, answer);
     ours.length = 0;
-    ours_last_text = (size_t)-1;
     odd_space = 0;
     for (size_t i = 0; i < answer[3]; i++) odd_space |= has_odd_space(record(i));
-    for (size_t i = 0, taken; i < answer[3]; i += taken) {
-        size_t before = ours.length;
-        taken = put_record(i, answer[3]);
-        if (ours_last_text != before) ours_last_text = (size_t)-1;
-    }
-    /* A text behind which nothing more was delivered: expat may have stopped inside it. */
-    if (answer[0] != FINISHED && ours_last_text != (size_t)-1) ours.length = ours_last_text;
+    for (size_t i = 0, taken; i < answer[3]; i += taken) taken = put_record(i, answer[3]);
 }
 
 /* ---- Their side: the same list from what expat reports. ---- */
@@ -226,14 +219,14 @@ static void list_ours(void) {
 struct level { size_t name, name_length; unsigned long unit; int opened; size_t part; };
 
 static struct bytes theirs, text, names;
-static size_t text_at;
+static size_t text_at, text_end;
 static struct level *levels;
 static size_t depth, levels_room;
 static unsigned long units;
 static XML_Parser parser;
 static enum XML_Error error;
 static size_t error_at;
-static unsigned long elements, attributes, texts;
+static unsigned long elements, attributes, texts, comments, instructions, declarations;
 
 static size_t uri_length(const XML_Char *name) {
     const char *found = strchr(name, SEPARATOR);
@@ -336,21 +329,59 @@ static void XMLCALL their_end(void *user, const XML_Char *name) {
 static void XMLCALL their_text(void *user, const XML_Char *at, int length) {
     (void)user;
     if (!text.length) text_at = (size_t)XML_GetCurrentByteIndex(parser);
+    text_end = (size_t)XML_GetCurrentByteIndex(parser) + (size_t)XML_GetCurrentByteCount(parser);
     put(&text, at, (size_t)length);
+}
+
+/* A text ends where one of these begins. */
+static void XMLCALL their_comment(void *user, const XML_Char *content) {
+    (void)user;
+    (void)content;
+    put_text();
+    comments++;
+}
+
+static void XMLCALL their_instruction(void *user, const XML_Char *target, const XML_Char *content) {
+    (void)user;
+    (void)target;
+    (void)content;
+    put_text();
+    instructions++;
+}
+
+static void XMLCALL their_declaration(void *user, const XML_Char *version, const XML_Char *encoding, int standalone) {
+    (void)user;
+    (void)version;
+    (void)encoding;
+    (void)standalone;
+    declarations++;
+}
+
+/* The dispatcher refuses a CDATA section, behind the text before it. */
+static void XMLCALL their_cdata(void *user) {
+    (void)user;
+    put_text();
 }
 
 /* The list of what expat reports; odd_space is to be known. */
 static void list_theirs(void) {
     theirs.length = text.length = names.length = depth = units = 0;
-    parser = XML_ParserCreateNS("UTF-8", SEPARATOR);
+    /* Behind a declaration the encoding is for expat to find. */
+    parser = XML_ParserCreateNS(stands(0, "<?xml") ? NULL : "UTF-8", SEPARATOR);
     if (!parser) die("", "no memory");
     XML_SetElementHandler(parser, their_start, their_end);
     XML_SetCharacterDataHandler(parser, their_text);
+    XML_SetCommentHandler(parser, their_comment);
+    XML_SetProcessingInstructionHandler(parser, their_instruction);
+    XML_SetXmlDeclHandler(parser, their_declaration);
+    XML_SetStartCdataSectionHandler(parser, their_cdata);
     error = XML_ERROR_NONE;
     if (XML_Parse(parser, (const char *)scene.at, (int)scene.length, 1) != XML_STATUS_OK) {
         error = XML_GetErrorCode(parser);
         /* Of an empty scene it is -1. */
         error_at = scene.length ? (size_t)XML_GetErrorByteIndex(parser) : 0;
+        /* A text is complete once the next < is read, whatever comes of that. */
+        if (text.length && byte_at(text_end) == '<') put_text();
     }
     XML_ParserFree(parser);
 }
@@ -361,21 +392,22 @@ enum reason {
     NONE,
     /* Refused by document 01 alone. */
     LIMIT,          /* 3, 7, 21, 22, 24: parts of 64 bytes, 16 attributes, 64 levels, .. ; one strand and ample output never give 23 and 25 */
-    MARKUP,         /* comments, processing instructions, the XML declaration, CDATA and DTDs are not in: 2 at the ! or ?, behind the root at the < */
+    MARKUP,         /* CDATA and DTDs are not in: 2 behind the ! */
+    VERSION,        /* a version is 1. and digits (production 26): 2 in it. expat takes any of its bytes, so that this is for document 01 alone here */
     NUMERIC,        /* numeric references are not in: 2 at the # */
     BEYOND_ASCII,   /* names are ASCII, and a byte order mark is no space: 2 at a byte from 80 on */
     AND_DECLARED,   /* & in a declaration: 5 */
     XML_DECLARED,   /* xml declared: 5, though Namespaces in XML lets it be declared as what it is */
     /* Refused by XML alone. */
-    CDATA_END,      /* ]]> may stand in a text (XML 1.0, 2.4, forbids it) */
+    ENCODING,       /* any EncName will do and is compared with nothing; expat refuses one that it does not know, or that the bytes are not in */
     NOT_UTF8,       /* UTF-8 is not checked, and with it characters that are none of XML's (2.2): surrogates, FFFE, FFFF */
     NORMALISED,     /* no normalising of values: URIs that differ in white space only differ, for XML they may be one and an attribute stand twice */
     REASONS
 };
 
 static const char *reason_words[] = {
-    "", "a limit of document 01", "comment, processing instruction, CDATA or DTD", "numeric reference", "byte from 80 on where a name stands",
-    "& in a declaration", "xml declared as itself", "]]> in a text", "not a character in UTF-8", "URIs equal but for white space",
+    "", "a limit of document 01", "CDATA or DTD", "version other than 1. and digits", "numeric reference", "byte from 80 on where a name stands",
+    "& in a declaration", "xml declared as itself", "encoding unknown or not the scene's", "not a character in UTF-8", "URIs equal but for white space",
 };
 
 /* The next attribute of a whole tag: false behind the last one. */
@@ -409,6 +441,16 @@ static enum reason declared(size_t tag) {
     return NONE;
 }
 
+/* Whether a place is in the version of the XML declaration, the quote behind it included. */
+static int in_version(size_t place) {
+    size_t at = 5;
+    if (!stands(0, "<?xml")) return 0;
+    while (byte_at(at) >= 0 && byte_at(at) != '"' && byte_at(at) != '\'') at++;
+    int quote = byte_at(at);
+    for (at++; at < place && byte_at(at) >= 0 && byte_at(at) != quote; at++) continue;
+    return at == place;
+}
+
 /* Why the dispatcher may refuse what expat accepts. */
 static enum reason our_reason(void) {
     calcivorne_number number = answer[0];
@@ -416,9 +458,9 @@ static enum reason our_reason(void) {
     if (number == PART || number == LENGTH || number == DEPTH || number == BINDINGS || number == UNITS) return LIMIT;
     if (number == PREFIX) return declared(place);
     if (number != BYTE) return NONE;
-    int c = byte_at(place), before = place ? byte_at(place - 1) : -1, behind = byte_at(place + 1);
-    if (before == '<' && (c == '!' || c == '?')) return MARKUP;
-    if (c == '<' && (behind == '!' || behind == '?')) return MARKUP;
+    int c = byte_at(place), before = place ? byte_at(place - 1) : -1;
+    if (place > 1 && stands(place - 2, "<!") && (stands(place, "DOCTYPE") || stands(place, "[CDATA["))) return MARKUP;
+    if (in_version(place)) return VERSION;
     if (before == '&' && c == '#') return NUMERIC;
     return c >= 0x80 ? BEYOND_ASCII : NONE;
 }
@@ -441,8 +483,7 @@ static size_t character(size_t at) {
 /* Why expat may refuse what the dispatcher accepts: at the place of its error. */
 static enum reason their_reason(void) {
     if (error == XML_ERROR_NONE) return NONE;
-    for (size_t at = error_at > 2 ? error_at - 2 : 0; at <= error_at; at++)
-        if (stands(at, "]]>")) return CDATA_END;
+    if (error == XML_ERROR_UNKNOWN_ENCODING || error == XML_ERROR_INCORRECT_ENCODING) return ENCODING;
     if (byte_at(error_at) >= 0x80 && !character(error_at)) return NOT_UTF8;
     if (error == XML_ERROR_DUPLICATE_ATTRIBUTE && odd_space) return NORMALISED;
     return NONE;
@@ -510,9 +551,19 @@ static void both_refuse(size_t line, enum reason our, enum reason their) {
     if (for_ill(our)) fprintf(ill, "%s\n", scene_name);
 }
 
+/* The encoding that an accepted scene declares is UTF-8, or none. */
+static int declares_utf8(void) {
+    size_t at = 5;
+    if (!stands(0, "<?xml") || in_name(byte_at(at))) return 1;
+    while (!stands(at, "?>") && !stands(at, "encoding")) at++;
+    if (stands(at, "?>")) return 1;
+    while (byte_at(at) != '"' && byte_at(at) != '\'') at++;
+    return !strncasecmp((const char *)scene.at + at + 1, "utf-8", 5) && byte_at(at + 6) == byte_at(at);
+}
+
 static void both_accept(void) {
     accepted++;
-    if (well) fprintf(well, "%s\n", scene_name);
+    if (well && declares_utf8()) fprintf(well, "%s\n", scene_name);
 }
 
 static void compare(void) {
@@ -551,13 +602,14 @@ static void load(const char *name) {
 
 static void sum_up(void) {
     printf("outside: %lu scenes: accepted by both %lu, refused by both %lu, differences %lu\n", scenes, accepted, refused, differences);
-    printf("outside: expat reported %lu elements, %lu attributes, %lu texts\n", elements, attributes, texts);
+    printf("outside: expat reported %lu elements, %lu attributes, %lu texts, ", elements, attributes, texts);
+    printf("%lu comments, %lu processing instructions, %lu declarations\n", comments, instructions, declarations);
     printf("outside: by number:");
     for (int i = 0; i < 256; i++)
         if (by_number[i]) printf(" %d: %lu", i, by_number[i]);
     printf("\n");
     for (int i = 1; i < REASONS; i++)
-        printf("outside: refused %s: %s: %lu\n", i < CDATA_END ? "by document 01 alone" : "by XML alone", reason_words[i], excused[i]);
+        printf("outside: refused %s: %s: %lu\n", i < ENCODING ? "by document 01 alone" : "by XML alone", reason_words[i], excused[i]);
 }
 
 static FILE *list_file(const char *name) {

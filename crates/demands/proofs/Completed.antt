@@ -1,23 +1,24 @@
--- A scene that ends too soon can go on: bytes behind it with which an attribute, a tag, a text, an event is read to its end.
---     attribute-completed, tag-completed, endTag-completed, begin-completed
---     Whole, next-completed                          the reader
+-- A scene that ends too soon can go on: bytes behind it with which an attribute or a tag is read to its end, and the next event begins.
+--     attribute-completed, tag-completed, endTag-completed
+--     Begins, begin-completed                        a whole tag begins, or behind the root nothing more
 use Prim.Native.Nat.{ℕ, zero, suc, _+_, _≤_, _<_}
 use mathlib.Core.Path.{_≡_, refl, sym, ap, subst, _∙_}
-use mathlib.Core.List.{List, [], _∷_, _++_, append-assoc}
+use mathlib.Core.List.{List, [], _∷_, _++_, append-assoc, append-nil}
 use mathlib.Core.Bool.{Bool, true, false, cond, not, _||_}
-use mathlib.Core.Logic.{⊎-elim}
+use mathlib.Core.Logic.{_⊎_, inl, inr, ⊎-elim}
 use native.Mathlib.Omega.{arith}
 use borrow.Author.Tests.{eqb-true, eq-eqb, lt-ltb}
 use lib.ListN.{length, drop, getD, length-append}
 use lib.Dec.{eqb}
-use Rattle.laws.specs.Reading.{stop, run, le-or-lt}
-use Rattle.laws.specs.Lists.{sameList}
-use Rattle.laws.proofs.Holds.{holds-cond}
+use Rattle.laws.specs.Reading.{run, le-or-lt, drop-out}
 use Rattle.lexer.specs.Stops.{afterRead, afterName}
 use Rattle.lexer.specs.Names.{spacesEnd, startLen, partStep, partEnd, nameAt}
-use Rattle.lexer.specs.Values.{valueEnd, textEnd}
-use Rattle.lexer.specs.Tags.{wanted, equalsEnd, attrOf, quotedAt, attributeAt, slashAt, turnBehind, turnAt, TagRead, tagStopped, fullTurn, attrThen, turnThen, attrsFrom, tagAt, endTagAt, tagBegins, beginInside, beginOutside, ending, beginAt}
-use Rattle.lexer.specs.declared.Stop.the-variants.{Bad, Long, Cut}
+use Rattle.lexer.specs.Values.{valueEnd}
+use Rattle.lexer.specs.Tags.{wanted, equalsEnd, attrOf, quotedAt, attributeAt, slashAt, turnBehind, turnAt, TagRead, tagStopped, fullTurn, attrThen, turnThen, attrsFrom, tagAt, endTagAt}
+use Rattle.lexer.specs.Misc.{miscEnd}
+use Rattle.lexer.specs.Begins.{stoppedAhead, miscAhead, opensMisc, markupAt, eitherAt, ending, aheadAt, aheadThen, beginAt}
+use Rattle.lexer.specs.declared.Stop.{Stop}
+use Rattle.lexer.specs.declared.Stop.the-variants.{Bad, Cut}
 use Rattle.lexer.specs.declared.Read.{Read}
 use Rattle.lexer.specs.declared.Read.the-variants as read
 use Rattle.lexer.specs.declared.Name.{Name}
@@ -34,12 +35,12 @@ use Rattle.lexer.specs.declared.Ended.{Ended}
 use Rattle.lexer.specs.declared.Ended.the-variants as ended
 use Rattle.lexer.specs.declared.Begin.{Begin}
 use Rattle.lexer.specs.declared.Begin.the-variants as begin
-use Rattle.lexer.proofs.Inside.{ReadInside, SpacesTo, spaces-inside, NameInside, NamedInside, name-inside, ByteTo, wanted-inside, EqualsTo, equals-inside, AttrInside, AttributedInside, attribute-inside, TurnInside, turn-inside, BeginInside, begin-inside}
-use Rattle.lexer.proofs.Stable.{spaces-stable, name-stable, wanted-stable, equals-stable, attribute-stable, turn-stable, CutBegin, begin-stable}
-use Rattle.reader.specs.Spans.{bytesOf, wholeSpan}
-use Rattle.reader.specs.Namespaces.{Meaning, refused, meant, meaningOf}
-use Rattle.reader.specs.Events as scene
-use Rattle.demands.proofs.Late.{MeaningNumber, meaning-number}
+use Rattle.lexer.specs.declared.Ahead.the-variants as ahead
+use Rattle.lexer.proofs.Inside.{ReadInside, SpacesTo, spaces-inside, NameInside, NamedInside, name-inside, ByteTo, wanted-inside, EqualsTo, equals-inside, AttrInside, AttributedInside, attribute-inside, TurnInside, turn-inside}
+use Rattle.lexer.proofs.Stable.{spaces-stable, name-stable, wanted-stable, equals-stable, attribute-stable, turn-stable}
+use Rattle.misc.proofs.BeginLaws.{begin-is, begin-held, CutAhead, ahead-stable}
+use Rattle.demands.proofs.CompletedForms.{Rest}
+use Rattle.demands.proofs.MiscCompleted.{misc-completed, misc-begins}
 use Rattle.demands.proofs.CompletedParts.{Byte, byte-in, byte-kept, read-so, spaces-here, spaces-completed, part-begins, part-stops, NameDone, name-completed, value-here, ValueDone, value-completed}
 
 -- ---- an attribute
@@ -259,7 +260,7 @@ attrs-here s name room l at h = attrs-close s name room l at (at + 1) false (tur
 -- bytes with which P holds
 pub record Done (s : List ℕ) (P : List ℕ → Type 0) : Type 0 where
   pub more : List ℕ
-  pub few : length more ≤ 7
+  pub few : length more ≤ 19
   pub done : P (s ++ more)
 
 module _ (s : List ℕ) (name : Name) where
@@ -379,196 +380,207 @@ endTag-completed s at le e = by (nameAt s at) refl (name-inside s at) e
           done = end-here S at (d .0) (d .0 .end) (d .1) (spaces-here S (d .0 .end) 0x3E b refl) b;
         }
 
--- ---- where the next event begins: <a>
+-- ---- where the next event begins: <a>, or behind the root the end of the scene
 tag-here : (s : List ℕ) (i : ℕ) → Byte s i 0x61 → Byte s (i + 1) 0x3E → IsTag (tagAt s i .answer)
 unfolding tagAt nameAt partEnd
 tag-here s i h k =
     let p : run (read.Stopped Cut) (partStep s) 64 (drop i s) i ≡ read.End (i + 1) = part-begins s 64 i 0x61 refl h refl ∙ part-stops s 63 (i + 1) 0x3E refl k refl in
     rw (p, lt-ltb (i + 1) (length s) (k .0), k .1) (attrs-here s (record { at = i; part = i; end = i + 1 }) 16 [] (i + 1) k)
 
-tag-begins : (s : List ℕ) (inside : Bool) (i : ℕ) → Byte s (i + 1) 0x61 → tagBegins s inside i ≡ begin.Start i
-unfolding tagBegins
-tag-begins s inside i h = rw (lt-ltb (i + 1) (length s) (h .0), h .1)
+-- a tag that is whole begins, or nothing more
+abbrev pub Begins : List ℕ → ℕ → Bool → Bool → Type 0
+Begins s at inside closed =
+    ((place : ℕ) × (beginAt s at inside closed ≡ begin.Start place) × IsTag (tagAt s (place + 1) .answer))
+    ⊎ (beginAt s at inside closed ≡ begin.Finished)
 
 pub record BeginDone (s : List ℕ) (at : ℕ) (inside closed : Bool) : Type 0 where
   pub more : List ℕ
-  pub few : length more ≤ 3
-  pub place : ℕ
-  pub begins : beginAt (s ++ more) at inside closed ≡ begin.Start place
-  pub tag : IsTag (tagAt (s ++ more) (place + 1) .answer)
+  pub few : length more ≤ 19
+  pub begins : Begins (s ++ more) at inside closed
 
--- the < of a tag is still to come at i, or is the scene's last byte
-module _ (s : List ℕ) (at : ℕ) (inside closed : Bool) (i : ℕ) where
-  abbrev Begins : List ℕ → Type 0
-  Begins w = Byte (s ++ w) i 0x3C → Byte (s ++ w) (i + 1) 0x61 → beginAt (s ++ w) at inside closed ≡ begin.Start i
+module _ (s : List ℕ) (inside closed : Bool) where
+  begun : (at : ℕ) (b : Begin) → aheadAt s inside closed at ≡ ahead.Event b → beginAt s at inside closed ≡ b
+  begun at b e = begin-is s at inside closed ∙ ap (aheadThen (λ (j : ℕ). beginAt s j inside closed)) e
 
-  from-none : i ≡ length s → Begins (0x3C ∷ 0x61 ∷ 0x3E ∷ []) → BeginDone s at inside closed
-  from-none e begins =
-      let w : List ℕ = 0x3C ∷ 0x61 ∷ 0x3E ∷ [] in
-      let b0 = byte-in s [] w 0 i (omega arith) (omega arith) in
-      let b1 = byte-in s [] w 1 (i + 1) (omega arith) (omega arith) in
-      let b2 = byte-in s [] w 2 (i + 1 + 1) (omega arith) (omega arith) in
-      record { more = w; few = omega arith; place = i; begins = begins b0 b1; tag = tag-here (s ++ w) (i + 1) b1 b2 }
+  begins-behind : (at j : ℕ) → aheadAt s inside closed at ≡ ahead.Misc j → Begins s j inside closed → Begins s at inside closed
+  begins-behind at j e =
+      let same : beginAt s at inside closed ≡ beginAt s j inside closed = begin-is s at inside closed ∙ ap (aheadThen (λ (j : ℕ). beginAt s j inside closed)) e in
+      ⊎-elim (λ t. inl (t .0, same ∙ t .1, t .2)) (λ f. inr (same ∙ f))
 
-  from-tag : i < length s → getD s i 0 ≡ 0x3C → length s ≤ i + 1 → Begins (0x61 ∷ 0x3E ∷ []) → BeginDone s at inside closed
-  from-tag lt b le begins =
+  -- <a> at i
+  either-tag : (i : ℕ) → (inside || not closed) ≡ true → Byte s i 0x3C → Byte s (i + 1) 0x61 → eitherAt s inside closed i ≡ ahead.Event (begin.Start i)
+  unfolding eitherAt markupAt
+  either-tag i o h k = rw (lt-ltb i (length s) (h .0), h .1, lt-ltb (i + 1) (length s) (k .0), k .1, o)
+
+  tag-begins : (at i : ℕ) → aheadAt s inside closed at ≡ eitherAt s inside closed i → (inside || not closed) ≡ true → Byte s i 0x3C → Byte s (i + 1) 0x61 → Byte s (i + 1 + 1) 0x3E → Begins s at inside closed
+  tag-begins at i looks o h k g = inl (i, begun at (begin.Start i) (looks ∙ either-tag i o h k), tag-here s (i + 1) k g)
+
+looks-here : (s : List ℕ) (inside closed : Bool) (i : ℕ) → Byte s i 0x3C → aheadAt s inside closed i ≡ eitherAt s inside closed i
+unfolding aheadAt
+looks-here s true closed i h = refl
+looks-here s false closed i h = rw (spaces-here s i 0x3C h refl)
+
+-- behind the root, at the scene's end
+finishes : (s : List ℕ) (i : ℕ) → length s ≤ i → Begins s i false true
+unfolding aheadAt spacesEnd run
+finishes s i le = inr (begun s false true i begin.Finished (rw (drop-out s i le)))
+
+-- the < of a tag is still to come, at the scene's end
+from-none : (s : List ℕ) (at : ℕ) (inside closed : Bool) → (inside || not closed) ≡ true → aheadAt (s ++ (0x3C ∷ 0x61 ∷ 0x3E ∷ [])) inside closed at ≡ eitherAt (s ++ (0x3C ∷ 0x61 ∷ 0x3E ∷ [])) inside closed (length s) → BeginDone s at inside closed
+from-none s at inside closed o looks =
+    let w : List ℕ = 0x3C ∷ 0x61 ∷ 0x3E ∷ [] in
+    let i = length s in
+    record {
+      more = w;
+      few = omega arith;
+      begins = tag-begins (s ++ w) inside closed at i looks o (byte-in s [] w 0 i (omega arith) (omega arith)) (byte-in s [] w 1 (i + 1) (omega arith) (omega arith)) (byte-in s [] w 2 (i + 1 + 1) (omega arith) (omega arith));
+    }
+
+-- a < stands at i
+module _ (s : List ℕ) (at : ℕ) (inside closed : Bool) (i : ℕ) (lt : i < length s) (tag : getD s i 0 ≡ 0x3C) (looks : (t : List ℕ) → aheadAt (s ++ t) inside closed at ≡ eitherAt (s ++ t) inside closed i) where
+  markup : (t : List ℕ) → aheadAt (s ++ t) inside closed at ≡ markupAt (s ++ t) inside closed i
+  unfolding eitherAt
+  markup t = let h = byte-kept s t i lt in looks t ∙ rw (lt-ltb i (length (s ++ t)) (h .0), h .1, tag)
+
+  -- it is the scene's last byte
+  from-tag : (inside || not closed) ≡ true → length s ≤ i + 1 → BeginDone s at inside closed
+  from-tag o le =
       let w : List ℕ = 0x61 ∷ 0x3E ∷ [] in
-      let b0 = byte-kept s w i lt in
-      let b1 = byte-in s [] w 0 (i + 1) (omega arith) (omega arith) in
-      let b2 = byte-in s [] w 1 (i + 1 + 1) (omega arith) (omega arith) in
-      record { more = w; few = omega arith; place = i; begins = begins (b0 .0, b0 .1 ∙ b) b1; tag = tag-here (s ++ w) (i + 1) b1 b2 }
+      let h = byte-kept s w i lt in
+      record {
+        more = w;
+        few = omega arith;
+        begins = tag-begins (s ++ w) inside closed at i (looks w) o (h .0, h .1 ∙ tag) (byte-in s [] w 0 (i + 1) (omega arith) (omega arith)) (byte-in s [] w 1 (i + 1 + 1) (omega arith) (omega arith));
+      }
 
-tag-cut : (s : List ℕ) (inside : Bool) (at : ℕ) → tagBegins s inside at ≡ begin.Stopped Cut → length s ≤ at + 1
-unfolding tagBegins
-tag-cut s inside at e =
-    ⊎-elim (λ le. le) (λ lt. absurd (by (eqb (getD s (at + 1) 0) 0x2F) inside (rw (lt-ltb (at + 1) (length s) lt) at e))) (le-or-lt (length s) (at + 1))
+  -- it opens a misc
+  from-misc : (r : Rest miscEnd s i 16) → ((u : List ℕ) → markupAt (s ++ (r .more ++ u)) inside closed i ≡ miscAhead (s ++ (r .more ++ u)) i) → BeginDone s at inside closed
+  unfolding miscAhead
+  from-misc r opens = by inside closed refl refl
+    where
+      j : ℕ
+      j = length s + length (r .more)
+
+      misc : (u : List ℕ) → aheadAt (s ++ (r .more ++ u)) inside closed at ≡ ahead.Misc j
+      misc u = markup (r .more ++ u) ∙ opens u ∙ rw (r .done u)
+
+      -- then <a>
+      then-tag : (inside || not closed) ≡ true → BeginDone s at inside closed
+      then-tag o =
+          let w : List ℕ = 0x3C ∷ 0x61 ∷ 0x3E ∷ [] in
+          let S = s ++ (r .more ++ w) in
+          let h = byte-in s (r .more) w 0 j (omega arith) (omega arith) in
+          record {
+            more = r .more ++ w;
+            few = omega (arith, r .few, length-append (r .more) w);
+            begins = begins-behind S inside closed at j (misc w) (tag-begins S inside closed j j (looks-here S inside closed j h) o h (byte-in s (r .more) w 1 (j + 1) (omega arith) (omega arith)) (byte-in s (r .more) w 2 (j + 1 + 1) (omega arith) (omega arith)));
+          }
+
+      by : (a b : Bool) → inside ≡ a → closed ≡ b → BeginDone s at inside closed
+      by true b p q = then-tag (rw p)
+      by false false p q = then-tag (rw (p, q))
+      by false true p q =
+          let same : s ++ (r .more ++ []) ≡ s ++ r .more = ap (λ (l : List ℕ). s ++ l) (append-nil (r .more)) in
+          let e : aheadAt (s ++ r .more) inside closed at ≡ ahead.Misc j = rw same at (misc []) in
+          record {
+            more = r .more;
+            few = omega (arith, r .few);
+            begins = begins-behind (s ++ r .more) inside closed at j e (rw (p, q) (finishes (s ++ r .more) j (omega (arith, length-append s (r .more)))));
+          }
+
+  -- the byte behind it, which opens a misc
+  opens-misc : (t : List ℕ) → Byte (s ++ t) (i + 1) (getD (s ++ t) (i + 1) 0) → eqb (getD (s ++ t) (i + 1) 0) 0x2F ≡ false → opensMisc (getD (s ++ t) (i + 1) 0) ≡ true → markupAt (s ++ t) inside closed i ≡ miscAhead (s ++ t) i
+  unfolding markupAt
+  opens-misc t h n o = rw (lt-ltb (i + 1) (length (s ++ t)) (h .0), n, o)
+
+  from-markup : markupAt s inside closed i ≡ stoppedAhead Cut → BeginDone s at inside closed
+  unfolding markupAt miscAhead
+  from-markup e = ⊎-elim last behind (le-or-lt (length s) (i + 1))
+    where
+      last : length s ≤ i + 1 → BeginDone s at inside closed
+      last le = by (inside || not closed) refl
+        where
+          w : List ℕ
+          w = 0x3F ∷ 0x61 ∷ 0x3F ∷ 0x3E ∷ []
+
+          by : (o : Bool) → (inside || not closed) ≡ o → BeginDone s at inside closed
+          by true o = from-tag o le
+          by false o =
+              from-misc (record { more = w; few = omega arith; done = λ u. misc-begins s u i (omega arith) })
+              (λ u.
+              let h = byte-in s [] (w ++ u) 0 (i + 1) (omega arith) (omega arith) in
+              opens-misc (w ++ u) (h .0, refl) (rw (h .1)) (rw (h .1)))
+
+      behind : i + 1 < length s → BeginDone s at inside closed
+      behind lt′ = by (eqb b 0x2F) refl (opensMisc b) refl inside (inside || not closed) (rw (lt-ltb (i + 1) (length s) lt′) at e)
+        where
+          b : ℕ
+          b = getD s (i + 1) 0
+
+          misc : eqb b 0x2F ≡ false → opensMisc b ≡ true → (r : Read) → miscEnd s i ≡ r → afterRead stoppedAhead r (λ (j : ℕ). ahead.Misc j) ≡ stoppedAhead Cut → BeginDone s at inside closed
+          misc n o (read.End j) f e = let z : _≡_ {A = ℕ} 0 1 = cc in absurd (omega arith)
+          misc n o (read.Stopped x) f e =
+              let c : read.Stopped x ≡ read.Stopped Cut = cc in
+              let r = misc-completed s i lt′ (f ∙ c) in
+              from-misc r
+              (λ u.
+              let h = byte-kept s (r .more ++ u) (i + 1) lt′ in
+              opens-misc (r .more ++ u) (h .0, refl) (rw (h .1) n) (rw (h .1) o))
+
+          by : (x : Bool) → eqb b 0x2F ≡ x → (y : Bool) → opensMisc b ≡ y → (v w : Bool)
+              → cond x (cond v (ahead.Event (begin.End i)) (stoppedAhead (Bad (i + 1)))) (cond y (afterRead stoppedAhead (miscEnd s i) (λ (j : ℕ). ahead.Misc j)) (cond w (ahead.Event (begin.Start i)) (stoppedAhead (Bad (i + 1))))) ≡ stoppedAhead Cut
+              → BeginDone s at inside closed
+          by true p y q true w f = let z : _≡_ {A = ℕ} 0 1 = cc in absurd (omega arith)
+          by true p y q false w f = let z : _≡_ {A = ℕ} 0 1 = cc in absurd (omega arith)
+          by false p true q v w f = misc p q (miscEnd s i) refl f
+          by false p false q v true f = let z : _≡_ {A = ℕ} 0 1 = cc in absurd (omega arith)
+          by false p false q v false f = let z : _≡_ {A = ℕ} 0 1 = cc in absurd (omega arith)
+
+-- a byte stands at i
+from-byte : (s : List ℕ) (at : ℕ) (inside closed : Bool) (i : ℕ) → i < length s → ((t : List ℕ) → aheadAt (s ++ t) inside closed at ≡ eitherAt (s ++ t) inside closed i) → eitherAt s inside closed i ≡ stoppedAhead Cut → BeginDone s at inside closed
+unfolding eitherAt
+from-byte s at inside closed i lt looks e = by (eqb (getD s i 0) 0x3C) refl inside (rw (lt-ltb i (length s) lt) at e)
   where
-    by : (a b : Bool) → cond a (cond b (begin.End at) (begin.Stopped (Bad (at + 1)))) (begin.Start at) ≡ begin.Stopped Cut → ⊥
-    by true true f = let z : _≡_ {A = ℕ} 0 1 = cc in omega arith
-    by true false f = let z : _≡_ {A = ℕ} 0 1 = cc in omega arith
-    by false b f = let z : _≡_ {A = ℕ} 0 1 = cc in omega arith
+    by : (t : Bool) → eqb (getD s i 0) 0x3C ≡ t → (v : Bool) → cond t (markupAt s inside closed i) (cond v (ahead.Event (begin.Text i)) (stoppedAhead (Bad i))) ≡ stoppedAhead Cut → BeginDone s at inside closed
+    by true q v f = from-markup s at inside closed i lt (eqb-true (getD s i 0) 0x3C q) looks f
+    by false q true f = let z : _≡_ {A = ℕ} 0 1 = cc in absurd (omega arith)
+    by false q false f = let z : _≡_ {A = ℕ} 0 1 = cc in absurd (omega arith)
+
+ahead-completed : (s : List ℕ) (at : ℕ) (inside closed : Bool) → at ≤ length s → aheadAt s inside closed at ≡ stoppedAhead Cut → BeginDone s at inside closed
+unfolding aheadAt
+ahead-completed s at true closed le e = ⊎-elim out (λ lt. from-byte s at true closed at lt (λ t. refl) e) (le-or-lt (length s) at)
+  where
+    out : length s ≤ at → BeginDone s at true closed
+    out h =
+        let here : at ≡ length s = omega arith in
+        from-none s at true closed refl (ap (eitherAt (s ++ (0x3C ∷ 0x61 ∷ 0x3E ∷ [])) true closed) here)
+ahead-completed s at false closed le e = by (spacesEnd s at) refl (spaces-inside s at) e
+  where
+    none : (x : Stop) → spacesEnd s at ≡ read.Stopped x → (c : Bool) → closed ≡ c → ending c x ≡ stoppedAhead Cut → BeginDone s at false closed
+    none x g true q e = let z : _≡_ {A = ℕ} 0 1 = cc in absurd (omega arith)
+    none x g false q e =
+        let c : read.Stopped x ≡ read.Stopped Cut = cc in
+        from-none s at false closed (rw q) (rw (spaces-completed s at le (g ∙ c) 0x3C (0x61 ∷ 0x3E ∷ []) refl))
+
+    by : (r : Read) → spacesEnd s at ≡ r → ReadInside (SpacesTo s at) s at (spacesEnd s at) → afterRead (ending closed) r (λ (i : ℕ). eitherAt s false closed i) ≡ stoppedAhead Cut → BeginDone s at false closed
+    by (read.End i) g in′ e =
+        let to : SpacesTo s at i = subst (ReadInside (SpacesTo s at) s at) g in′ in
+        from-byte s at false closed i (to .1) (λ t. rw (read-so (spacesEnd s at) (spacesEnd (s ++ t) at) i g (spaces-stable s t at))) e
+    by (read.Stopped x) g in′ e = none x g closed refl e
 
 pub begin-completed : (s : List ℕ) (at : ℕ) (inside closed : Bool) → at ≤ length s → beginAt s at inside closed ≡ begin.Stopped Cut → BeginDone s at inside closed
-unfolding beginAt beginInside beginOutside
-begin-completed s at true closed le e = ⊎-elim (λ out. from-none s at true closed at (omega arith) (begins (0x3C ∷ 0x61 ∷ 0x3E ∷ []))) within′ (le-or-lt (length s) at)
+begin-completed s at inside closed le e =
+    begin-held s inside closed (λ (i : ℕ) (b : Begin). b ≡ begin.Stopped Cut → i ≤ length s → BeginDone s i inside closed)
+    (λ i b f q h. ahead-completed s i inside closed h (f ∙ ap ahead.Event q))
+    (λ i j b f to d q h. behind i j f (d q (to .1)))
+    at
+    e
+    le
   where
-    begins : (w : List ℕ) → Byte (s ++ w) at 0x3C → Byte (s ++ w) (at + 1) 0x61 → beginAt (s ++ w) at true closed ≡ begin.Start at
-    begins w h k = rw (lt-ltb at (length (s ++ w)) (h .0), h .1) (tag-begins (s ++ w) true at k)
-
-    byte : at < length s → (t : Bool) → eqb (getD s at 0) 0x3C ≡ t → cond t (tagBegins s true at) (begin.Text at) ≡ begin.Stopped Cut → BeginDone s at true closed
-    byte lt true q f = from-tag s at true closed at lt (eqb-true (getD s at 0) 0x3C q) (tag-cut s true at f) (begins (0x61 ∷ 0x3E ∷ []))
-    byte lt false q f = let z : _≡_ {A = ℕ} 0 1 = cc in absurd (omega arith)
-
-    within′ : at < length s → BeginDone s at true closed
-    within′ lt = byte lt (eqb (getD s at 0) 0x3C) refl (rw (lt-ltb at (length s) lt) at e)
-begin-completed s at false true le e = by (spacesEnd s at) (spaces-inside s at) e
-  where
-    by : (r : Read) → ReadInside (SpacesTo s at) s at r → afterRead (ending true) r (λ (i : ℕ). beginOutside s i true) ≡ begin.Stopped Cut → BeginDone s at false true
-    by (read.Stopped x) to e = let z : _≡_ {A = ℕ} 0 1 = cc in absurd (omega arith)
-    by (read.End i) to e =
-        let f : begin.Stopped (Bad i) ≡ begin.Stopped Cut = rw (lt-ltb i (length s) (to .1)) at e in
-        let z : _≡_ {A = ℕ} 0 1 = cc in
-        absurd (omega arith)
-begin-completed s at false false le e = by (spacesEnd s at) refl (spaces-inside s at) e
-  where
-    begins : (w : List ℕ) (i : ℕ) → spacesEnd (s ++ w) at ≡ read.End i → Byte (s ++ w) i 0x3C → Byte (s ++ w) (i + 1) 0x61 → beginAt (s ++ w) at false false ≡ begin.Start i
-    begins w i g h k = rw (g, lt-ltb i (length (s ++ w)) (h .0), h .1) (tag-begins (s ++ w) false i k)
-
-    byte : (i : ℕ) → i < length s → spacesEnd s at ≡ read.End i → (t : Bool) → eqb (getD s i 0) 0x3C ≡ t → cond t (tagBegins s false i) (begin.Stopped (Bad i)) ≡ begin.Stopped Cut → BeginDone s at false false
-    byte i lt g true q f =
-        let w : List ℕ = 0x61 ∷ 0x3E ∷ [] in
-        from-tag s at false false i lt (eqb-true (getD s i 0) 0x3C q) (tag-cut s false i f) (begins w i (read-so (spacesEnd s at) (spacesEnd (s ++ w) at) i g (spaces-stable s w at)))
-    byte i lt g false q f = let z : _≡_ {A = ℕ} 0 1 = cc in absurd (omega arith)
-
-    by : (r : Read) → spacesEnd s at ≡ r → ReadInside (SpacesTo s at) s at r → afterRead (ending false) r (λ (i : ℕ). beginOutside s i false) ≡ begin.Stopped Cut → BeginDone s at false false
-    by (read.Stopped x) g to e =
-        let c : read.Stopped x ≡ read.Stopped Cut = cc in
-        from-none s at false false (length s) refl (begins (0x3C ∷ 0x61 ∷ 0x3E ∷ []) (length s) (spaces-completed s at le (g ∙ c) 0x3C (0x61 ∷ 0x3E ∷ []) refl))
-    by (read.End i) g to e = byte i (to .1) g (eqb (getD s i 0) 0x3C) refl (rw (lt-ltb i (length s) (to .1)) at e)
-
--- ---- the reader: an event, or a number that is said of a whole tag
-abbrev pub Whole : scene.Next → Type 0
-Whole (scene.event e z) = Unit {0}
-Whole (scene.refusal n p) = 4 ≤ n
-Whole (scene.finished p) = ⊥
-
-module _ (z : scene.ReaderState) where
-  tagged-whole : (s : List ℕ) (at : ℕ) (os : List scene.Open) (r : TagRead) (a : Tagged) → IsTag a → Whole (scene.startRead s at os r a)
-  tagged-whole s at os r (tagged.Stopped x) h = absurd h
-  tagged-whole s at os r (tagged.Got t) h = by (meaningOf s (scene.bindingsOf os) (t .name) (r .attrs)) (meaning-number s (scene.bindingsOf os) (t .name) (r .attrs))
-    where
-      by : (m : Meaning) → MeaningNumber m → Whole (scene.startMeant at os t m)
-      by (refused k) h = omega arith
-      by (meant x as′ own) h = tt
-
-  ended-whole : (s : List ℕ) (at : ℕ) (o : scene.Open) (os : List scene.Open) (r : Ended) → IsEnd r → Whole (scene.endRead s at (o ∷ os) r)
-  ended-whole s at o os (ended.Stopped x) h = absurd h
-  ended-whole s at o os (ended.Got t) h = holds-cond Whole (sameList (bytesOf s (wholeSpan (t .name))) (bytesOf s (o .name))) (λ q. tt) (λ q. omega arith)
-
-  -- what is whole is no 1
-  not-cut : (x : scene.Next) → Whole x → (p : ℕ) → x ≡ scene.refusal 1 p → ⊥
-  not-cut x h p e = let k : 4 ≤ 1 = subst Whole e h in omega arith
-
-module _ (s : List ℕ) (z : scene.ReaderState) (h : z .place ≤ length s) (p : ℕ) where
-  text-completed : (at : ℕ) → at ≤ length s → scene.textRead s z at (textEnd s at) ≡ scene.refusal 1 p → Done s (λ (S : List ℕ). Whole (scene.textRead S z at (textEnd S at)))
-  text-completed at le e = by (textEnd s at) refl e
-    where
-      by : (r : Read) → textEnd s at ≡ r → scene.textRead s z at r ≡ scene.refusal 1 p → Done s (λ (S : List ℕ). Whole (scene.textRead S z at (textEnd S at)))
-      by (read.End j) f e = let y : _≡_ {A = ℕ} 0 1 = cc in absurd (omega arith)
-      by (read.Stopped (Bad j)) f e = let y : _≡_ {A = ℕ} 2 1 = cc in absurd (omega arith)
-      by (read.Stopped (Long j)) f e = let y : _≡_ {A = ℕ} 3 1 = cc in absurd (omega arith)
-      by (read.Stopped Cut) f e =
-          let v = value-completed s 0x3C at le f in
-          record {
-            more = v .more ++ (0x3C ∷ []);
-            few = omega (arith, length-append (v .more) (0x3C ∷ []), v .few);
-            done = rw (v .done []) tt;
-          }
-
-  end-completed : (at : ℕ) → at + 2 ≤ length s → (os : List scene.Open) → scene.endRead s at os (endTagAt s (at + 2)) ≡ scene.refusal 1 p → Done s (λ (S : List ℕ). Whole (scene.endRead S at os (endTagAt S (at + 2))))
-  end-completed at le [] e = let y : _≡_ {A = ℕ} 2 1 = cc in absurd (omega arith)
-  end-completed at le (o ∷ os) e = by (endTagAt s (at + 2)) refl e
-    where
-      by : (r : Ended) → endTagAt s (at + 2) ≡ r → scene.endRead s at (o ∷ os) r ≡ scene.refusal 1 p → Done s (λ (S : List ℕ). Whole (scene.endRead S at (o ∷ os) (endTagAt S (at + 2))))
-      by (ended.Got t) f e = absurd (not-cut z (scene.endRead s at (o ∷ os) (ended.Got t)) (ended-whole z s at o os (ended.Got t) tt) p e)
-      by (ended.Stopped (Bad j)) f e = let y : _≡_ {A = ℕ} 2 1 = cc in absurd (omega arith)
-      by (ended.Stopped (Long j)) f e = let y : _≡_ {A = ℕ} 3 1 = cc in absurd (omega arith)
-      by (ended.Stopped Cut) f e =
-          let d = endTag-completed s (at + 2) le f in
-          record { more = d .more; few = d .few; done = ended-whole z (s ++ d .more) at o os (endTagAt (s ++ d .more) (at + 2)) (d .done) }
-
-  start-completed : (at : ℕ) → at + 1 ≤ length s → (os : List scene.Open) → scene.startRead s at os (tagAt s (at + 1)) (tagAt s (at + 1) .answer) ≡ scene.refusal 1 p
-      → Done s (λ (S : List ℕ). Whole (scene.startRead S at os (tagAt S (at + 1)) (tagAt S (at + 1) .answer)))
-  start-completed at le os e = by (tagAt s (at + 1) .answer) refl e
-    where
-      by : (a : Tagged) → tagAt s (at + 1) .answer ≡ a → scene.startRead s at os (tagAt s (at + 1)) a ≡ scene.refusal 1 p → Done s (λ (S : List ℕ). Whole (scene.startRead S at os (tagAt S (at + 1)) (tagAt S (at + 1) .answer)))
-      by (tagged.Got t) f e = absurd (not-cut z (scene.startRead s at os (tagAt s (at + 1)) (tagged.Got t)) (tagged-whole z s at os (tagAt s (at + 1)) (tagged.Got t) tt) p e)
-      by (tagged.Stopped (Bad j)) f e = let y : _≡_ {A = ℕ} 2 1 = cc in absurd (omega arith)
-      by (tagged.Stopped (Long j)) f e = let y : _≡_ {A = ℕ} 3 1 = cc in absurd (omega arith)
-      by (tagged.Stopped Cut) f e =
-          let d = tag-completed s (at + 1) le f in
-          record { more = d .more; few = d .few; done = tagged-whole z (s ++ d .more) at os (tagAt (s ++ d .more) (at + 1)) (tagAt (s ++ d .more) (at + 1) .answer) (d .done) }
-
-  begun-completed : (inside : Bool) → scene.begun s z (beginAt s (z .place) inside (z .closed)) ≡ scene.refusal 1 p → Done s (λ (S : List ℕ). Whole (scene.begun S z (beginAt S (z .place) inside (z .closed))))
-  begun-completed inside e = by (beginAt s (z .place) inside (z .closed)) refl (begin-inside s (z .place) inside (z .closed)) e
-    where
-      so : (b : Begin) → beginAt s (z .place) inside (z .closed) ≡ b → (CutBegin b → ⊥) → (t : List ℕ) → beginAt (s ++ t) (z .place) inside (z .closed) ≡ b
-      so b f n t = begin-stable s t (z .place) inside (z .closed) (λ c. n (subst CutBegin f c)) ∙ f
-
-      Goal : Type 0
-      Goal = Done s (λ (S : List ℕ). Whole (scene.begun S z (beginAt S (z .place) inside (z .closed))))
-
-      by : (b : Begin) → beginAt s (z .place) inside (z .closed) ≡ b → BeginInside s (z .place) inside (z .closed) (beginAt s (z .place) inside (z .closed)) → scene.begun s z b ≡ scene.refusal 1 p → Goal
-      by (begin.Stopped (Bad j)) f i e = let y : _≡_ {A = ℕ} 2 1 = cc in absurd (omega arith)
-      by (begin.Stopped (Long j)) f i e = let y : _≡_ {A = ℕ} 3 1 = cc in absurd (omega arith)
-      by (begin.Stopped Cut) f i e =
-          let d = begin-completed s (z .place) inside (z .closed) h f in
-          let S = s ++ d .more in
-          record {
-            more = d .more;
-            few = omega (arith, d .few);
-            done = rw (d .begins) (tagged-whole z S (d .place) (z .opened) (tagAt S (d .place + 1)) (tagAt S (d .place + 1) .answer) (d .tag));
-          }
-      by begin.Finished f i e = let y : _≡_ {A = ℕ} 0 1 = cc in absurd (omega arith)
-      by (begin.Text at) f i e =
-          let to : BeginInside s (z .place) inside (z .closed) (begin.Text at) = subst (BeginInside s (z .place) inside (z .closed)) f i in
-          let d = text-completed at (omega (arith, to .1)) e in
-          record { more = d .more; few = d .few; done = rw (so (begin.Text at) f (⊎-elim (λ q. let y : _≡_ {A = ℕ} 0 1 = cc in omega arith) (λ q. let y : _≡_ {A = ℕ} 0 1 = cc in omega arith)) (d .more)) (d .done) }
-      by (begin.End at) f i e =
-          let to : BeginInside s (z .place) inside (z .closed) (begin.End at) = subst (BeginInside s (z .place) inside (z .closed)) f i in
-          let d = end-completed at (omega (arith, to .1)) (z .opened) e in
-          record { more = d .more; few = d .few; done = rw (so (begin.End at) f (⊎-elim (λ q. let y : _≡_ {A = ℕ} 0 1 = cc in omega arith) (λ q. let y : _≡_ {A = ℕ} 0 1 = cc in omega arith)) (d .more)) (d .done) }
-      by (begin.Start at) f i e =
-          let to : BeginInside s (z .place) inside (z .closed) (begin.Start at) = subst (BeginInside s (z .place) inside (z .closed)) f i in
-          let d = start-completed at (omega (arith, to .1)) (z .opened) e in
-          record { more = d .more; few = d .few; done = rw (so (begin.Start at) f (⊎-elim (λ q. let y : _≡_ {A = ℕ} 0 1 = cc in omega arith) (λ q. let y : _≡_ {A = ℕ} 0 1 = cc in omega arith)) (d .more)) (d .done) }
-
-  -- a scene that ends too soon, completed
-  pub next-completed : scene.next s z ≡ scene.refusal 1 p → Done s (λ (S : List ℕ). Whole (scene.next S z))
-  unfolding scene.next
-  next-completed e = by (z .awaited) (z .opened) e
-    where
-      by : (a : Bool) (os : List scene.Open) → scene.nextBy s z a os ≡ scene.refusal 1 p → Done s (λ (S : List ℕ). Whole (scene.nextBy S z a os))
-      by true (o ∷ os) e = let y : _≡_ {A = ℕ} 0 1 = cc in absurd (omega arith)
-      by true [] e = begun-completed false e
-      by false os e = begun-completed (not (scene.isNil os)) e
+    behind : (i j : ℕ) → aheadAt s inside closed i ≡ ahead.Misc j → BeginDone s j inside closed → BeginDone s i inside closed
+    behind i j f d =
+        let same : aheadAt (s ++ d .more) inside closed i ≡ ahead.Misc j = ahead-stable s (d .more) inside closed i (λ c. whole (subst CutAhead f c)) ∙ f in
+        record { more = d .more; few = d .few; begins = begins-behind (s ++ d .more) inside closed i j same (d .begins) }
+      where
+        whole : CutAhead (ahead.Misc j) → ⊥
+        whole = ⊎-elim (λ q. let z : _≡_ {A = ℕ} 0 1 = cc in omega arith) (λ q. let z : _≡_ {A = ℕ} 0 1 = cc in omega arith)

@@ -6,7 +6,6 @@ use Prim.Native.Nat.{ℕ, zero, suc, _+_, _-_, _≤_, _<_}
 use mathlib.Core.Path.{_≡_, refl, sym, ap, subst, _∙_}
 use mathlib.Core.List.{List, [], _∷_, _++_, append-assoc}
 use mathlib.Core.Bool.{Bool, true, false, cond}
-use mathlib.Core.Option.{none}
 use mathlib.Core.Logic.{_⊎_, inl, inr}
 use native.Mathlib.Omega.{arith}
 use native.Mathlib.Nat.{add-zero}
@@ -19,7 +18,7 @@ use Rattle.laws.specs.Members.{In}
 use Rattle.laws.proofs.Holds.{holds-cond, Turned}
 use Rattle.lexer.specs.Stops.{afterRead}
 use Rattle.lexer.specs.Names.{isSpace, spaceStep, spacesEnd, isStart, isName, startLen, nameLen, partStep, partEnd, nameOf, prefixedAt, nameAt}
-use Rattle.lexer.specs.Values.{references, common, wholeOf, furthest, noReference, referenceEnd, isText, referred, valueStep, valueEnd}
+use Rattle.lexer.specs.Values.{references, common, wholeOf, furthest, noReference, referenceEnd, isText, referred, closes, valueStep, valueFrom, valueEnd}
 use Rattle.lexer.specs.declared.Stop.the-variants.{Bad, Long, Cut}
 use Rattle.lexer.specs.declared.Read.{Read}
 use Rattle.lexer.specs.declared.Read.the-variants as read
@@ -28,7 +27,7 @@ use Rattle.lexer.specs.declared.Named.{Named}
 use Rattle.lexer.specs.declared.Named.the-variants as named
 use Rattle.lexer.proofs.Inside.{ReadInside, PartTo, part-inside}
 use Rattle.lexer.proofs.Common.{common-none, common-few}
-use Rattle.lexer.proofs.ValueLaws.{Within, ReferenceTo, reference-inside, reference-stable}
+use Rattle.lexer.proofs.ValueLaws.{Within, ReferenceTo, reference-inside, reference-stable, closes-kept}
 use Rattle.lexer.proofs.Stable.{start-stable, nameLen-stable, part-stable}
 
 -- ---- a byte of a scene
@@ -56,14 +55,14 @@ module _ {St Out : Type 0} (cut : Out) where
       (keeps : (q q′ : St) (i : ℕ) → i < length s → J q i → step s q (getD s i 0) i ≡ go q′ → J q′ (i + 1))
       (agree : (t : List ℕ) (q : St) (i : ℕ) → i < length s → Stable (stop cut) (step s q (getD s i 0) i) (step (s ++ t) q (getD s i 0) i)) where
     -- a scene that is cut: the state at its end, or at a byte where the machine stops with `cut`
-    record Reached (q : St) (i : ℕ) : Type 0 where
-      state : St
-      place : ℕ
-      kept : J state place
-      same : (t : List ℕ) → run cut (step (s ++ t)) q (drop i (s ++ t)) i ≡ run cut (step (s ++ t)) state (drop place (s ++ t)) place
-      ends : (place ≡ length s) ⊎ ((place < length s) × (step s state (getD s place 0) place ≡ stop cut))
+    pub record Reached (q : St) (i : ℕ) : Type 0 where
+      pub state : St
+      pub place : ℕ
+      pub kept : J state place
+      pub same : (t : List ℕ) → run cut (step (s ++ t)) q (drop i (s ++ t)) i ≡ run cut (step (s ++ t)) state (drop place (s ++ t)) place
+      pub ends : (place ≡ length s) ⊎ ((place < length s) × (step s state (getD s place 0) place ≡ stop cut))
 
-    reaches : (l : List ℕ) (q : St) (i : ℕ) → drop i s ≡ l → i ≤ length s → J q i → run cut (step s) q l i ≡ cut → Reached q i
+    pub reaches : (l : List ℕ) (q : St) (i : ℕ) → drop i s ≡ l → i ≤ length s → J q i → run cut (step s) q l i ≡ cut → Reached q i
     unfolding run
     reaches [] q i d le j e = record { state = q; place = i; kept = j; same = λ t. refl; ends = inl (omega (arith, ap length d, length-drop i s)) }
     reaches (b ∷ l) q i d le j e =
@@ -129,6 +128,9 @@ part-stops s room i b r h n = run-byte (read.Stopped Cut) (partStep s) s room i 
 
 pub part-begins : (s : List ℕ) (room i b : ℕ) → eqb room 64 ≡ true → Byte s i b → isStart b ≡ true → run (read.Stopped Cut) (partStep s) room (drop i s) i ≡ run (read.Stopped Cut) (partStep s) 63 (drop (i + 1) s) (i + 1)
 part-begins s room i b r h n = run-byte (read.Stopped Cut) (partStep s) s room i b h ∙ rw (r, start-byte s i b h, n)
+
+pub part-goes : (s : List ℕ) (room i b : ℕ) → eqb room 64 ≡ false → eqb room 0 ≡ false → Byte s i b → isName b ≡ true → run (read.Stopped Cut) (partStep s) room (drop i s) i ≡ run (read.Stopped Cut) (partStep s) (room - 1) (drop (i + 1) s) (i + 1)
+part-goes s room i b r z h n = run-byte (read.Stopped Cut) (partStep s) s room i b h ∙ rw (r, name-byte s i b h, n, z)
 
 -- the byte a where a part has none yet
 pub record PartDone (s : List ℕ) (at : ℕ) : Type 0 where
@@ -298,34 +300,35 @@ reference-few w (inr (inr (inr (inl q)))) = rw q (omega arith)
 reference-few w (inr (inr (inr (inr (inl q))))) = rw q (omega arith)
 
 -- ---- a value
-value-stops : (s : List ℕ) (quote i : ℕ) → Byte s i quote → run (read.Stopped Cut) (valueStep s quote) 0 (drop i s) i ≡ read.End i
-value-stops s quote i h = run-byte (read.Stopped Cut) (valueStep s quote) s 0 i quote h ∙ rw (eq-eqb quote quote refl)
+value-stops : (s : List ℕ) (at quote i : ℕ) → Byte s i quote → run (read.Stopped Cut) (valueStep s at quote) 0 (drop i s) i ≡ read.End i
+value-stops s at quote i h = run-byte (read.Stopped Cut) (valueStep s at quote) s 0 i quote h ∙ rw (eq-eqb quote quote refl)
 
 pub value-here : (s : List ℕ) (quote at : ℕ) → Byte s at quote → valueEnd s at quote ≡ read.End at
-unfolding valueEnd
-value-here s quote at h = value-stops s quote at h
+unfolding valueFrom
+value-here s quote at h = value-stops s at quote at h
 
-skips : (s : List ℕ) (quote k i : ℕ) → i + k ≤ length s → run (read.Stopped Cut) (valueStep s quote) k (drop i s) i ≡ run (read.Stopped Cut) (valueStep s quote) 0 (drop (i + k) s) (i + k)
-skips s quote zero i h = rw add-zero
-skips s quote (suc k) i h =
+skips : (s : List ℕ) (at quote k i : ℕ) → i + k ≤ length s → run (read.Stopped Cut) (valueStep s at quote) k (drop i s) i ≡ run (read.Stopped Cut) (valueStep s at quote) 0 (drop (i + k) s) (i + k)
+skips s at quote zero i h = rw add-zero
+skips s at quote (suc k) i h =
     let e : i + suc k ≡ i + 1 + k = omega arith in
     let d : suc k - 1 ≡ k = omega arith in
-    run-byte (read.Stopped Cut) (valueStep s quote) s (suc k) i (getD s i 0) (omega arith, refl)
-    ∙ rw (ne-eqb (suc k) 0 (λ z. omega arith), d, e) (skips s quote k (i + 1) (omega arith))
+    run-byte (read.Stopped Cut) (valueStep s at quote) s (suc k) i (getD s i 0) (omega arith, refl)
+    ∙ rw (ne-eqb (suc k) 0 (λ z. omega arith), d, e) (skips s at quote k (i + 1) (omega arith))
 
 pub record ValueDone (s : List ℕ) (at quote : ℕ) : Type 0 where
   pub more : List ℕ
   pub few : length more ≤ 5
   pub done : (u : List ℕ) → valueEnd (s ++ (more ++ (quote ∷ u))) at quote ≡ read.End (length s + length more)
 
-module _ (s : List ℕ) (quote : ℕ) where
+module _ (s : List ℕ) (quote at : ℕ) where
   -- a reference that is passed over ends inside the scene
-  left-inside : (left i : ℕ) → i < length s → i + left ≤ length s → Turned (λ (q : ℕ). i + 1 + q ≤ length s) (λ (o : Read). Unit {0}) (valueStep s quote left (getD s i 0) i)
+  left-inside : (left i : ℕ) → i < length s → i + left ≤ length s → Turned (λ (q : ℕ). i + 1 + q ≤ length s) (λ (o : Read). Unit {0}) (valueStep s at quote left (getD s i 0) i)
   left-inside left i lt j =
       holds-cond T (eqb left 0)
       (λ z. holds-cond T (eqb b quote) (λ e. tt)
       (λ e. holds-cond T (eqb b 0x26) (λ e. passed (referenceEnd s i) (reference-inside s i))
-      (λ e. holds-cond T (isText b) (λ e. omega arith) (λ e. tt))))
+      (λ e. holds-cond T (closes s at quote b i) (λ e. tt)
+      (λ e. holds-cond T (isText b) (λ e. omega arith) (λ e. tt)))))
       (λ z. omega (arith, eqb-false left 0 z))
     where
       T : RunNext ℕ Read → Type 0
@@ -338,93 +341,93 @@ module _ (s : List ℕ) (quote : ℕ) where
       passed (read.End k) w = omega arith
       passed (read.Stopped x) w = tt
 
-  value-agrees : (t : List ℕ) (left i : ℕ) → i < length s → Stable (stop (read.Stopped Cut)) (valueStep s quote left (getD s i 0) i) (valueStep (s ++ t) quote left (getD s i 0) i)
+  value-agrees : (t : List ℕ) (left i : ℕ) → i < length s → Stable (stop (read.Stopped Cut)) (valueStep s at quote left (getD s i 0) i) (valueStep (s ++ t) at quote left (getD s i 0) i)
   value-agrees t left i lt =
       stable-cond c (eqb left 0)
       (stable-cond c (eqb (getD s i 0) quote) (stable-same c (stop (read.End i)))
       (stable-cond c (eqb (getD s i 0) 0x26) (stable-bind (read.Stopped Cut) c (referred i) (referred i) refl (λ (r : Read). stable-same c (referred i r)) (referenceEnd s i) (referenceEnd (s ++ t) i) (reference-stable s t i))
-      (stable-same c (cond (isText (getD s i 0)) (go 0) (stop (read.Stopped (Bad i)))))))
+      (rw (closes-kept s t at quote (getD s i 0) i lt) (stable-same c (cond (closes s at quote (getD s i 0) i) (stop (read.Stopped (Bad (i - 2)))) (cond (isText (getD s i 0)) (go 0) (stop (read.Stopped (Bad i)))))))))
       (stable-same c (go (left - 1)))
     where
       c : RunNext ℕ Read
       c = stop (read.Stopped Cut)
 
   -- a machine that stops with `cut` stands at an & that begins no whole reference
-  stops-cut : (left i : ℕ) → valueStep s quote left (getD s i 0) i ≡ stop (read.Stopped Cut) → (left ≡ 0) × (eqb (getD s i 0) quote ≡ false) × (eqb (getD s i 0) 0x26 ≡ true) × (referenceEnd s i ≡ read.Stopped Cut)
-  stops-cut left i e = by (eqb left 0) refl (eqb (getD s i 0) quote) refl (eqb (getD s i 0) 0x26) refl (referenceEnd s i) refl (isText (getD s i 0)) e
+  stops-cut : (left i : ℕ) → valueStep s at quote left (getD s i 0) i ≡ stop (read.Stopped Cut) → (left ≡ 0) × (eqb (getD s i 0) quote ≡ false) × (eqb (getD s i 0) 0x26 ≡ true) × (referenceEnd s i ≡ read.Stopped Cut)
+  stops-cut left i e = by (eqb left 0) refl (eqb (getD s i 0) quote) refl (eqb (getD s i 0) 0x26) refl (referenceEnd s i) refl (closes s at quote (getD s i 0) i) (isText (getD s i 0)) e
     where
-      by : (a : Bool) → eqb left 0 ≡ a → (b : Bool) → eqb (getD s i 0) quote ≡ b → (c : Bool) → eqb (getD s i 0) 0x26 ≡ c → (r : Read) → referenceEnd s i ≡ r → (d : Bool)
-          → cond a (cond b (stop (read.End i)) (cond c (referred i r) (cond d (go 0) (stop (read.Stopped (Bad i)))))) (go (left - 1)) ≡ stop (read.Stopped Cut)
+      by : (a : Bool) → eqb left 0 ≡ a → (b : Bool) → eqb (getD s i 0) quote ≡ b → (c : Bool) → eqb (getD s i 0) 0x26 ≡ c → (r : Read) → referenceEnd s i ≡ r → (x d : Bool)
+          → cond a (cond b (stop (read.End i)) (cond c (referred i r) (cond x (stop (read.Stopped (Bad (i - 2)))) (cond d (go 0) (stop (read.Stopped (Bad i))))))) (go (left - 1)) ≡ stop (read.Stopped Cut)
           → (left ≡ 0) × (eqb (getD s i 0) quote ≡ false) × (eqb (getD s i 0) 0x26 ≡ true) × (referenceEnd s i ≡ read.Stopped Cut)
-      by false p b q c k r f d e = let z : _≡_ {A = ℕ} 0 1 = cc in absurd (omega arith)
-      by true p true q c k r f d e = let z : _≡_ {A = ℕ} 0 1 = cc in absurd (omega arith)
-      by true p false q false k r f true e = let z : _≡_ {A = ℕ} 0 1 = cc in absurd (omega arith)
-      by true p false q false k r f false e = let z : _≡_ {A = ℕ} 0 1 = cc in absurd (omega arith)
-      by true p false q true k (read.End j) f d e = let z : _≡_ {A = ℕ} 0 1 = cc in absurd (omega arith)
-      by true p false q true k (read.Stopped x) f d e = let c : read.Stopped x ≡ read.Stopped Cut = cc in (eqb-true left 0 p, q, k, f ∙ c)
+      by false p b q c k r f x d e = let z : _≡_ {A = ℕ} 0 1 = cc in absurd (omega arith)
+      by true p true q c k r f x d e = let z : _≡_ {A = ℕ} 0 1 = cc in absurd (omega arith)
+      by true p false q false k r f true d e = let z : _≡_ {A = ℕ} 0 1 = cc in absurd (omega arith)
+      by true p false q false k r f false true e = let z : _≡_ {A = ℕ} 0 1 = cc in absurd (omega arith)
+      by true p false q false k r f false false e = let z : _≡_ {A = ℕ} 0 1 = cc in absurd (omega arith)
+      by true p false q true k (read.End j) f x d e = let z : _≡_ {A = ℕ} 0 1 = cc in absurd (omega arith)
+      by true p false q true k (read.Stopped y) f x d e = let c : read.Stopped y ≡ read.Stopped Cut = cc in (eqb-true left 0 p, q, k, f ∙ c)
 
-  module _ (at : ℕ) where
-    Same : ℕ → ℕ → Type 0
-    Same left i = (t : List ℕ) → valueEnd (s ++ t) at quote ≡ run (read.Stopped Cut) (valueStep (s ++ t) quote) left (drop i (s ++ t)) i
+  Same : ℕ → ℕ → Type 0
+  Same left i = (t : List ℕ) → valueEnd (s ++ t) at quote ≡ run (read.Stopped Cut) (valueStep (s ++ t) at quote) left (drop i (s ++ t)) i
 
-    at-end : (left i : ℕ) → Same left i → i + left ≤ length s → i ≡ length s → ValueDone s at quote
-    unfolding Same
-    at-end left i same j f =
-        record {
-          more = [];
-          few = omega arith;
-          done =
-              λ u.
-              let none : left ≡ 0 = omega arith in
-              same (quote ∷ u)
-              ∙ ap (λ (k : ℕ). run (read.Stopped Cut) (valueStep (s ++ (quote ∷ u)) quote) k (drop i (s ++ (quote ∷ u))) i) none
-              ∙ value-stops (s ++ (quote ∷ u)) quote i (byte-in s [] (quote ∷ u) 0 i (omega arith) (omega arith))
-              ∙ ap read.End (omega arith);
-        }
+  at-end : (left i : ℕ) → Same left i → i + left ≤ length s → i ≡ length s → ValueDone s at quote
+  unfolding Same
+  at-end left i same j f =
+      record {
+        more = [];
+        few = omega arith;
+        done =
+            λ u.
+            let none : left ≡ 0 = omega arith in
+            same (quote ∷ u)
+            ∙ ap (λ (k : ℕ). run (read.Stopped Cut) (valueStep (s ++ (quote ∷ u)) at quote) k (drop i (s ++ (quote ∷ u))) i) none
+            ∙ value-stops (s ++ (quote ∷ u)) at quote i (byte-in s [] (quote ∷ u) 0 i (omega arith) (omega arith))
+            ∙ ap read.End (omega arith);
+      }
 
-    in-reference : (i : ℕ) → Same 0 i → i < length s → eqb (getD s i 0) quote ≡ false → eqb (getD s i 0) 0x26 ≡ true → (rest : List ℕ) → In (drop i s ++ rest) references → ValueDone s at quote
-    unfolding Same
-    in-reference i same lt nq amp rest m =
-        let size = length-append (drop i s) rest in
-        let few = reference-few (drop i s ++ rest) m in
-        record {
-          more = rest;
-          few = omega (arith, length-drop i s);
-          done =
-              λ u.
-              let S = s ++ (rest ++ (quote ∷ u)) in
-              let here = byte-kept s (rest ++ (quote ∷ u)) i lt in
-              let split : drop i S ≡ (drop i s ++ rest) ++ (quote ∷ u) = drop-append-le i s (rest ++ (quote ∷ u)) (omega arith) ∙ sym (append-assoc (drop i s) rest (quote ∷ u)) in
-              let whole : referenceEnd S i ≡ read.End (i + length (drop i s ++ rest)) = stands S (drop i s ++ rest) (quote ∷ u) i m split in
-              let left : ℕ = i + length (drop i s ++ rest) - (i + 1) in
-              let long : length S ≡ length s + (length rest + suc (length u)) = simp length-append in
-              let last : i + 1 + left ≡ length s + length rest = omega (arith, length-drop i s) in
-              same (rest ++ (quote ∷ u))
-              ∙ run-byte (read.Stopped Cut) (valueStep S quote) S 0 i (getD s i 0) here
-              ∙ rw (nq, amp, whole) (skips S quote left (i + 1) (omega arith))
-              ∙ value-stops S quote (i + 1 + left) (byte-in s rest (quote ∷ u) 0 (i + 1 + left) (omega arith) (omega arith))
-              ∙ ap read.End last;
-        }
+  in-reference : (i : ℕ) → Same 0 i → i < length s → eqb (getD s i 0) quote ≡ false → eqb (getD s i 0) 0x26 ≡ true → (rest : List ℕ) → In (drop i s ++ rest) references → ValueDone s at quote
+  unfolding Same
+  in-reference i same lt nq amp rest m =
+      let size = length-append (drop i s) rest in
+      let few = reference-few (drop i s ++ rest) m in
+      record {
+        more = rest;
+        few = omega (arith, length-drop i s);
+        done =
+            λ u.
+            let S = s ++ (rest ++ (quote ∷ u)) in
+            let here = byte-kept s (rest ++ (quote ∷ u)) i lt in
+            let split : drop i S ≡ (drop i s ++ rest) ++ (quote ∷ u) = drop-append-le i s (rest ++ (quote ∷ u)) (omega arith) ∙ sym (append-assoc (drop i s) rest (quote ∷ u)) in
+            let whole : referenceEnd S i ≡ read.End (i + length (drop i s ++ rest)) = stands S (drop i s ++ rest) (quote ∷ u) i m split in
+            let left : ℕ = i + length (drop i s ++ rest) - (i + 1) in
+            let long : length S ≡ length s + (length rest + suc (length u)) = simp length-append in
+            let last : i + 1 + left ≡ length s + length rest = omega (arith, length-drop i s) in
+            same (rest ++ (quote ∷ u))
+            ∙ run-byte (read.Stopped Cut) (valueStep S at quote) S 0 i (getD s i 0) here
+            ∙ rw (nq, amp, whole) (skips S at quote left (i + 1) (omega arith))
+            ∙ value-stops S at quote (i + 1 + left) (byte-in s rest (quote ∷ u) 0 (i + 1 + left) (omega arith) (omega arith))
+            ∙ ap read.End last;
+      }
 
-    pub value-completed : at ≤ length s → valueEnd s at quote ≡ read.Stopped Cut → ValueDone s at quote
-    unfolding valueEnd Same
-    value-completed le e =
-        let r =
-        reaches (read.Stopped Cut) (λ (l : List ℕ). valueStep l quote) s (λ (q i : ℕ). i + q ≤ length s)
-        (λ q q′ i lt j f. subst (Turned (λ (k : ℕ). i + 1 + k ≤ length s) (λ (o : Read). Unit {0})) f (left-inside q i lt j))
-        value-agrees
-        (drop at s)
-        0
-        at
-        refl
-        le
-        (omega arith)
-        e in
-        by (r .state) (r .place) (r .kept) (r .same) (r .ends)
-      where
-        by : (left i : ℕ) → i + left ≤ length s → Same left i → (i ≡ length s) ⊎ ((i < length s) × (valueStep s quote left (getD s i 0) i ≡ stop (read.Stopped Cut))) → ValueDone s at quote
-        by left i j same (inl f) = at-end left i same j f
-        by left i j same (inr h) =
-            let c = stops-cut left i (h .1) in
-            let r = reference-rest s i (h .0) (c .3) in
-            in-reference i (subst (λ (k : ℕ). Same k i) (c .0) same) (h .0) (c .1) (c .2) (r .0) (r .1)
+  pub value-completed : at ≤ length s → valueEnd s at quote ≡ read.Stopped Cut → ValueDone s at quote
+  unfolding valueFrom Same
+  value-completed le e =
+      let r =
+      reaches (read.Stopped Cut) (λ (l : List ℕ). valueStep l at quote) s (λ (q i : ℕ). i + q ≤ length s)
+      (λ q q′ i lt j f. subst (Turned (λ (k : ℕ). i + 1 + k ≤ length s) (λ (o : Read). Unit {0})) f (left-inside q i lt j))
+      value-agrees
+      (drop at s)
+      0
+      at
+      refl
+      le
+      (omega arith)
+      e in
+      by (r .state) (r .place) (r .kept) (r .same) (r .ends)
+    where
+      by : (left i : ℕ) → i + left ≤ length s → Same left i → (i ≡ length s) ⊎ ((i < length s) × (valueStep s at quote left (getD s i 0) i ≡ stop (read.Stopped Cut))) → ValueDone s at quote
+      by left i j same (inl f) = at-end left i same j f
+      by left i j same (inr h) =
+          let c = stops-cut left i (h .1) in
+          let r = reference-rest s i (h .0) (c .3) in
+          in-reference i (subst (λ (k : ℕ). Same k i) (c .0) same) (h .0) (c .1) (c .2) (r .0) (r .1)

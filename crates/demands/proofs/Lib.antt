@@ -2,8 +2,12 @@ pub mod Goes
 pub mod CoherentHeld
 pub mod Refusals
 pub mod Late
+pub mod LateNext
 pub mod CompletedParts
+pub mod CompletedForms
+pub mod MiscCompleted
 pub mod Completed
+pub mod CompletedNext
 pub mod RefusedByte
 pub mod Bytes
 pub mod Prefixes

@@ -117,8 +117,8 @@ NoRoom table s z out p =
 abbrev pub Through : ℕ → Type 0
 Through n = (n ≡ 0) ⊎ (((4 ≤ n) × (n ≤ 6)) ⊎ ((21 ≤ n) × (n ≤ 25)))
 
--- a few bytes with which the step reads its event to the end, where the scene with them is not too long
+-- a few bytes with which the step reads its event to the end, or behind the root finishes, where the scene with them is not too long
 pub record Completes (table s : List ℕ) (z : Session) (out : List ℕ) : Type 0 where
   pub more : List ℕ
-  pub few : length more ≤ 7
-  pub reads : length (s ++ more) ≤ longest → Through (stepOf table (s ++ more) z out .answer .number)
+  pub few : length more ≤ 19
+  pub reads : length (s ++ more) ≤ longest → Through (stepOf table (s ++ more) z out .answer .number) ⊎ (stepOf table (s ++ more) z out .answer .number ≡ 9)

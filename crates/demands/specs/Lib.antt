@@ -7,3 +7,4 @@ pub mod Samples
 pub mod Computing
 pub mod CallExamples
 pub mod LimitExamples
+pub mod MiscExamples

@@ -10,7 +10,8 @@ use Rattle.laws.specs.Lists.{sameList, any, anyPair}
 use Rattle.laws.specs.Gather.{gather}
 use Rattle.laws.proofs.Holds.{holds-cond}
 use Rattle.lexer.specs.Values.{textEnd}
-use Rattle.lexer.specs.Tags.{TagRead, tagAt, endTagAt, beginAt}
+use Rattle.lexer.specs.Tags.{TagRead, tagAt, endTagAt}
+use Rattle.lexer.specs.Begins.{beginAt}
 use Rattle.lexer.specs.declared.Read.{Read}
 use Rattle.lexer.specs.declared.Read.the-variants as read
 use Rattle.lexer.specs.declared.Name.{Name}

@@ -26,11 +26,11 @@ use Rattle.table.specs.Judge.{Accepted}
 use Rattle.table.specs.declared.Action.{Action}
 use Rattle.table.specs.declared.Header.{Header}
 use Rattle.table.proofs.Accepted.{header-in, all-listed}
-use Rattle.lexer.specs.Tags.{beginAt}
+use Rattle.lexer.specs.Begins.{beginAt}
 use Rattle.lexer.specs.declared.Tag.{Tag}
 use Rattle.lexer.specs.declared.Begin.{Begin}
 use Rattle.lexer.specs.declared.Begin.the-variants as begin
-use Rattle.lexer.proofs.Inside.{BeginInside, begin-inside}
+use Rattle.misc.proofs.BeginLaws.{BeginInside, begin-inside}
 use Rattle.reader.specs.declared.Binding.{Binding}
 use Rattle.reader.specs.declared.Found.{Found}
 use Rattle.reader.specs.Stored.{narrowed}

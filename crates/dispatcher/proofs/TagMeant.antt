@@ -21,7 +21,8 @@ use Rattle.laws.specs.Members.{All}
 use Rattle.laws.specs.Over.{overwrite}
 use Rattle.laws.proofs.Elementwise.{each-map}
 use Rattle.lexer.specs.Attrs.{laid, attrsIn}
-use Rattle.lexer.specs.Tags.{tagAt, beginAt}
+use Rattle.lexer.specs.Tags.{tagAt}
+use Rattle.lexer.specs.Begins.{beginAt}
 use Rattle.lexer.specs.declared.Name.{Name}
 use Rattle.lexer.specs.declared.Attr.{Attr}
 use Rattle.lexer.specs.declared.Tag.{Tag}

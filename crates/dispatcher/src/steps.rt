@@ -14,7 +14,7 @@ use lexer::Begin;
 use lexer::Stop;
 use lexer::stops::number_of;
 use lexer::stops::place_of;
-use lexer::tags::begin_at;
+use misc::begins::begin_at;
 use reader::Scope;
 use reader::bindings::put_keys;
 use strands::LEVELS;

@@ -83,13 +83,13 @@ either a b h =
     let r = and-le-r (a % 256) (b % 256) in
     (omega (arith, e, s, r), omega (arith, e, s, l))
 
--- five of the mask's six numbers, by the sixth, w: w less 20, and w ^ c less 1 for the quote, &, < and ]
+-- five of the mask's six numbers, by the sixth, w: w less 20, and w ^ c less 1 for the quote, &, < and >
 record Tested (n quote w a b c d e : ℕ) : Type 0 where
   above : Less n a (repeated n 0x20) w
   quotes : Less n b (repeated n 1) (bitXor w (repeated n quote))
   ampersands : Less n c (repeated n 1) (bitXor w (repeated n 0x26))
   starts : Less n d (repeated n 1) (bitXor w (repeated n 0x3C))
-  brackets : Less n e (repeated n 1) (bitXor w (repeated n 0x5D))
+  ends : Less n e (repeated n 1) (bitXor w (repeated n 0x3E))
 
 abbrev joined : ℕ → ℕ → ℕ → ℕ → ℕ → ℕ → ℕ
 joined w a b c d e = bitOr (bitOr (bitOr (bitOr (bitOr a b) c) d) e) w
@@ -118,7 +118,7 @@ tested-step n quote w a b c d e h t k =
     let q = other-step n b w quote h (t .quotes) (o₁ .1) in
     let m = other-step n c w 0x26 (omega arith) (t .ampersands) (o₂ .1) in
     let l = other-step n d w 0x3C (omega arith) (t .starts) (o₃ .1) in
-    let r = other-step n e w 0x5D (omega arith) (t .brackets) (o₄ .1) in
+    let r = other-step n e w 0x3E (omega arith) (t .ends) (o₄ .1) in
     let x = w % 256 in
     let twenty : repeated (suc n) 0x20 / 256 ≡ repeated n 0x20 = omega arith in (
       simp (
@@ -127,9 +127,9 @@ tested-step n quote w a b c d e h t k =
         ne-eqb x quote (q .0),
         ne-eqb x 0x26 (m .0),
         ne-eqb x 0x3C (l .0),
-        ne-eqb x 0x5D (r .0),
+        ne-eqb x 0x3E (r .0),
       ),
-      record { above = rw twenty at (s .1); quotes = q .1; ampersands = m .1; starts = l .1; brackets = r .1 },
+      record { above = rw twenty at (s .1); quotes = q .1; ampersands = m .1; starts = l .1; ends = r .1 },
     )
 
 plain-lanes : (n k quote w a b c d e : ℕ) → quote < 256 → Tested n quote w a b c d e → Clear k (highs n (joined w a b c d e)) → all (isPlain quote) (take k (digits n w)) ≡ true
@@ -144,7 +144,7 @@ plain-lanes (suc n) (suc k) quote w a b c d e h t z =
 
 -- eight lanes, by the code's differences
 module _ (quote w a b c d e : ℕ) (h : quote < 256) (above : (a + repeated 8 0x20) % 2 ^ 64 ≡ w) (quotes : (b + repeated 8 1) % 2 ^ 64 ≡ bitXor w (quote * 0x0101010101010101))
-    (ampersands : (c + repeated 8 1) % 2 ^ 64 ≡ bitXor w (repeated 8 0x26)) (starts : (d + repeated 8 1) % 2 ^ 64 ≡ bitXor w (repeated 8 0x3C)) (brackets : (e + repeated 8 1) % 2 ^ 64 ≡ bitXor w (repeated 8 0x5D)) where
+    (ampersands : (c + repeated 8 1) % 2 ^ 64 ≡ bitXor w (repeated 8 0x26)) (starts : (d + repeated 8 1) % 2 ^ 64 ≡ bitXor w (repeated 8 0x3C)) (ends : (e + repeated 8 1) % 2 ^ 64 ≡ bitXor w (repeated 8 0x3E)) where
   pub plain-eight : (k : ℕ) → Clear k (highs 8 (joined w a b c d e)) → all (isPlain quote) (take k (digits 8 w)) ≡ true
   plain-eight k z =
       let q : quote * 0x0101010101010101 ≡ repeated 8 quote = omega arith in
@@ -154,7 +154,7 @@ module _ (quote w a b c d e : ℕ) (h : quote < 256) (above : (a + repeated 8 0x
         quotes = wrapped b (repeated 8 1) (bitXor w (repeated 8 quote)) (quotes ∙ ap (bitXor w) q);
         ampersands = wrapped c (repeated 8 1) (bitXor w (repeated 8 0x26)) ampersands;
         starts = wrapped d (repeated 8 1) (bitXor w (repeated 8 0x3C)) starts;
-        brackets = wrapped e (repeated 8 1) (bitXor w (repeated 8 0x5D)) brackets;
+        ends = wrapped e (repeated 8 1) (bitXor w (repeated 8 0x3E)) ends;
       } z
 
 -- ---- the zeros at a number's end

@@ -19,7 +19,7 @@ fn special_bits(w: u64, quote: u8) -> u64
     let b = wrapping_sub_u64(w ^ quotes, 0x0101010101010101);
     let c = wrapping_sub_u64(w ^ 0x2626262626262626, 0x0101010101010101);
     let d = wrapping_sub_u64(w ^ 0x3C3C3C3C3C3C3C3C, 0x0101010101010101);
-    let e = wrapping_sub_u64(w ^ 0x5D5D5D5D5D5D5D5D, 0x0101010101010101);
+    let e = wrapping_sub_u64(w ^ 0x3E3E3E3E3E3E3E3E, 0x0101010101010101);
     (a | b | c | d | e | w) & 0x8080808080808080
 }
 

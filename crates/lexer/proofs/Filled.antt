@@ -3,14 +3,16 @@ use Prim.Native.Nat.{ℕ, _+_, _-_, _*_, _≤_, _<_}
 use mathlib.Core.Path.{_≡_, refl, sym, ap, _∙_}
 use mathlib.Core.List.{List, [], _∷_, _++_}
 use mathlib.Core.Bool.{Bool}
+use mathlib.Core.Logic.{⊎-elim}
 use native.Mathlib.Omega.{arith}
 use lib.ListN.{length, length-append}
 use Rattle.laws.specs.Over.{overwrite}
-use Rattle.laws.specs.Reading.{room-step}
+use Rattle.laws.specs.Reading.{room-step, le-or-lt}
 use Rattle.lexer.specs.Attrs.{attrNumbers, laid}
 use Rattle.lexer.specs.Names.{nameAt}
 use Rattle.lexer.specs.Tags.{attributeAt, turnAt, TagRead, tagClosed, tagStopped, fullTurn, turnThen, attrsFrom, tagAt}
 use Rattle.lexer.specs.declared.Stop.{Stop}
+use Rattle.lexer.specs.declared.Stop.the-variants.{Long}
 use Rattle.lexer.specs.declared.Name.{Name}
 use Rattle.lexer.specs.declared.Named.{Named}
 use Rattle.lexer.specs.declared.Named.the-variants as named
@@ -22,20 +24,6 @@ use Rattle.lexer.specs.declared.Turn.the-variants as turn
 use Rattle.lexer.specs.declared.Tagged.{Tagged}
 use Rattle.lexer.specs.declared.Tagged.the-variants as tagged
 use Rattle.lexer.proofs.Arrays.{laid-none, laid-more}
-
--- where there is no room: what a turn decides
-pub full-at : (s : List ℕ) (name : Name) (at : ℕ) (r m : Turn) (x : Tagged) → r ≡ turnAt s at → r ≡ m → ((l : List Attr) → length l ≡ 16 → x ≡ fullTurn name l m .answer) → (l : List Attr) → length l ≡ 16 → x ≡ attrsFrom s name l 0 at .answer
-unfolding attrsFrom
-full-at s name at r m x p q h l e = h l e ∙ ap (λ (y : Turn). fullTurn name l y .answer) (sym q ∙ p)
-
-full-held : (s : List ℕ) (name : Name) (l : List Attr) (at : ℕ) → attrsFrom s name l 0 at .attrs ≡ l
-unfolding attrsFrom
-full-held s name l at = kept (turnAt s at)
-  where
-    kept : (t : Turn) → fullTurn name l t .attrs ≡ l
-    kept (turn.Close next empty) = refl
-    kept (turn.Attribute i) = refl
-    kept (turn.Stopped x) = refl
 
 -- the whole that is asked for
 abbrev pub asked : List ℕ → Name → TagRead
@@ -66,32 +54,47 @@ module _ (s : List ℕ) (name : Name) (array₀ array : List ℕ) (count at : �
   unfolding attrsFrom
   turned h = rw (room-step 16 count h) at (f .left)
 
-  module _ (h : count < 16) (r : Turn) (p : r ≡ turnAt s at) where
+  filled-up : 16 ≤ count → fullTurn name (f .held) (turnAt s at) ≡ asked s name
+  unfolding attrsFrom
+  filled-up h = let z : 16 - count ≡ 0 = omega arith in rw z at (f .left)
+
+  module _ (r : Turn) (p : r ≡ turnAt s at) where
+    -- with room and without
+    decided : (m : Turn) → r ≡ m → (t : TagRead) → ((more : List Attr → ℕ → TagRead) → t ≡ turnThen s more name (f .held) m) → t ≡ fullTurn name (f .held) m → t ≡ asked s name
+    decided m q t room none =
+        let e : m ≡ turnAt s at = sym q ∙ p in
+        ⊎-elim (λ h. none ∙ ap (fullTurn name (f .held)) e ∙ filled-up h)
+        (λ h. room (λ (l : List Attr) (i : ℕ). attrsFrom s name l (16 - (count + 1)) i) ∙ ap (turnThen s (λ (l : List Attr) (i : ℕ). attrsFrom s name l (16 - (count + 1)) i) name (f .held)) e ∙ turned h)
+        (le-or-lt 16 count)
+
     pub closed : (next : ℕ) (empty : Bool) → r ≡ turn.Close next empty → Answered (asked s name) array₀ array (tagged.Got (record { name = name; count = count; next = next; empty = empty }))
-    closed next empty q = rw (← f .counted) (answered (tagClosed name (f .held) next empty) refl (rw (sym p ∙ q) at (turned h)))
+    closed next empty q =
+        let t = tagClosed name (f .held) next empty in
+        rw (← f .counted) (answered t refl (decided (turn.Close next empty) q t (λ more. refl) refl))
 
     pub stopped : (x : Stop) → r ≡ turn.Stopped x → Answered (asked s name) array₀ array (tagged.Stopped x)
-    stopped x q = answered (tagStopped (f .held) x) refl (rw (sym p ∙ q) at (turned h))
+    stopped x q = let t = tagStopped (f .held) x in answered t refl (decided (turn.Stopped x) q t (λ more. refl) refl)
 
-    module _ (i : ℕ) (q : r ≡ turn.Attribute i) (v : Attributed) (e : v ≡ attributeAt s i) where
-      pub refused : (x : Stop) → v ≡ attributed.Stopped x → Answered (asked s name) array₀ array (tagged.Stopped x)
-      refused x g = answered (tagStopped (f .held) x) refl (rw (sym e ∙ g) at (rw (sym p ∙ q) at (turned h)))
+    module _ (i : ℕ) (q : r ≡ turn.Attribute i) where
+      pub seventeenth : count ≡ 16 → Answered (asked s name) array₀ array (tagged.Stopped (Long i))
+      seventeenth h = answered (tagStopped (f .held) (Long i)) refl (rw (sym p ∙ q) at (filled-up (omega arith)))
 
-      pub more : (a : Attr) → v ≡ attributed.Got a → (array′ : List ℕ) → array′ ≡ overwrite array (5 * count) (attrNumbers a) → Filled s name array₀ array′ (count + 1) (a .stop + 1)
-      more a g array′ w =
-          record {
-            held = f .held ++ (a ∷ []);
-            counted = length-append (f .held) (a ∷ []) ∙ ap (λ (n : ℕ). n + 1) (f .counted);
-            few = omega arith;
-            filled = w ∙ (rw (f .filled, ← f .counted) (laid-more (f .held) a array₀));
-            left = rw (sym e ∙ g) at (rw (sym p ∙ q) at (turned h));
-          }
+      module _ (n : count ≡ 16 → ⊥) (v : Attributed) (e : v ≡ attributeAt s i) where
+        room : count < 16
+        room = omega (arith, f .few)
 
-  pub full : 16 ≤ count → (x : Tagged) → ((l : List Attr) → length l ≡ 16 → x ≡ attrsFrom s name l 0 at .answer) → Answered (asked s name) array₀ array x
-  full h x g =
-      let z : 16 - count ≡ 0 = omega arith in
-      let n : length (f .held) ≡ 16 = omega arith in
-      rw (g (f .held) n) (answered (attrsFrom s name (f .held) 0 at) (full-held s name (f .held) at) (rw z at (f .left)))
+        pub refused : (x : Stop) → v ≡ attributed.Stopped x → Answered (asked s name) array₀ array (tagged.Stopped x)
+        refused x g = answered (tagStopped (f .held) x) refl (rw (sym e ∙ g) at (rw (sym p ∙ q) at (turned room)))
+
+        pub more : (a : Attr) → v ≡ attributed.Got a → (array′ : List ℕ) → array′ ≡ overwrite array (5 * count) (attrNumbers a) → Filled s name array₀ array′ (count + 1) (a .stop + 1)
+        more a g array′ w =
+            record {
+              held = f .held ++ (a ∷ []);
+              counted = length-append (f .held) (a ∷ []) ∙ ap (λ (k : ℕ). k + 1) (f .counted);
+              few = omega (arith, room);
+              filled = w ∙ (rw (f .filled, ← f .counted) (laid-more (f .held) a array₀));
+              left = rw (sym e ∙ g) at (rw (sym p ∙ q) at (turned room));
+            }
 
 -- the tag's name, and what stands behind it
 module _ (s : List ℕ) (at : ℕ) (r : Named) (p : r ≡ nameAt s at) (array₀ : List ℕ) where

@@ -13,7 +13,7 @@ use Rattle.laws.proofs.Holds.{holds-cond, holds-peek, Turned, run-held, each-mo
 use Rattle.lexer.specs.Stops.{afterRead, afterName}
 use Rattle.lexer.specs.Names.{isSpace, spaceStep, spacesEnd, startLen, nameLen, partStep, partEnd, nameOf, prefixedAt, nameAt}
 use Rattle.lexer.specs.Values.{valueEnd}
-use Rattle.lexer.specs.Tags.{wanted, equalsEnd, quotedAt, attributeAt, slashAt, turnBehind, turnAt, TagRead, tagStopped, tagClosed, fullTurn, attrThen, turnThen, attrsFrom, tagAt, endTagAt, tagBegins, beginInside, beginOutside, ending, beginAt}
+use Rattle.lexer.specs.Tags.{wanted, equalsEnd, quotedAt, attributeAt, slashAt, turnBehind, turnAt, TagRead, tagStopped, tagClosed, fullTurn, attrThen, turnThen, attrsFrom, tagAt, endTagAt}
 use Rattle.lexer.specs.declared.Stop.{Stop}
 use Rattle.lexer.specs.declared.Stop.the-variants.{Bad, Long, Cut}
 use Rattle.lexer.specs.declared.Read.{Read}
@@ -32,8 +32,6 @@ use Rattle.lexer.specs.declared.Tagged.the-variants as tagged
 use Rattle.lexer.specs.declared.EndTag.{EndTag}
 use Rattle.lexer.specs.declared.Ended.{Ended}
 use Rattle.lexer.specs.declared.Ended.the-variants as ended
-use Rattle.lexer.specs.declared.Begin.{Begin}
-use Rattle.lexer.specs.declared.Begin.the-variants as begin
 use Rattle.lexer.proofs.ValueLaws.{Within, ValueTo, value-inside}
 
 -- a stop's place is inside the slice, at or behind the place where reading began
@@ -348,53 +346,6 @@ endTag-inside s at =
     after-inside (EndedInside s at) ended.Stopped (SpacesTo s (name .end)) s (name .end) (spacesEnd s (name .end)) _ (spaces-inside s (name .end)) (stop-later s at (name .end) (omega arith)) (λ (i : ℕ) h.
     after-inside (EndedInside s at) ended.Stopped (ByteTo s i 0x3E) s i (wanted s i 0x3E) _ (wanted-inside s i 0x3E) (stop-later s at i (omega arith)) (λ (next : ℕ) k.
     record { name = n; onward = omega arith; inside = omega arith })))
-
--- ---- where the next event begins
--- inside: an element is open; closed: the root has closed
-abbrev pub BeginInside : List ℕ → ℕ → Bool → Bool → Begin → Type 0
-BeginInside s at inside closed (begin.Start i) = (at ≤ i) × (i + 1 < length s) × (getD s i 0 ≡ 0x3C) × (getD s (i + 1) 0 ≡ 0x2F → ⊥) × ((inside || not closed) ≡ true)
-BeginInside s at inside closed (begin.End i) = (at ≤ i) × (i + 1 < length s) × (getD s i 0 ≡ 0x3C) × (getD s (i + 1) 0 ≡ 0x2F) × (inside ≡ true)
-BeginInside s at inside closed (begin.Text i) = (i ≡ at) × (i < length s) × (getD s i 0 ≡ 0x3C → ⊥) × (inside ≡ true)
-BeginInside s at inside closed begin.Finished = (closed ≡ true) × (inside ≡ false)
-BeginInside s at inside closed (begin.Stopped x) = StopInside s at x
-
-pub begins-inside : (s : List ℕ) (inside closed : Bool) (from at : ℕ) → from ≤ at → at < length s → getD s at 0 ≡ 0x3C → ((inside || not closed) ≡ true) → BeginInside s from inside closed (tagBegins s inside at)
-unfolding tagBegins
-begins-inside s inside closed from at le lt e o =
-    holds-peek In s (at + 1) tt (λ hi.
-    holds-cond In (eqb (getD s (at + 1) 0) 0x2F)
-    (λ q. holds-cond In inside (λ i. (le, hi, e, eqb-true (getD s (at + 1) 0) 0x2F q, i)) (λ i. omega arith))
-    (λ q. (le, hi, e, eqb-false (getD s (at + 1) 0) 0x2F q, o)))
-  where
-    In : Begin → Type 0
-    In = BeginInside s from inside closed
-
-pub inside-inside : (s : List ℕ) (at : ℕ) (closed : Bool) → BeginInside s at true closed (beginInside s at)
-unfolding beginInside
-inside-inside s at closed =
-    holds-peek In s at tt (λ lt.
-    holds-cond In (eqb (getD s at 0) 0x3C) (λ q. begins-inside s true closed at at (omega arith) lt (eqb-true (getD s at 0) 0x3C q) refl) (λ q. (refl, lt, eqb-false (getD s at 0) 0x3C q, refl)))
-  where
-    In : Begin → Type 0
-    In = BeginInside s at true closed
-
-pub outside-inside : (s : List ℕ) (from at : ℕ) (closed : Bool) → from ≤ at → BeginInside s from false closed (beginOutside s at closed)
-unfolding beginOutside
-outside-inside s from at closed le =
-    holds-peek In s at tt (λ lt.
-    holds-cond In closed (λ c. (le, lt)) (λ c.
-    holds-cond In (eqb (getD s at 0) 0x3C) (λ q. begins-inside s false closed from at le lt (eqb-true (getD s at 0) 0x3C q) (rw c)) (λ q. (le, lt))))
-  where
-    In : Begin → Type 0
-    In = BeginInside s from false closed
-
-pub begin-inside : (s : List ℕ) (at : ℕ) (inside closed : Bool) → BeginInside s at inside closed (beginAt s at inside closed)
-unfolding beginAt
-begin-inside s at true closed = inside-inside s at closed
-begin-inside s at false closed =
-    after-inside (BeginInside s at false closed) (ending closed) (SpacesTo s at) s at (spacesEnd s at) _ (spaces-inside s at)
-    (λ (x : Stop) h. holds-cond (BeginInside s at false closed) closed (λ c. (c, refl)) (λ c. h))
-    (λ (i : ℕ) h. outside-inside s at i closed (h .0))
 
 -- ---- of an answer r, of which a contract says one thing and a `match` another
 pub spaces-in : (s : List ℕ) (at : ℕ) (r m : Read) → r ≡ spacesEnd s at → r ≡ m → ReadInside (SpacesTo s at) s at m

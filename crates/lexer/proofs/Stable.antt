@@ -15,7 +15,7 @@ use Rattle.laws.proofs.Kept.{Kept, kept-open, kept-bind, stable-inside, cut-sho
 use Rattle.lexer.specs.Stops.{stopPlace, afterRead, afterName}
 use Rattle.lexer.specs.Names.{spaceStep, spacesEnd, startLen, nameLen, partStep, partEnd, nameOf, prefixedAt, nameAt}
 use Rattle.lexer.specs.Values.{valueEnd}
-use Rattle.lexer.specs.Tags.{wanted, equalsEnd, attrOf, quotedAt, attributeAt, slashAt, turnBehind, turnAt, TagRead, tagStopped, fullTurn, attrThen, turnThen, attrsFrom, tagAt, endTagAt, tagBegins, beginInside, beginOutside, ending, beginAt}
+use Rattle.lexer.specs.Tags.{wanted, equalsEnd, attrOf, quotedAt, attributeAt, slashAt, turnBehind, turnAt, TagRead, tagStopped, fullTurn, attrThen, turnThen, attrsFrom, tagAt, endTagAt}
 use Rattle.lexer.specs.declared.Stop.{Stop}
 use Rattle.lexer.specs.declared.Stop.the-variants.{Bad, Long, Cut}
 use Rattle.lexer.specs.declared.Read.{Read}
@@ -32,10 +32,8 @@ use Rattle.lexer.specs.declared.Tagged.{Tagged}
 use Rattle.lexer.specs.declared.Tagged.the-variants as tagged
 use Rattle.lexer.specs.declared.Ended.{Ended}
 use Rattle.lexer.specs.declared.Ended.the-variants as ended
-use Rattle.lexer.specs.declared.Begin.{Begin}
-use Rattle.lexer.specs.declared.Begin.the-variants as begin
 use Rattle.lexer.proofs.ValueLaws.{ValueTo, value-inside, value-stable}
-use Rattle.lexer.proofs.Inside.{StopInside, ReadInside, within-read, TaggedInside, tag-inside, EndedInside, endTag-inside, BeginInside, begin-inside}
+use Rattle.lexer.proofs.Inside.{StopInside, ReadInside, within-read, TaggedInside, tag-inside, EndedInside, endTag-inside}
 
 -- ---- what is read behind what was read. C: the answers that may change, and what Cut becomes is one
 module _ {A : Type 0} (C : A → Type 0) (f : Stop → A) (e : C (f Cut)) where
@@ -69,12 +67,9 @@ pub name-same : (s s′ : List ℕ) (i i′ : ℕ) → i < length s → i′ < l
 unfolding nameLen
 name-same s s′ i i′ h h′ e = rw (lt-ltb i (length s) h, lt-ltb i′ (length s′) h′, e)
 
--- the answers that may change: of a start tag, and of where an event begins
+-- the answers of a start tag that may change
 abbrev pub CutTag : TagRead → Type 0
 CutTag r = r .answer ≡ tagged.Stopped Cut
-
-abbrev pub CutBegin : Begin → Type 0
-CutBegin b = (b ≡ begin.Stopped Cut) ⊎ (b ≡ begin.Finished)
 
 module _ (s t : List ℕ) where
   longer : (at : ℕ) → at < length s → at < length (s ++ t)
@@ -190,40 +185,10 @@ module _ (s t : List ℕ) where
       _
       (name-stable at)
 
-  -- ---- where the next event begins
-  pub begins-stable : (inside : Bool) (at : ℕ) → Stable (begin.Stopped Cut) (tagBegins s inside at) (tagBegins (s ++ t) inside at)
-  unfolding tagBegins
-  begins-stable inside at =
-      stable-peek (begin.Stopped Cut) s t (at + 1) _ _ (λ (b : ℕ).
-      stable-same (begin.Stopped Cut) (cond (eqb b 0x2F) (cond inside (begin.End at) (begin.Stopped (Bad (at + 1)))) (begin.Start at)))
-
-  pub inside-stable : (at : ℕ) → Stable (begin.Stopped Cut) (beginInside s at) (beginInside (s ++ t) at)
-  unfolding beginInside
-  inside-stable at =
-      stable-peek (begin.Stopped Cut) s t at _ _ (λ (b : ℕ).
-      stable-cond (begin.Stopped Cut) (eqb b 0x3C) (begins-stable true at) (stable-same (begin.Stopped Cut) (begin.Text at)))
-
-  pub outside-stable : (at : ℕ) (closed : Bool) → Stable (begin.Stopped Cut) (beginOutside s at closed) (beginOutside (s ++ t) at closed)
-  unfolding beginOutside
-  outside-stable at closed =
-      stable-peek (begin.Stopped Cut) s t at _ _ (λ (b : ℕ).
-      stable-cond (begin.Stopped Cut) closed (stable-same (begin.Stopped Cut) (begin.Stopped (Bad at)))
-      (stable-cond (begin.Stopped Cut) (eqb b 0x3C) (begins-stable false at) (stable-same (begin.Stopped Cut) (begin.Stopped (Bad at)))))
-
-  pub begin-stable : (at : ℕ) (inside closed : Bool) → Kept CutBegin (beginAt s at inside closed) (beginAt (s ++ t) at inside closed)
-  unfolding beginAt
-  begin-stable at true closed = kept-open CutBegin (begin.Stopped Cut) (inl refl) _ _ (inside-stable at)
-  begin-stable at false closed =
-      kept-after CutBegin (ending closed) (ends closed) _ _ (λ (i : ℕ). kept-open CutBegin (begin.Stopped Cut) (inl refl) _ _ (outside-stable i closed)) _ _ (spaces-stable at)
-    where
-      ends : (c : Bool) → CutBegin (ending c Cut)
-      ends true = inr refl
-      ends false = inl refl
-
 -- ---- the bytes before the place where reading stops: nothing is settled there
 -- Is a x: the answer a stops with x
 module _ {A : Type 0} (C : A → Type 0) (decided : (a : A) → C a ⊎ (C a → ⊥)) (f : List ℕ → A) (kept : (s t : List ℕ) → Kept C (f s) (f (s ++ t))) (at : ℕ) (Is : A → Stop → Type 0) (cut : (a : A) → Is a Cut → C a) (inside : (l : List ℕ) (x : Stop) → Is (f l) x → StopInside l at x) where
-  stops-short : (s : List ℕ) (x : Stop) → Is (f s) x → C (f (take (stopPlace s x) s))
+  pub stops-short : (s : List ℕ) (x : Stop) → Is (f s) x → C (f (take (stopPlace s x) s))
   stops-short s (Bad p) h = cut-short C decided f kept p s (λ l e. inside l (Bad p) (subst (λ (a : A). Is a (Bad p)) (sym e) h) .1)
   stops-short s (Long p) h = cut-short C decided f kept p s (λ l e. inside l (Long p) (subst (λ (a : A). Is a (Long p)) (sym e) h) .1)
   stops-short s Cut h = rw (take-length s) (cut (f s) h)
@@ -246,15 +211,6 @@ ended-decided (ended.Stopped (Bad p)) = inr (λ e. let z : _≡_ {A = ℕ} 0 1 =
 ended-decided (ended.Stopped (Long p)) = inr (λ e. let z : _≡_ {A = ℕ} 0 1 = cc in omega arith)
 ended-decided (ended.Stopped Cut) = inl refl
 
-begin-decided : (a : Begin) → CutBegin a ⊎ (CutBegin a → ⊥)
-begin-decided (begin.Start i) = inr (⊎-elim (λ e. let z : _≡_ {A = ℕ} 0 1 = cc in omega arith) (λ e. let z : _≡_ {A = ℕ} 0 1 = cc in omega arith))
-begin-decided (begin.End i) = inr (⊎-elim (λ e. let z : _≡_ {A = ℕ} 0 1 = cc in omega arith) (λ e. let z : _≡_ {A = ℕ} 0 1 = cc in omega arith))
-begin-decided (begin.Text i) = inr (⊎-elim (λ e. let z : _≡_ {A = ℕ} 0 1 = cc in omega arith) (λ e. let z : _≡_ {A = ℕ} 0 1 = cc in omega arith))
-begin-decided begin.Finished = inl (inr refl)
-begin-decided (begin.Stopped (Bad p)) = inr (⊎-elim (λ e. let z : _≡_ {A = ℕ} 0 1 = cc in omega arith) (λ e. let z : _≡_ {A = ℕ} 0 1 = cc in omega arith))
-begin-decided (begin.Stopped (Long p)) = inr (⊎-elim (λ e. let z : _≡_ {A = ℕ} 0 1 = cc in omega arith) (λ e. let z : _≡_ {A = ℕ} 0 1 = cc in omega arith))
-begin-decided (begin.Stopped Cut) = inl (inl refl)
-
 pub value-short : (s : List ℕ) (at quote : ℕ) (x : Stop) → valueEnd s at quote ≡ read.Stopped x → valueEnd (take (stopPlace s x) s) at quote ≡ read.Stopped Cut
 value-short s at quote x =
     stops-short (λ (r : Read). r ≡ read.Stopped Cut) read-decided (λ (l : List ℕ). valueEnd l at quote) (λ l m. value-stable l m at quote) at (λ (r : Read) (y : Stop). r ≡ read.Stopped y) (λ r e. e)
@@ -275,12 +231,3 @@ endTag-short s at x =
     (λ l y e. subst (EndedInside l at) e (endTag-inside l at))
     s
     x
-
-pub begin-short : (s : List ℕ) (at : ℕ) (inside closed : Bool) (x : Stop) → beginAt s at inside closed ≡ begin.Stopped x → (beginAt (take (stopPlace s x) s) at inside closed ≡ begin.Stopped Cut) ⊎ ((beginAt (take (stopPlace s x) s) at inside closed ≡ begin.Finished) × (closed ≡ true))
-begin-short s at inside closed x h =
-    ⊎-elim inl (λ e. inr (e, subst (BeginInside (take (stopPlace s x) s) at inside closed) e (begin-inside (take (stopPlace s x) s) at inside closed) .0))
-    (stops-short CutBegin begin-decided (λ (l : List ℕ). beginAt l at inside closed) (λ l m. begin-stable l m at inside closed) at (λ (r : Begin) (y : Stop). r ≡ begin.Stopped y) (λ r e. inl e)
-    (λ l y e. subst (BeginInside l at inside closed) e (begin-inside l at inside closed))
-    s
-    x
-    h)

@@ -5,17 +5,18 @@
 use Prim.Native.Nat.{ℕ, _+_, _-_, _≤_, _<_}
 use mathlib.Core.Path.{_≡_, refl, sym, ap, subst, _∙_}
 use mathlib.Core.List.{List, [], _∷_, _++_, append-assoc}
-use mathlib.Core.Bool.{cond}
+use mathlib.Core.Bool.{true, cond, _&&_}
 use mathlib.Core.Logic.{⊎-elim}
 use native.Mathlib.Omega.{arith}
-use borrow.Author.Tests.{eqb-true, leb-false, ltb-true, ltb-false, lt-leb}
-use lib.ListN.{length, drop, getD, length-drop, length-append}
+use borrow.Author.Tests.{eqb-true, leb-true, leb-false, ltb-true, ltb-false, lt-leb}
+use lib.ListN.{length, drop, getD, length-drop, length-append, List·getD-append}
 use lib.Seq.{drop-append-le}
 use lib.Dec.{leb, ltb, eqb}
 use Rattle.laws.specs.Reading.{RunNext, go, stop, Stable, stable-same, stable-cut, stable-cond, stable-bind, run-agree-at, le-or-lt}
 use Rattle.laws.specs.Text.{bytes}
+use Rattle.laws.proofs.Flags.{and-left, and-right}
 use Rattle.laws.proofs.Holds.{holds-cond, Turned, run-held}
-use Rattle.lexer.specs.Values.{references, common, wholeOf, furthest, noReference, referenceEnd, isText, referred, valueStep, valueEnd}
+use Rattle.lexer.specs.Values.{references, common, wholeOf, furthest, noReference, referenceEnd, isText, referred, closes, valueStep, valueFrom, valueEnd}
 use Rattle.lexer.specs.declared.Stop.the-variants.{Bad, Long, Cut}
 use Rattle.lexer.specs.declared.Read.{Read}
 use Rattle.lexer.specs.declared.Read.the-variants.{End, Stopped}
@@ -86,13 +87,24 @@ reference-inside s at =
     (λ (w : List ℕ) o e. (omega (arith, some w o), found-in s w at (length w) (sym e) (some w o)))
     (none-inside s at)
 
+-- where ]]> is refused, three bytes of the text have been read
+pub closes-behind : (s : List ℕ) (at quote b i : ℕ) → closes s at quote b i ≡ true → at + 2 ≤ i
+unfolding closes
+closes-behind s at quote b i e =
+    let t = eqb quote 0x3C in
+    let l = leb (at + 2) i in
+    let x = eqb b 0x3E in
+    let y = eqb (getD s (i - 1) 0) 0x5D in
+    let z = eqb (getD s (i - 2) 0) 0x5D in
+    leb-true (at + 2) i (and-right t l (and-left (t && l) x (and-left (t && l && x) y (and-left (t && l && x && y) z e))))
+
 -- the end of a value is its quote
 abbrev pub ValueTo : List ℕ → ℕ → ℕ → ℕ → Type 0
 ValueTo s quote at j = (at ≤ j) × (j < length s) × (getD s j 0 ≡ quote)
 
 pub value-inside : (s : List ℕ) (at quote : ℕ) → Within (ValueTo s quote at) s at (valueEnd s at quote)
-unfolding valueEnd
-value-inside s at quote = run-held (Stopped Cut) (valueStep s quote) s (λ (left j : ℕ). at ≤ j) In tt turn 0 at (omega arith)
+unfolding valueFrom
+value-inside s at quote = run-held (Stopped Cut) (valueStep s at quote) s (λ (left j : ℕ). at ≤ j) In tt turn 0 at (omega arith)
   where
     In : Read → Type 0
     In = Within (ValueTo s quote at) s at
@@ -106,12 +118,13 @@ value-inside s at quote = run-held (Stopped Cut) (valueStep s quote) s (λ (left
     passed j lo (Stopped (Long k)) w = w
     passed j lo (Stopped Cut) w = tt
 
-    turn : (left j : ℕ) → j < length s → at ≤ j → Turn j (valueStep s quote left (getD s j 0) j)
+    turn : (left j : ℕ) → j < length s → at ≤ j → Turn j (valueStep s at quote left (getD s j 0) j)
     turn left j hi lo =
         holds-cond (Turn j) (eqb left 0)
         (λ _. holds-cond (Turn j) (eqb (getD s j 0) quote) (λ e. (lo, hi, eqb-true (getD s j 0) quote e))
         (λ _. holds-cond (Turn j) (eqb (getD s j 0) 0x26) (λ _. passed j lo (referenceEnd s j) (reference-inside s j))
-        (λ _. holds-cond (Turn j) (isText (getD s j 0)) (λ _. omega arith) (λ _. (lo, hi)))))
+        (λ _. holds-cond (Turn j) (closes s at quote (getD s j 0) j) (λ c. omega (arith, closes-behind s at quote (getD s j 0) j c))
+        (λ _. holds-cond (Turn j) (isText (getD s j 0)) (λ _. omega arith) (λ _. (lo, hi))))))
         (λ _. omega arith)
 
 -- ---- more bytes
@@ -177,17 +190,21 @@ reference-stable s t at = ⊎-elim ends goes (le-or-lt (length s) (at + furthest
         let i : furthest (drop at s) references < length (drop at s) = simp length-drop (omega arith) in
         rw (none-kept s t at h) (whole-kept s t at (noReference s at) (omega arith) references i)
 
+pub closes-kept : (s t : List ℕ) (at quote b i : ℕ) → i < length s → closes (s ++ t) at quote b i ≡ closes s at quote b i
+unfolding closes
+closes-kept s t at quote b i h = rw (List·getD-append s t 0 (i - 1) (omega arith), List·getD-append s t 0 (i - 2) (omega arith))
+
 pub value-stable : (s t : List ℕ) (at quote : ℕ) → (valueEnd s at quote ≡ Stopped Cut → ⊥) → valueEnd (s ++ t) at quote ≡ valueEnd s at quote
-unfolding valueEnd
-value-stable s t at quote = run-agree-at cut (valueStep s quote) (valueStep (s ++ t) quote) 0 s t at agree
+unfolding valueFrom
+value-stable s t at quote = run-agree-at cut (valueStep s at quote) (valueStep (s ++ t) at quote) 0 s t at agree
   where
     cut : Read
     cut = Stopped Cut
 
-    agree : (left b j : ℕ) → at ≤ j → j < length s → Stable (stop cut) (valueStep s quote left b j) (valueStep (s ++ t) quote left b j)
+    agree : (left b j : ℕ) → at ≤ j → j < length s → Stable (stop cut) (valueStep s at quote left b j) (valueStep (s ++ t) at quote left b j)
     agree left b j lo hi =
         stable-cond (stop cut) (eqb left 0)
         (stable-cond (stop cut) (eqb b quote) (stable-same (stop cut) (stop (End j)))
         (stable-cond (stop cut) (eqb b 0x26) (stable-bind cut (stop cut) (referred j) (referred j) refl (λ (r : Read). stable-same (stop cut) (referred j r)) (referenceEnd s j) (referenceEnd (s ++ t) j) (reference-stable s t j))
-        (stable-same (stop cut) (cond (isText b) (go 0) (stop (Stopped (Bad j)))))))
+        (rw (closes-kept s t at quote b j hi) (stable-same (stop cut) (cond (closes s at quote b j) (stop (Stopped (Bad (j - 2)))) (cond (isText b) (go 0) (stop (Stopped (Bad j)))))))))
         (stable-same (stop cut) (go (left - 1)))

@@ -3,4 +3,9 @@ pub mod Names
 pub mod Values
 pub mod Attrs
 pub mod Tags
+pub mod Declaration
+pub mod Misc
+pub mod Begins
 pub mod Whole
+pub mod Computing
+pub mod Examples

@@ -24,8 +24,6 @@ use Rattle.lexer.specs.declared.Tagged.the-variants as tagged
 use Rattle.lexer.specs.declared.EndTag.{EndTag}
 use Rattle.lexer.specs.declared.Ended.{Ended}
 use Rattle.lexer.specs.declared.Ended.the-variants as ended
-use Rattle.lexer.specs.declared.Begin.{Begin}
-use Rattle.lexer.specs.declared.Begin.the-variants as begin
 
 -- this byte at this place: the place behind it
 unfoldable pub wanted : List ℕ → ℕ → ℕ → Read
@@ -113,28 +111,3 @@ endTagAt s at =
     afterName ended.Stopped (nameAt s at) (λ (name : Name).
     afterRead ended.Stopped (spacesEnd s (name .end)) (λ (i : ℕ).
     afterRead ended.Stopped (wanted s i 0x3E) (λ (next : ℕ). ended.Got (record { name = name; next = next }))))
-
--- the < of a tag at a place; "</" where nothing is open is 2 at the /
-unfoldable pub tagBegins : List ℕ → Bool → ℕ → Begin
-tagBegins s inside at =
-    peek (begin.Stopped Cut) s (at + 1) (λ (b : ℕ).
-    cond (eqb b 0x2F) (cond inside (begin.End at) (begin.Stopped (Bad (at + 1)))) (begin.Start at))
-
--- inside an element: a tag or a text
-unfoldable pub beginInside : List ℕ → ℕ → Begin
-beginInside s at = peek (begin.Stopped Cut) s at (λ (b : ℕ). cond (eqb b 0x3C) (tagBegins s true at) (begin.Text at))
-
--- "Outside the root only space stands": at the first byte that is none
-unfoldable pub beginOutside : List ℕ → ℕ → Bool → Begin
-beginOutside s at closed =
-    peek (begin.Stopped Cut) s at (λ (b : ℕ).
-    cond closed (begin.Stopped (Bad at)) (cond (eqb b 0x3C) (tagBegins s false at) (begin.Stopped (Bad at))))
-
--- "9 finished: root closed, only space follows"; 1 where it has not closed
-abbrev pub ending : Bool → Stop → Begin
-ending closed x = cond closed begin.Finished (begin.Stopped x)
-
--- where the next event begins: inside an element or not, the root closed or not
-unfoldable pub beginAt : List ℕ → ℕ → Bool → Bool → Begin
-beginAt s at inside closed =
-    cond inside (beginInside s at) (afterRead (ending closed) (spacesEnd s at) (λ (i : ℕ). beginOutside s i closed))

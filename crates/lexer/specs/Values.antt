@@ -2,7 +2,7 @@
 use Prim.Native.Nat.{ℕ, zero, suc, _+_, _-_}
 use mathlib.Core.List.{List, [], _∷_}
 use mathlib.Core.Bool.{Bool, cond, not, _&&_, _||_}
-use lib.ListN.{length, drop}
+use lib.ListN.{length, drop, getD}
 use lib.Dec.{leb, ltb, eqb}
 use Rattle.laws.specs.Reading.{RunNext, go, stop, run}
 use Rattle.laws.specs.Text.{bytes}
@@ -49,18 +49,26 @@ abbrev pub referred : ℕ → Read → RunNext ℕ Read
 referred i (read.End j) = go (j - (i + 1))
 referred i (read.Stopped x) = stop (read.Stopped x)
 
+-- "Number 2 goes to .. the first of ]]> in text": its > is the byte b at i. A text begins at a place, and its quote is the <
+unfoldable pub closes : List ℕ → ℕ → ℕ → ℕ → ℕ → Bool
+closes s at quote b i = eqb quote 0x3C && leb (at + 2) i && eqb b 0x3E && eqb (getD s (i - 1) 0) 0x5D && eqb (getD s (i - 2) 0) 0x5D
+
 -- "a value lacks its own quote; & starts only .." In the state: how many bytes of a reference are still to be passed over
-abbrev pub valueStep : List ℕ → ℕ → ℕ → ℕ → ℕ → RunNext ℕ Read
-valueStep s quote left b i =
+abbrev pub valueStep : List ℕ → ℕ → ℕ → ℕ → ℕ → ℕ → RunNext ℕ Read
+valueStep s at quote left b i =
     cond (eqb left 0)
     (cond (eqb b quote) (stop (read.End i))
-    (cond (eqb b 0x26) (referred i (referenceEnd s i)) (cond (isText b) (go 0) (stop (read.Stopped (Bad i))))))
+    (cond (eqb b 0x26) (referred i (referenceEnd s i))
+    (cond (closes s at quote b i) (stop (read.Stopped (Bad (i - 2)))) (cond (isText b) (go 0) (stop (read.Stopped (Bad i)))))))
     (go (left - 1))
 
--- a value from a place on: the place of its quote. A text is such a value, its quote the <: "complete once the next < is read, which it does
--- not consume"
-unfoldable pub valueEnd : List ℕ → ℕ → ℕ → Read
-valueEnd s at quote = run (read.Stopped Cut) (valueStep s quote) 0 (drop at s) at
+-- a value that begins at a place, from i on: the place of its quote. A text is such a value, its quote the <: "complete once the next < is read,
+-- which it does not consume"
+unfoldable pub valueFrom : List ℕ → ℕ → ℕ → ℕ → Read
+valueFrom s at quote i = run (read.Stopped Cut) (valueStep s at quote) 0 (drop i s) i
+
+abbrev pub valueEnd : List ℕ → ℕ → ℕ → Read
+valueEnd s at quote = valueFrom s at quote at
 
 abbrev pub textEnd : List ℕ → ℕ → Read
 textEnd s at = valueEnd s at 0x3C

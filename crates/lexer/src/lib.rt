@@ -44,9 +44,9 @@ pub enum Attributed {
     Stopped(Stop),
 }
 
-// What stands behind a tag's name or an attribute.
+// What stands behind a tag's name or an attribute, or behind a field of the declaration.
 pub enum Turn {
-    // The tag's end: the place behind it, and whether it is />.
+    // The tag's end: the place behind it, and whether it is />. Of the declaration: behind its ?>.
     Close(usize, bool),
     // A name, after space.
     Attribute(usize),
@@ -85,7 +85,21 @@ pub enum Begin {
     End(usize),
     // The first byte of a text.
     Text(usize),
-    // The root has closed, and only space follows.
+    // The root has closed, and only space, comments and instructions follow.
     Finished,
     Stopped(Stop),
+}
+
+// What stands at a place where the next event may begin.
+pub enum Ahead {
+    Event(Begin),
+    // A comment, an instruction or the declaration: the place behind it.
+    Misc(usize),
+}
+
+// What a declaration holds.
+pub enum Field {
+    Version,
+    Encoding,
+    Standalone,
 }

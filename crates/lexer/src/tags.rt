@@ -1,7 +1,6 @@
 // Attributes and tags, as bytes.
 use crate::Attr;
 use crate::Attributed;
-use crate::Begin;
 use crate::EndTag;
 use crate::Ended;
 use crate::Name;
@@ -21,7 +20,7 @@ ghost use Prim.Native.Nat.{_*_, _<_};
 ghost use lib.ListN.{length};
 ghost use Rattle.laws.specs.Over.{overwrite};
 ghost use Rattle.lexer.specs.Attrs.{attrNumbers, laid, attrIn};
-ghost use Rattle.lexer.specs.Tags.{wanted, equalsEnd, quotedAt, attributeAt, slashAt, turnBehind, turnAt, attrsFrom, tagAt, endTagAt, tagBegins, beginInside, beginOutside, beginAt};
+ghost use Rattle.lexer.specs.Tags.{wanted, equalsEnd, quotedAt, attributeAt, slashAt, turnBehind, turnAt, attrsFrom, tagAt, endTagAt};
 
 // The place behind this byte, which must stand here.
 pub fn want(s: &[u8], at: usize, byte: u8) -> Read
@@ -37,7 +36,7 @@ pub fn want(s: &[u8], at: usize, byte: u8) -> Read
 }
 
 // Space, = and space: the place of the quote.
-fn equals_end(s: &[u8], at: usize) -> Read
+pub fn equals_end(s: &[u8], at: usize) -> Read
     ensures { λ r. ⌜ r ≡ equalsEnd (now (s .entry)) at ⌝ }
 {
     match spaces_end(s, at) {
@@ -140,22 +139,6 @@ fn put_attr(numbers: &mut [usize], k: usize, a: Attr)
     numbers[at + 4] = a.stop;
 }
 
-// Behind sixteen attributes.
-fn full_turn(s: &[u8], name: Name, at: usize) -> Tagged
-    ensures { λ r. ⌜ ((l : List Attr) → length l ≡ 16 → r ≡ attrsFrom (now (s .entry)) name l 0 at .answer) ⌝ }
-{
-    match turn_at(s, at) {
-        Turn::Close(next, empty) => Tagged::Got(Tag {
-            name,
-            count: 16,
-            next,
-            empty,
-        }),
-        Turn::Attribute(i) => Tagged::Stopped(Stop::Long(i)),
-        Turn::Stopped(x) => Tagged::Stopped(x),
-    }
-}
-
 // The attributes behind a tag's name.
 fn attrs_from(s: &[u8], name: Name, attrs: &mut [usize; 80]) -> Tagged
     ensures answer { λ r. ⌜ r ≡ attrsFrom (now (s .entry)) name [] 16 (name .end) .answer ⌝ }
@@ -163,7 +146,7 @@ fn attrs_from(s: &[u8], name: Name, attrs: &mut [usize; 80]) -> Tagged
 {
     let mut at = name.end;
     let mut count: usize = 0;
-    while count < 16 {
+    loop {
         match turn_at(s, at) {
             Turn::Close(next, empty) => {
                 return Tagged::Got(Tag {
@@ -173,22 +156,26 @@ fn attrs_from(s: &[u8], name: Name, attrs: &mut [usize; 80]) -> Tagged
                     empty,
                 });
             }
-            Turn::Attribute(i) => match attribute_at(s, i) {
-                Attributed::Got(a) => {
-                    put_attr(attrs, count, a);
-                    at = a.stop + 1;
-                    count += 1;
+            Turn::Attribute(i) => {
+                if count == 16 {
+                    return Tagged::Stopped(Stop::Long(i));
                 }
-                Attributed::Stopped(x) => {
-                    return Tagged::Stopped(x);
+                match attribute_at(s, i) {
+                    Attributed::Got(a) => {
+                        put_attr(attrs, count, a);
+                        at = a.stop + 1;
+                        count += 1;
+                    }
+                    Attributed::Stopped(x) => {
+                        return Tagged::Stopped(x);
+                    }
                 }
-            },
+            }
             Turn::Stopped(x) => {
                 return Tagged::Stopped(x);
             }
         }
     }
-    full_turn(s, name, at)
 }
 
 // The start tag from behind its < on; its attributes go to the array.
@@ -251,72 +238,5 @@ pub fn end_tag(s: &[u8], at: usize) -> Ended
             Read::Stopped(x) => Ended::Stopped(x),
         },
         Named::Stopped(x) => Ended::Stopped(x),
-    }
-}
-
-// The tag whose < stands at a place: an end tag only inside an element.
-fn tag_begins(s: &[u8], inside: bool, at: usize) -> Begin
-    ensures { λ r. ⌜ r ≡ tagBegins (now (s .entry)) inside at ⌝ }
-{
-    if s.len() <= at {
-        return Begin::Stopped(Stop::Cut);
-    }
-    let second = at + 1;
-    if s.len() <= second {
-        return Begin::Stopped(Stop::Cut);
-    }
-    if s[second] == b'/' {
-        if inside {
-            return Begin::End(at);
-        }
-        return Begin::Stopped(Stop::Bad(second));
-    }
-    Begin::Start(at)
-}
-
-// Inside an element: a tag or a text.
-fn begin_inside(s: &[u8], at: usize) -> Begin
-    ensures { λ r. ⌜ r ≡ beginInside (now (s .entry)) at ⌝ }
-{
-    if s.len() <= at {
-        return Begin::Stopped(Stop::Cut);
-    }
-    if s[at] == b'<' {
-        return tag_begins(s, true, at);
-    }
-    Begin::Text(at)
-}
-
-// Outside the root, at the first byte that is no space.
-fn begin_outside(s: &[u8], at: usize, closed: bool) -> Begin
-    ensures { λ r. ⌜ r ≡ beginOutside (now (s .entry)) at closed ⌝ }
-{
-    if s.len() <= at {
-        return Begin::Stopped(Stop::Cut);
-    }
-    if closed {
-        return Begin::Stopped(Stop::Bad(at));
-    }
-    if s[at] == b'<' {
-        return tag_begins(s, false, at);
-    }
-    Begin::Stopped(Stop::Bad(at))
-}
-
-// Where the next event begins: inside an element or not, the root closed or not.
-pub fn begin_at(s: &[u8], at: usize, inside: bool, closed: bool) -> Begin
-    ensures { λ r. ⌜ r ≡ beginAt (now (s .entry)) at inside closed ⌝ }
-{
-    if inside {
-        return begin_inside(s, at);
-    }
-    match spaces_end(s, at) {
-        Read::End(i) => begin_outside(s, i, closed),
-        Read::Stopped(x) => {
-            if closed {
-                return Begin::Finished;
-            }
-            Begin::Stopped(x)
-        }
     }
 }

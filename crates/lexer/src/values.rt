@@ -7,7 +7,7 @@ ghost use mathlib.Core.Bool.{cond};
 ghost use Prim.Native.Nat.{_≤_};
 ghost use lib.Dec.{ltb};
 ghost use lib.ListN.{drop};
-ghost use Rattle.lexer.specs.Values.{references, common, furthest, noReference, referenceEnd, isText, valueEnd, textEnd};
+ghost use Rattle.lexer.specs.Values.{references, common, furthest, noReference, referenceEnd, isText, closes, valueFrom, valueEnd, textEnd};
 
 // How many bytes from at on are those that the word begins with.
 fn common_at(s: &[u8], at: usize, word: &[u8]) -> usize
@@ -85,17 +85,33 @@ pub fn reference_end(s: &[u8], at: usize) -> Read
     no_reference(s, at)
 }
 
-fn is_text(b: u8) -> bool
+pub fn is_text(b: u8) -> bool
     ensures { λ r. ⌜ r ≡ isText b ⌝ }
 {
     ((0x20 <= b) | (b == 0x0A) | (b == 0x09) | (b == 0x0D)) & (b != 0x3C)
 }
 
-// Behind the bytes from 80 on that stand at a place, up to the quote.
-fn high_end(s: &[u8], at: usize, quote: u8) -> usize
-    ensures { λ r. ⌜ (at ≤ r) × (valueEnd (now (s .entry)) r quote ≡ valueEnd (now (s .entry)) at quote) ⌝ }
+// Whether the byte b at i is the > of ]]> in a text that begins at a place.
+fn is_closing(s: &[u8], at: usize, quote: u8, b: u8, i: usize) -> bool
+    ensures { λ r. ⌜ r ≡ closes (now (s .entry)) at quote b i ⌝ }
 {
-    let mut i = at;
+    if (quote != b'<') | (b != b'>') {
+        return false;
+    }
+    if (s.len() < i) | (i < 2) {
+        return false;
+    }
+    if i - 2 < at {
+        return false;
+    }
+    (s[i - 1] == b']') & (s[i - 2] == b']')
+}
+
+// Behind the bytes from 80 on that stand at i, up to the quote.
+fn high_end(s: &[u8], at: usize, quote: u8, from: usize) -> usize
+    ensures { λ r. ⌜ (from ≤ r) × (valueFrom (now (s .entry)) at quote r ≡ valueFrom (now (s .entry)) at quote from) ⌝ }
+{
+    let mut i = from;
     while i < s.len() {
         let b = s[i];
         if b < 0x80 {
@@ -109,11 +125,11 @@ fn high_end(s: &[u8], at: usize, quote: u8) -> usize
     i
 }
 
-// The same as value_end, byte by byte where a byte is not plain.
-fn value_rest(s: &[u8], at: usize, quote: u8) -> Read
-    ensures { λ r. ⌜ r ≡ valueEnd (now (s .entry)) at quote ⌝ }
+// The same as value_end from a place on, byte by byte where a byte is not plain.
+fn value_rest(s: &[u8], at: usize, quote: u8, from: usize) -> Read
+    ensures { λ r. ⌜ r ≡ valueFrom (now (s .entry)) at quote from ⌝ }
 {
-    let mut i = at;
+    let mut i = from;
     while i < s.len() {
         let b = s[i];
         if b == quote {
@@ -129,10 +145,13 @@ fn value_rest(s: &[u8], at: usize, quote: u8) -> Read
                 }
             }
         } else {
+            if is_closing(s, at, quote, b, i) {
+                return Read::Stopped(Stop::Bad(i - 2));
+            }
             if !is_text(b) {
                 return Read::Stopped(Stop::Bad(i));
             }
-            i = plain_end(s, high_end(s, i + 1, quote), quote);
+            i = plain_end(s, high_end(s, at, quote, i + 1), quote);
         }
     }
     Read::Stopped(Stop::Cut)
@@ -148,12 +167,12 @@ pub fn value_end(s: &[u8], at: usize, quote: u8) -> Read
             return Read::End(i);
         }
     }
-    value_rest(s, i, quote)
+    value_rest(s, at, quote, i)
 }
 
 // Behind the line's end that a text may begin with.
 fn line_passed(s: &[u8], at: usize) -> usize
-    ensures { λ r. ⌜ textEnd (now (s .entry)) r ≡ textEnd (now (s .entry)) at ⌝ }
+    ensures { λ r. ⌜ valueFrom (now (s .entry)) at 0x3C r ≡ textEnd (now (s .entry)) at ⌝ }
 {
     if at < s.len() {
         if s[at] == 0x0A {
@@ -173,5 +192,5 @@ pub fn text_end(s: &[u8], at: usize) -> Read
             return Read::End(i);
         }
     }
-    value_rest(s, i, b'<')
+    value_rest(s, at, b'<', i)
 }

@@ -15,7 +15,8 @@ use Rattle.laws.specs.Members.{All}
 use Rattle.laws.proofs.Holds.{holds-cond}
 use Rattle.laws.proofs.Elementwise.{each-map, each-append}
 use Rattle.lexer.specs.Values.{textEnd}
-use Rattle.lexer.specs.Tags.{TagRead, tagAt, endTagAt, beginAt}
+use Rattle.lexer.specs.Tags.{TagRead, tagAt, endTagAt}
+use Rattle.lexer.specs.Begins.{beginAt}
 use Rattle.lexer.specs.declared.Stop.{Stop}
 use Rattle.lexer.specs.declared.Stop.the-variants.{Bad, Long, Cut}
 use Rattle.lexer.specs.declared.Read.{Read}
@@ -27,8 +28,9 @@ use Rattle.lexer.specs.declared.Ended.the-variants as ended
 use Rattle.lexer.specs.declared.Begin.{Begin}
 use Rattle.lexer.specs.declared.Begin.the-variants as begin
 use Rattle.lexer.proofs.ValueLaws.{ValueTo, value-inside}
-use Rattle.lexer.proofs.Inside.{StopInside, ReadInside, within-read, TagInside, TaggedInside, TagReadInside, tag-inside, EndedInside, endTag-inside, BeginInside, begin-inside}
+use Rattle.lexer.proofs.Inside.{StopInside, ReadInside, within-read, TagInside, TaggedInside, TagReadInside, tag-inside, EndedInside, endTag-inside}
 use Rattle.lexer.proofs.WholeNames.{whole-name}
+use Rattle.misc.proofs.BeginLaws.{BeginInside, begin-inside}
 use Rattle.reader.specs.Spans.{bytesOf, wholeSpan}
 use Rattle.reader.specs.Namespaces.{Meaning, refused, meant, meaningOf}
 use Rattle.reader.specs.Events.{Start, Event, start, text, end, Open, ReaderState, freshReader, bindingsOf, Next, event, refusal, finished, stopped, colonEnd, partOf, isNil, left, endRead, startMeant, startRead, textRead, begun, nextBy, next}
@@ -86,7 +88,7 @@ module _ (s : List ℕ) (z : ReaderState) (h : Held s z) where
   stop-held at le (Long p) i = refused-in 3 p (omega arith) (omega arith) (omega arith) (i .1)
   stop-held at le Cut i = record { some = omega arith; few = omega arith; cut = λ e. refl; inside = λ n. absurd (n refl) }
 
-  text-held : (at : ℕ) → z .place ≡ at → (getD s at 0 ≡ 0x3C → ⊥) → (r : Read) → textEnd s at ≡ r → ReadInside (ValueTo s 0x3C at) s at r → NextHeld s z (textRead s z at r)
+  text-held : (at : ℕ) → z .place ≤ at → (getD s at 0 ≡ 0x3C → ⊥) → (r : Read) → textEnd s at ≡ r → ReadInside (ValueTo s 0x3C at) s at r → NextHeld s z (textRead s z at r)
   text-held at e n (read.Stopped x) q i = stop-held at (omega arith) x i
   text-held at e n (read.End j) q i =
       let lt : at < j = ⊎-elim (λ le. absurd (n (subst (λ (k : ℕ). getD s k 0 ≡ 0x3C) (omega arith) (i .2)))) (λ k. k) (le-or-lt j at) in
@@ -134,7 +136,7 @@ module _ (s : List ℕ) (z : ReaderState) (h : Held s z) where
   begun-held : (inside : Bool) (b : Begin) → BeginInside s (z .place) inside (z .closed) b → NextHeld s z (begun s z b)
   begun-held inside (begin.Stopped x) i = stop-held (z .place) (omega arith) x i
   begun-held inside begin.Finished i = (refl, i .0)
-  begun-held inside (begin.Text at) i = text-held at (sym (i .0)) (i .2) (textEnd s at) refl (within-read (ValueTo s 0x3C at) s at (textEnd s at) (value-inside s at 0x3C))
+  begun-held inside (begin.Text at) i = text-held at (i .0) (i .2) (textEnd s at) refl (within-read (ValueTo s 0x3C at) s at (textEnd s at) (value-inside s at 0x3C))
   begun-held inside (begin.End at) i = end-held at (i .0) (i .1) (z .opened) (h .opened) (endTagAt s (at + 2)) (endTag-inside s (at + 2))
   begun-held inside (begin.Start at) i = start-held at (i .0) (i .1) (tagAt s (at + 1)) (tag-inside s (at + 1)) refl (tagAt s (at + 1) .answer) refl
 

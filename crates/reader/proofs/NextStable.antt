@@ -14,7 +14,8 @@ use Rattle.laws.specs.Reading.{le-or-lt}
 use Rattle.laws.specs.Members.{All}
 use Rattle.laws.proofs.Kept.{Kept}
 use Rattle.lexer.specs.Values.{textEnd}
-use Rattle.lexer.specs.Tags.{TagRead, tagAt, endTagAt, beginAt}
+use Rattle.lexer.specs.Tags.{TagRead, tagAt, endTagAt}
+use Rattle.lexer.specs.Begins.{beginAt}
 use Rattle.lexer.specs.declared.Stop.{Stop}
 use Rattle.lexer.specs.declared.Stop.the-variants.{Bad, Long, Cut}
 use Rattle.lexer.specs.declared.Read.{Read}
@@ -27,7 +28,8 @@ use Rattle.lexer.specs.declared.Begin.{Begin}
 use Rattle.lexer.specs.declared.Begin.the-variants as begin
 use Rattle.lexer.proofs.ValueLaws.{value-stable}
 use Rattle.lexer.proofs.Inside.{TaggedInside, TagReadInside, tag-inside, EndedInside, endTag-inside}
-use Rattle.lexer.proofs.Stable.{CutTag, CutBegin, tag-stable, endTag-stable, begin-stable}
+use Rattle.lexer.proofs.Stable.{CutTag, tag-stable, endTag-stable}
+use Rattle.misc.proofs.BeginLaws.{CutBegin, begin-stable}
 use Rattle.reader.specs.Spans.{wholeSpan}
 use Rattle.reader.specs.Events.{Event, end, Open, ReaderState, bindingsOf, Next, event, refusal, finished, stopped, isNil, left, endRead, startMeant, startRead, textRead, begun, nextBy, next}
 use Rattle.reader.specs.Held.{OpenHeld, Held}

@@ -14,9 +14,11 @@ use Rattle.laws.specs.Lists.{sameList}
 use Rattle.laws.specs.Reading.{le-or-lt}
 use Rattle.laws.proofs.Holds.{holds-cond}
 use Rattle.lexer.specs.Values.{textEnd}
-use Rattle.lexer.specs.Tags.{TagRead, tagAt, endTagAt, beginAt}
+use Rattle.lexer.specs.Tags.{TagRead, tagAt, endTagAt}
+use Rattle.lexer.specs.Begins.{beginAt}
 use Rattle.lexer.proofs.ValueLaws.{Within, ValueTo, value-inside}
-use Rattle.lexer.proofs.Inside.{StopInside, TaggedInside, tag-inside, EndedInside, endTag-inside, BeginInside, begin-inside}
+use Rattle.lexer.proofs.Inside.{StopInside, TaggedInside, tag-inside, EndedInside, endTag-inside}
+use Rattle.misc.proofs.BeginLaws.{BeginInside, begin-inside}
 use Rattle.lexer.specs.declared.Stop.{Stop}
 use Rattle.lexer.specs.declared.Stop.the-variants as stop
 use Rattle.lexer.specs.declared.Read.{Read}

@@ -7,7 +7,8 @@ use lib.Dec.{eqb}
 use Rattle.laws.specs.Lists.{sameList}
 use Rattle.lexer.specs.Stops.{numberOf, stopPlace}
 use Rattle.lexer.specs.Values.{textEnd}
-use Rattle.lexer.specs.Tags.{TagRead, tagAt, endTagAt, beginAt}
+use Rattle.lexer.specs.Tags.{TagRead, tagAt, endTagAt}
+use Rattle.lexer.specs.Begins.{beginAt}
 use Rattle.lexer.specs.declared.Stop.{Stop}
 use Rattle.lexer.specs.declared.Read.{Read}
 use Rattle.lexer.specs.declared.Read.the-variants as read

@@ -96,8 +96,8 @@ end-of-nothing : lastOf (bytes "</r>") ≡ refusal 2 1
 unfolding computing
 end-of-nothing = refl
 
--- B6: after the root every byte but space
-second-root : lastOf (bytes "<r/><s/>") ≡ refusal 2 4
+-- B6 and N1-9: after the root every byte but space, and behind a < every byte that opens no misc
+second-root : lastOf (bytes "<r/><s/>") ≡ refusal 2 5
 unfolding computing
 second-root = refl
 
@@ -105,17 +105,17 @@ space-after-the-root : lastOf (bytes "<r/>  ") ≡ finished 6
 unfolding computing
 space-after-the-root = refl
 
--- B7: the second byte of what is no tag; text before the root
-instruction : lastOf (bytes "<?x") ≡ refusal 2 1
+-- B7 and N1-8: what no misc begins with; text before the root
+document-type : lastOf (bytes "<!DOCTYPE r>") ≡ refusal 2 2
 unfolding computing
-instruction = refl
+document-type = refl
 
 text-before-the-root : lastOf (bytes "a<r/>") ≡ refusal 2 0
 unfolding computing
 text-before-the-root = refl
 
--- B8: >, ]]>, the other quote and 7F may stand in text and values; 0B may not
-free-bytes : lastOf (bytes "<r a='\">'>]]>" ++ (0x7F ∷ []) ++ bytes "</r>") ≡ finished 18
+-- B8 and N1-22: >, the other quote and 7F may stand in text and values, ]]> in values; 0B may not
+free-bytes : lastOf (bytes "<r a='\">]]>'>]>" ++ (0x7F ∷ []) ++ bytes "</r>") ≡ finished 20
 unfolding computing
 free-bytes = refl
 

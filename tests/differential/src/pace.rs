@@ -11,6 +11,8 @@ const FIRST_SEED: u64 = 1;
 const AT_LEAST: u64 = 10;
 /// A loop of fewer calls may miss a number.
 const ENOUGH: u64 = 2_000;
+/// And of fewer than these a boundary, of which some are rare.
+const ENOUGH_FOR_BOUNDARIES: u64 = 200_000;
 
 pub struct Pace {
     name: &'static str,
@@ -20,6 +22,7 @@ pub struct Pace {
     cases: u64,
     asked: u64,
     met: BTreeMap<u8, u64>,
+    boundaries: BTreeMap<&'static str, u64>,
 }
 
 impl Pace {
@@ -33,6 +36,7 @@ impl Pace {
             cases: 0,
             asked: 0,
             met: BTreeMap::new(),
+            boundaries: BTreeMap::new(),
         }
     }
 
@@ -52,6 +56,13 @@ impl Pace {
         *self.met.entry(number).or_insert(0) += 1;
     }
 
+    /// A scene that was asked ends at this boundary of request N1, if at one.
+    pub fn at(&mut self, boundary: Option<&'static str>) {
+        if let Some(label) = boundary {
+            *self.boundaries.entry(label).or_insert(0) += 1;
+        }
+    }
+
     /// Says what was done; the numbers that a test is there to meet must have been met, unless its loop was too short for that.
     pub fn finish(self, wanted: &[u8]) {
         println!(
@@ -62,11 +73,22 @@ impl Pace {
             self.started.elapsed().as_secs_f64(),
             self.met
         );
+        if !self.boundaries.is_empty() {
+            println!("{}: at boundaries {:?}", self.name, self.boundaries);
+        }
         if self.cases > 0 && self.asked < ENOUGH {
             return;
         }
         let missed: Vec<u8> = wanted.iter().copied().filter(|number| !self.met.contains_key(number)).collect();
         assert!(missed.is_empty(), "{}: never met {missed:?}", self.name);
+    }
+
+    /// The same with boundaries that must have been met.
+    pub fn finish_at(self, wanted: &[u8], boundaries: &[&str]) {
+        let missed: Vec<&str> = boundaries.iter().copied().filter(|label| !self.boundaries.contains_key(label)).collect();
+        let (name, enough) = (self.name, self.asked >= ENOUGH_FOR_BOUNDARIES);
+        self.finish(wanted);
+        assert!(missed.is_empty() || !enough, "{name}: never met {missed:?}");
     }
 }
 

@@ -61,6 +61,7 @@ const PLAIN: Profile = Profile {
     declared_anew: 25,
     long: 1,
     text: 40,
+    misc: 12,
 };
 
 /// The shapes, one after the other by number: deep, wide, many bindings, many strands, many attributes and sections, long names, large.
@@ -134,4 +135,25 @@ pub fn small(random: &mut Random, table: &[u8]) -> Vec<u8> {
         ..PLAIN
     };
     scene_of(random, table, &profile)
+}
+
+/// A byte of every class that the reader tells apart.
+const BYTES: &[u8] = b"\x00\x09\x0B\x1F\x7F\x80\xFF \nax:<>/=\"'&;-0_!?]";
+
+/// Every byte replaced by every class, before every byte one of every class put in, every byte taken out, every length.
+pub fn every_change(whole: &[u8]) -> Vec<Vec<u8>> {
+    let mut list = Vec::new();
+    for at in 0..=whole.len() {
+        list.push(whole[..at].to_vec());
+        for &byte in BYTES {
+            list.push([&whole[..at], &[byte], &whole[at..]].concat());
+            if at < whole.len() {
+                list.push([&whole[..at], &[byte], &whole[at + 1..]].concat());
+            }
+        }
+        if at < whole.len() {
+            list.push([&whole[..at], &whole[at + 1..]].concat());
+        }
+    }
+    list
 }

@@ -4,7 +4,7 @@
 use differential::calls::{self, Lent};
 use differential::shapes::{shaped, small, t, t2, SAMPLE};
 use differential::{asked, checked, Case, Pace};
-use reference::generate::{damaged_scene, many_units, numbered_case, scene, table, Random};
+use reference::generate::{damaged_scene, many_units, misc_scene, numbered_case, scene, soup, table, Random};
 use reference::Answer;
 
 const AMPLE: usize = 1 << 16;
@@ -57,7 +57,7 @@ fn growing(pace: &mut Pace, random: &mut Random, case: Case) {
 
 #[test]
 fn random_scenes_that_grow() {
-    let mut pace = Pace::new("advances: random scenes that grow", 6);
+    let mut pace = Pace::new("advances: random scenes that grow", 5);
     while let Some(seed) = pace.next_seed() {
         let (table, scene) = numbered_case(seed);
         growing(
@@ -71,7 +71,7 @@ fn random_scenes_that_grow() {
 
 #[test]
 fn shapes_at_the_limits_that_grow() {
-    let mut pace = Pace::new("advances: shapes at the limits that grow", 6);
+    let mut pace = Pace::new("advances: shapes at the limits that grow", 5);
     while let Some(seed) = pace.next_seed() {
         let mut random = Random::new(seed);
         let table = table(&mut random);
@@ -79,6 +79,23 @@ fn shapes_at_the_limits_that_grow() {
         growing(&mut pace, &mut random, Case::new("growing shape", seed, &table, &scene));
     }
     pace.finish(&[0, 1, 9, 25]);
+}
+
+/// Scenes of little but misc, good and bad, by a few bytes at a time.
+#[test]
+fn scenes_dense_with_misc_that_grow() {
+    let mut pace = Pace::new("advances: scenes dense with misc that grow", 4);
+    while let Some(seed) = pace.next_seed() {
+        let mut random = Random::new(seed);
+        let table = if random.percent(50) { t2() } else { table(&mut random) };
+        let scene = if random.percent(60) {
+            misc_scene(&mut random)
+        } else {
+            soup(&mut random)
+        };
+        growing(&mut pace, &mut random, Case::new("growing misc", seed, &table, &scene));
+    }
+    pace.finish(&[0, 1, 2, 9]);
 }
 
 /// From fresh and with no bound an advance is a run, in any output.

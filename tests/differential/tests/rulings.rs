@@ -16,6 +16,9 @@ mod common;
 #[path = "../../reference/tests/rulings/limits.rs"]
 #[rustfmt::skip]
 mod limits;
+#[path = "../../reference/tests/rulings/n01.rs"]
+#[rustfmt::skip]
+mod n01;
 #[path = "../../reference/tests/rulings/names.rs"]
 #[rustfmt::skip]
 mod names;

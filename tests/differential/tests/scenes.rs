@@ -1,11 +1,8 @@
 //! Run on random tables and scenes: number, place, events, records and every byte of the output.
 
-use differential::shapes::{alternating, bound, shaped, small, t, t2, validating};
+use differential::shapes::{alternating, bound, every_change, shaped, small, t, t2, validating};
 use differential::{checked, Case, Pace};
 use reference::generate::{damaged_scene, many_units, numbered_case, scene, table, Random};
-
-/// A byte of every class that the reader tells apart.
-const BYTES: &[u8] = b"\x00\x09\x0B\x1F\x7F\x80\xFF \nax:<>/=\"'&;-0_!?]";
 
 /// Ample, exact, short by one byte, short at random and cut at a record.
 fn outputs(pace: &mut Pace, random: &mut Random, case: &Case) {
@@ -28,7 +25,7 @@ fn outputs(pace: &mut Pace, random: &mut Random, case: &Case) {
 
 #[test]
 fn random_scenes() {
-    let mut pace = Pace::new("scenes: random, whole or damaged", 16);
+    let mut pace = Pace::new("scenes: random, whole or damaged", 12);
     while let Some(seed) = pace.next_seed() {
         let (table, scene) = numbered_case(seed);
         outputs(
@@ -42,7 +39,7 @@ fn random_scenes() {
 
 #[test]
 fn damaged_scenes() {
-    let mut pace = Pace::new("scenes: damaged", 16);
+    let mut pace = Pace::new("scenes: damaged", 12);
     while let Some(seed) = pace.next_seed() {
         let mut random = Random::new(seed);
         let table = table(&mut random);
@@ -60,7 +57,7 @@ fn damaged_scenes() {
 /// Deep to 70, wide, many bindings, many strands, many attributes and sections, names of 64 bytes, large; then damaged, names of 65 among them.
 #[test]
 fn shapes_at_the_limits() {
-    let mut pace = Pace::new("scenes: shapes at the limits", 16);
+    let mut pace = Pace::new("scenes: shapes at the limits", 12);
     while let Some(seed) = pace.next_seed() {
         let mut random = Random::new(seed);
         let table = table(&mut random);
@@ -90,7 +87,7 @@ fn longer_name(random: &mut Random, scene: &[u8]) -> Option<Vec<u8>> {
 /// Of a small scene every byte replaced by every class, before every byte one of every class put in, every byte taken out, every length.
 #[test]
 fn every_byte_of_small_scenes() {
-    let mut pace = Pace::new("scenes: every byte of small ones", 16);
+    let mut pace = Pace::new("scenes: every byte of small ones", 12);
     while let Some(seed) = pace.next_seed() {
         let mut random = Random::new(seed);
         let table = table(&mut random);
@@ -102,33 +99,19 @@ fn every_byte_of_small_scenes() {
     pace.finish(&[1, 2, 4, 5, 9]);
 }
 
-fn every_change(whole: &[u8]) -> Vec<Vec<u8>> {
-    let mut list = Vec::new();
-    for at in 0..=whole.len() {
-        list.push(whole[..at].to_vec());
-        for &byte in BYTES {
-            list.push([&whole[..at], &[byte], &whole[at..]].concat());
-            if at < whole.len() {
-                list.push([&whole[..at], &[byte], &whole[at + 1..]].concat());
-            }
-        }
-        if at < whole.len() {
-            list.push([&whole[..at], &whole[at + 1..]].concat());
-        }
-    }
-    list
-}
-
 /// Every byte value at every place of a scene that has every kind of place.
 #[test]
 fn every_byte_value() {
     let mut pace = Pace::new("scenes: every byte value", 0);
-    let whole: &[u8] = b" <r xmlns=\"u\" p:a = 'v' xmlns:p='w'>t&amp;<p:x b='&lt;'/>\n</r> ";
-    for at in 0..whole.len() {
-        for byte in 0..=255 {
-            let mut changed = whole.to_vec();
-            changed[at] = byte;
-            pace.met(checked::ample_run(&Case::new("byte value", 0, &t2(), &changed)).0.number);
+    let plain: &[u8] = b" <r xmlns=\"u\" p:a = 'v' xmlns:p='w'>t&amp;<p:x b='&lt;'/>\n</r> ";
+    let with_misc: &[u8] = b"<?xml version='1.0' encoding = \"a\" standalone='no' ?><!--a-b--> <r>]]<?xm?>><?p ?a?>\n<!----></r> <?q?>";
+    for whole in [plain, with_misc] {
+        for at in 0..whole.len() {
+            for byte in 0..=255 {
+                let mut changed = whole.to_vec();
+                changed[at] = byte;
+                pace.met(checked::ample_run(&Case::new("byte value", 0, &t2(), &changed)).0.number);
+            }
         }
     }
     pace.finish(&[1, 2, 4, 5, 9]);

@@ -317,7 +317,7 @@ fn every_form_that_holds_no_session() {
 /// 20 for bytes that hold no session stands behind 10, 11, 12 and 7, and before everything else.
 #[test]
 fn bytes_that_hold_no_session() {
-    let mut pace = Pace::new("sessions: bytes that hold none", 15);
+    let mut pace = Pace::new("sessions: bytes that hold none", 12);
     while let Some(seed) = pace.next_seed() {
         let (table, scene) = numbered_case(seed);
         let mut random = Random::new(seed ^ 0x2020);
@@ -397,7 +397,7 @@ fn held(seed: u64) -> (Random, Vec<u8>, Vec<u8>, Session) {
 
 #[test]
 fn odd_sessions() {
-    let mut pace = Pace::new("sessions: odd ones", 15);
+    let mut pace = Pace::new("sessions: odd ones", 12);
     while let Some(seed) = pace.next_seed() {
         let (mut random, table, mut scene, session) = held(seed);
         if random.percent(25) {
@@ -429,7 +429,7 @@ fn some_byte(random: &mut Random, session: &Session) -> usize {
 
 #[test]
 fn flipped_bytes() {
-    let mut pace = Pace::new("sessions: flipped bytes", 15);
+    let mut pace = Pace::new("sessions: flipped bytes", 12);
     while let Some(seed) = pace.next_seed() {
         let (mut random, table, scene, session) = held(seed);
         let valid = encoded(&session);
@@ -453,7 +453,7 @@ fn flipped_bytes() {
 /// A session given to another scene or another table: judged with this step's.
 #[test]
 fn another_scene_or_table() {
-    let mut pace = Pace::new("sessions: another scene or table", 15);
+    let mut pace = Pace::new("sessions: another scene or table", 12);
     while let Some(seed) = pace.next_seed() {
         let (mut random, table, scene, session) = held(seed);
         let bytes = encoded(&session);

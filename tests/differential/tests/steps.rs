@@ -4,9 +4,9 @@
 //! are refused, by a short output, an event that has not come in yet, a bad byte behind it or a refused table, change nothing, and none is refused
 //! with 20.
 
-use differential::shapes::{shaped, small, t, t2, SAMPLE};
+use differential::shapes::{shaped, small, t, t2, validating, SAMPLE};
 use differential::{asked, checked, layout, Case, Pace};
-use reference::generate::{damaged_scene, many_units, numbered_case, scene, table, Random};
+use reference::generate::{boundary, damaged_scene, many_units, misc_scene, numbered_case, scene, soup, table, Random};
 use reference::{Answer, Session};
 
 const AMPLE: usize = 1 << 16;
@@ -124,7 +124,7 @@ fn every_cut(pace: &mut Pace, case: Case) {
 
 #[test]
 fn every_cut_of_small_scenes() {
-    let mut pace = Pace::new("steps: every cut of small scenes", 12);
+    let mut pace = Pace::new("steps: every cut of small scenes", 10);
     while let Some(seed) = pace.next_seed() {
         let mut random = Random::new(seed);
         let table = table(&mut random);
@@ -141,7 +141,7 @@ fn every_cut_of_small_scenes() {
 #[test]
 fn every_cut_of_the_samples() {
     let mut pace = Pace::new("steps: every cut of the samples", 0);
-    let samples: [&[u8]; 9] = [
+    let samples: [&[u8]; 14] = [
         SAMPLE,
         b"",
         b"<r/>",
@@ -151,6 +151,11 @@ fn every_cut_of_the_samples() {
         b"<p:r/>",
         b"<r/x",
         b" <r xmlns='u' a='1' xml:b=''>\n<x xmlns:p='v' p:c='&amp;'>t</x></r>\n",
+        b"<?xml version='1.0' encoding=\"x\" standalone = 'no'?>\n<!--c--><r xmlns='u'>a<!-- - -->b<?p ??>]]<x xmlns='v'/><!----></r> <?q?>\n<!--e-->",
+        b"<r xmlns='u'>]]]<!---->></r><!--a--b-->",
+        b"<r xmlns='u'>a]]></r>",
+        b"<r xmlns='u'>a<?xml-a?><?xMl?></r>",
+        b"<r xmlns='u'>a</r><!DOCTYPE r>",
     ];
     for scene in samples {
         for table in [t(), t2()] {
@@ -158,6 +163,38 @@ fn every_cut_of_the_samples() {
         }
     }
     pace.finish(&[0, 1, 2, 4, 5, 9]);
+}
+
+/// The same for scenes of little but misc, good and bad: most cuts are inside one.
+#[test]
+fn every_cut_of_scenes_dense_with_misc() {
+    let mut pace = Pace::new("steps: every cut of scenes dense with misc", 8);
+    while let Some(seed) = pace.next_seed() {
+        let mut random = Random::new(seed);
+        let table = if random.percent(50) { validating(2) } else { table(&mut random) };
+        let scene = if random.percent(60) {
+            misc_scene(&mut random)
+        } else {
+            soup(&mut random)
+        };
+        for cut in 0..=scene.len() {
+            pace.at(boundary(&scene[..cut], &reference::events(&scene[..cut])));
+        }
+        every_cut(&mut pace, Case::new("every cut", seed, &table, &scene));
+    }
+    pace.finish_at(
+        &[0, 1, 2],
+        &[
+            "1 comment",
+            "1 target xml",
+            "1 version",
+            "1 ]]",
+            "2 target xml",
+            "2 ]]>",
+            "3 target",
+            "9 behind misc",
+        ],
+    );
 }
 
 /// A list with random cuts, outputs that are short by a byte or at random, and refused steps in between.
@@ -212,7 +249,7 @@ fn refused_steps(pace: &mut Pace, random: &mut Random, case: &Case, model: &Mode
 
 #[test]
 fn random_cuts_with_refused_steps_in_between() {
-    let mut pace = Pace::new("steps: random cuts, refused steps in between", 12);
+    let mut pace = Pace::new("steps: random cuts, refused steps in between", 10);
     while let Some(seed) = pace.next_seed() {
         let (table, scene) = numbered_case(seed);
         if reference::judge(&table).number == 0 {
@@ -224,7 +261,7 @@ fn random_cuts_with_refused_steps_in_between() {
 
 #[test]
 fn random_cuts_of_shapes_at_the_limits() {
-    let mut pace = Pace::new("steps: shapes at the limits", 12);
+    let mut pace = Pace::new("steps: shapes at the limits", 10);
     while let Some(seed) = pace.next_seed() {
         let mut random = Random::new(seed);
         let table = table(&mut random);
@@ -238,7 +275,7 @@ fn random_cuts_of_shapes_at_the_limits() {
 /// Run is steps from fresh that are lent the rest of the output, until one does not give 0.
 #[test]
 fn run_against_steps() {
-    let mut pace = Pace::new("steps: run against them", 12);
+    let mut pace = Pace::new("steps: run against them", 10);
     while let Some(seed) = pace.next_seed() {
         let mut random = Random::new(seed);
         let table = table(&mut random);

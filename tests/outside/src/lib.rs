@@ -1,15 +1,14 @@
-//! Seeded scenes for parsers of XML: the reference's scenes, whole and damaged, their bytes from 80 on made ASCII or UTF-8.
+//! Seeded scenes for parsers of XML: the reference's scenes, whole and damaged, their bytes from 80 on made ASCII or UTF-8. Where an encoding is
+//! declared all bytes are ASCII, and in whole scenes it is UTF-8.
 
 use reference::generate::{self, Random};
 
 /// What XML has and document 01 has not.
-const BEYOND: [&[u8]; 8] = [
-    b"<!-- c -->",
-    b"<?p d?>",
+const BEYOND: [&[u8]; 6] = [
+    b"<!DOCTYPE r>",
     b"<![CDATA[<c>]]>",
     b"&#65;",
     b"&#x41;",
-    b"]]>",
     b"<x xmlns:k='a&amp;b' k:a=''/>",
     b"<xml:x xmlns:xml='http://www.w3.org/XML/1998/namespace'/>",
 ];
@@ -26,6 +25,7 @@ pub enum Kind {
     Whole,
     Damaged,
     Beyond,
+    Dense,
 }
 
 impl Kind {
@@ -34,21 +34,43 @@ impl Kind {
             Kind::Whole => "whole",
             Kind::Damaged => "damaged",
             Kind::Beyond => "beyond",
+            Kind::Dense => "dense",
         }
     }
 }
 
-/// A scene by its seed, the same on every machine: of ten, five are whole, four damaged, one has what document 01 leaves out.
+/// A scene by its seed, the same on every machine: of twelve, five are whole, four damaged, one has what document 01 leaves out, two are of little
+/// but comments, processing instructions and declarations, good and bad.
 pub fn scene(seed: u64) -> (Kind, Vec<u8>) {
     let mut random = Random::new(seed);
     let table = generate::table(&mut random);
-    let whole = generate::scene(&mut random, &table);
-    let (kind, scene) = match random.below(10) {
+    let whole = in_utf8(generate::scene(&mut random, &table));
+    let (kind, scene) = match random.below(12) {
         0..=4 => (Kind::Whole, whole),
         5..=8 => (Kind::Damaged, generate::damaged_scene(&mut random, &whole)),
-        _ => (Kind::Beyond, beyond(&mut random, &whole)),
+        9 => (Kind::Beyond, beyond(&mut random, &whole)),
+        10 => (Kind::Dense, in_utf8(generate::misc_scene(&mut random))),
+        _ => (Kind::Dense, generate::soup(&mut random)),
     };
     (kind, encoded(&mut random, scene))
+}
+
+/// Where the name of a declared encoding stands.
+fn encoding(scene: &[u8]) -> Option<std::ops::Range<usize>> {
+    let quote = |byte: &u8| b"\"'".contains(byte);
+    let length = scene.windows(2).position(|two| two == b"?>").filter(|_| scene.starts_with(b"<?xml"))?;
+    let at = scene[..length].windows(8).position(|word| word == b"encoding")?;
+    let from = at + scene[at..length].iter().position(quote)? + 1;
+    let to = from + scene[from..length].iter().position(quote)?;
+    Some(from..to)
+}
+
+/// The same with UTF-8 for the encoding, if one is declared.
+fn in_utf8(mut scene: Vec<u8>) -> Vec<u8> {
+    if let Some(name) = encoding(&scene) {
+        scene.splice(name, *b"UTF-8");
+    }
+    scene
 }
 
 /// A piece behind some tag, or before all.
@@ -65,9 +87,10 @@ fn beyond(random: &mut Random, scene: &[u8]) -> Vec<u8> {
     [&scene[..at], piece, &scene[at..]].concat()
 }
 
-/// Half of the scenes become ASCII, most others valid UTF-8; one in twelve keeps its bytes.
+/// Half of the scenes become ASCII, and all that declare an encoding; most others valid UTF-8; one in twelve keeps its bytes.
 fn encoded(random: &mut Random, scene: Vec<u8>) -> Vec<u8> {
     let longest = match random.below(12) {
+        _ if encoding(&scene).is_some() => 1,
         0 => return scene,
         1..=6 => 1,
         _ => CHARACTERS.len(),
@@ -100,8 +123,22 @@ mod tests {
     }
 
     #[test]
+    fn whole_scenes_declare_utf8_and_are_ascii_then() {
+        let declaring = (0..500)
+            .map(scene)
+            .filter(|(kind, scene)| *kind == Kind::Whole && encoding(scene).is_some());
+        let mut count = 0;
+        for (_, scene) in declaring {
+            assert_eq!(scene[encoding(&scene).unwrap()], *b"UTF-8");
+            assert!(scene.is_ascii());
+            count += 1;
+        }
+        assert!(count > 5, "{count}");
+    }
+
+    #[test]
     fn every_kind_is_met() {
-        for wanted in [Kind::Whole, Kind::Damaged, Kind::Beyond] {
+        for wanted in [Kind::Whole, Kind::Damaged, Kind::Beyond, Kind::Dense] {
             assert!((0..100).any(|seed| scene(seed).0 == wanted), "{wanted:?}");
         }
     }

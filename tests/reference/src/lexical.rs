@@ -8,7 +8,7 @@ pub const ATTRIBUTE_LIMIT: usize = 16;
 
 const FINISHED: u8 = 9;
 const SCENE_ENDS: u8 = 1;
-const CANNOT_STAND: u8 = 2;
+pub(crate) const CANNOT_STAND: u8 = 2;
 const TOO_MANY: u8 = 3;
 
 const REFERENCES: [&[u8]; 5] = [b"&lt;", b"&gt;", b"&amp;", b"&quot;", b"&apos;"];
@@ -55,6 +55,11 @@ pub fn is_space(byte: u8) -> bool {
     matches!(byte, 0x09 | 0x0A | 0x0D | 0x20)
 }
 
+/// A byte of text, of values and of what makes no event.
+pub fn is_character(byte: u8) -> bool {
+    is_space(byte) || byte >= 0x20
+}
+
 pub fn begins_part(byte: u8) -> bool {
     byte.is_ascii_alphabetic() || byte == b'_'
 }
@@ -89,19 +94,20 @@ pub fn part_of(scene: &[u8], name: Span) -> Span {
     }
 }
 
-/// Reads before the root: space, then a start tag.
+/// Reads before the root: space and misc, then a start tag.
 pub fn before_root(scene: &[u8], place: u64) -> Result<Token, Refusal> {
     let mut reader = Bytes::at(scene, place);
-    reader.space();
+    reader.outside_root()?;
     match reader.peek() {
         Some(b'<') => reader.start_tag(),
         _ => Err(reader.refused()),
     }
 }
 
-/// Reads inside the root: a start tag, an end tag or a text.
+/// Reads inside the root: misc, then a start tag, an end tag or a text.
 pub fn inside_root(scene: &[u8], place: u64) -> Result<Token, Refusal> {
     let mut reader = Bytes::at(scene, place);
+    reader.miscs()?;
     match (reader.peek(), reader.peek_second()) {
         (None, _) => Err(reader.refused()),
         (Some(b'<'), Some(b'/')) => reader.end_tag(),
@@ -110,19 +116,23 @@ pub fn inside_root(scene: &[u8], place: u64) -> Result<Token, Refusal> {
     }
 }
 
-/// Reads after the root, where only space may stand: 9, or 2.
+/// Reads after the root, where only space and misc may stand: 9, or a refusal.
 pub fn after_root(scene: &[u8], place: u64) -> Refusal {
     let mut reader = Bytes::at(scene, place);
-    reader.space();
+    if let Err(refusal) = reader.outside_root() {
+        return refusal;
+    }
     match reader.peek() {
         None => Refusal::new(FINISHED, scene.len() as u64),
+        // A misc might begin, so that the byte behind < is the one refused.
+        Some(b'<') => Bytes::at(scene, reader.at as u64 + 1).refused(),
         Some(_) => reader.refused(),
     }
 }
 
-struct Bytes<'a> {
-    scene: &'a [u8],
-    at: usize,
+pub(crate) struct Bytes<'a> {
+    pub(crate) scene: &'a [u8],
+    pub(crate) at: usize,
 }
 
 impl<'a> Bytes<'a> {
@@ -133,16 +143,16 @@ impl<'a> Bytes<'a> {
         }
     }
 
-    fn peek(&self) -> Option<u8> {
+    pub(crate) fn peek(&self) -> Option<u8> {
         self.scene.get(self.at).copied()
     }
 
-    fn peek_second(&self) -> Option<u8> {
+    pub(crate) fn peek_second(&self) -> Option<u8> {
         self.scene.get(self.at + 1).copied()
     }
 
     /// The byte here cannot stand, or the scene ends here.
-    fn refused(&self) -> Refusal {
+    pub(crate) fn refused(&self) -> Refusal {
         match self.peek() {
             None => Refusal::new(SCENE_ENDS, self.scene.len() as u64),
             Some(_) => Refusal::new(CANNOT_STAND, self.at as u64),
@@ -154,7 +164,7 @@ impl<'a> Bytes<'a> {
     }
 
     /// Any run of space; whether there was some.
-    fn space(&mut self) -> bool {
+    pub(crate) fn space(&mut self) -> bool {
         let from = self.at;
         while self.peek().is_some_and(is_space) {
             self.at += 1;
@@ -162,7 +172,7 @@ impl<'a> Bytes<'a> {
         self.at > from
     }
 
-    fn expect(&mut self, byte: u8) -> Result<(), Refusal> {
+    pub(crate) fn expect(&mut self, byte: u8) -> Result<(), Refusal> {
         if self.peek() != Some(byte) {
             return Err(self.refused());
         }
@@ -170,7 +180,23 @@ impl<'a> Bytes<'a> {
         Ok(())
     }
 
-    fn part(&mut self) -> Result<Span, Refusal> {
+    /// These bytes, one after the other.
+    pub(crate) fn word(&mut self, bytes: &[u8]) -> Result<(), Refusal> {
+        bytes.iter().try_for_each(|&byte| self.expect(byte))
+    }
+
+    /// An opening quote of either kind.
+    pub(crate) fn quote(&mut self) -> Result<u8, Refusal> {
+        match self.peek() {
+            Some(quote @ (b'"' | b'\'')) => {
+                self.at += 1;
+                Ok(quote)
+            }
+            _ => Err(self.refused()),
+        }
+    }
+
+    pub(crate) fn part(&mut self) -> Result<Span, Refusal> {
         let from = self.at;
         if !self.peek().is_some_and(begins_part) {
             return Err(self.refused());
@@ -248,11 +274,7 @@ impl<'a> Bytes<'a> {
     }
 
     fn value(&mut self) -> Result<Span, Refusal> {
-        let quote = match self.peek() {
-            Some(quote @ (b'"' | b'\'')) => quote,
-            _ => return Err(self.refused()),
-        };
-        self.at += 1;
+        let quote = self.quote()?;
         let from = self.at;
         self.characters(Some(quote))?;
         let value = Span::between(from, self.at);
@@ -269,14 +291,19 @@ impl<'a> Bytes<'a> {
         Ok(self.token(at, TokenKind::Text))
     }
 
-    /// What text and values hold, up to <, the value's own quote, or the scene's end.
+    /// What text and values hold, up to <, the value's own quote, or the scene's end. In text
+    /// ]]> is refused at its first byte, known at its last.
     fn characters(&mut self, quote: Option<u8>) -> Result<(), Refusal> {
+        let from = self.at;
         while let Some(byte) = self.peek() {
             match byte {
                 b'<' => return Ok(()),
                 byte if Some(byte) == quote => return Ok(()),
                 b'&' => self.reference()?,
-                byte if is_space(byte) || byte >= 0x20 => self.at += 1,
+                b'>' if quote.is_none() && self.scene[from..self.at].ends_with(b"]]") => {
+                    return Err(Refusal::new(CANNOT_STAND, self.at as u64 - 2));
+                }
+                byte if is_character(byte) => self.at += 1,
                 _ => return Err(self.refused()),
             }
         }

@@ -1,9 +1,9 @@
 //! A tree-building implementation of document 01, the Rig scene section dispatcher.
 //!
-//! It was written from document 01 and its rulings alone, to be matched byte for byte with
-//! the dispatcher. The way a scene goes:
+//! It was written from document 01, request N1 of document 02 and their rulings alone, to be
+//! matched byte for byte with the dispatcher. The way a scene goes:
 //!
-//! 1. `lexical` and `reader`: the whole scene becomes a list of events;
+//! 1. `lexical`, `misc` and `reader`: the whole scene becomes a list of events;
 //! 2. `tree`: the events become a tree, closed at the cut;
 //! 3. `sections`: the tree is divided into sections and slots, an element's attributes likewise;
 //! 4. `strands`: rules are assigned along the strands of every section;
@@ -19,6 +19,7 @@ pub mod answer;
 pub mod generate;
 pub mod lexical;
 pub mod limits;
+mod misc;
 pub mod model;
 pub mod names;
 pub mod prefixes;

@@ -4,12 +4,13 @@ mod common;
 
 use common::*;
 use reference::generate::{
-    case, damaged_scene, damaged_table, many_units, odd_session, scene, scene_of, table, Profile,
-    Random,
+    boundary, boundary_of_25, case, damaged_scene, damaged_table, many_units, misc, misc_scene,
+    odd_session, rule, scene, scene_of, soup, table, Profile, Random, BOUNDARIES,
 };
+use reference::table::ANY;
 use reference::{
     accepted_events, coherent, events, judge, prefix_records, records_by_event, records_of_event,
-    run, session_after, step, Record, Session,
+    run, session_after, step, Action, Record, Session,
 };
 use std::collections::BTreeMap;
 
@@ -301,7 +302,7 @@ impl Reached {
 #[test]
 fn scenes_reach_the_limits() {
     let mut reached = Reached::default();
-    for (_, table, scene) in cases(CASES) {
+    for (_, table, scene) in cases(2 * CASES) {
         let mut session = Session::fresh();
         for records in records_by_event(&table, &scene) {
             reached.event(&records);
@@ -312,25 +313,156 @@ fn scenes_reach_the_limits() {
     assert!(reached.least() >= 50, "{reached:?}");
 }
 
-/// 2 and 3 are said of a byte whatever follows it; before it the scene only ends too early.
+/// Whether the byte at a place may be refused by so many bytes more: a ]]> is known at its >, a
+/// target xml behind it, every other byte by itself.
+fn may_decide(scene: &[u8], place: usize, more: usize) -> bool {
+    let (before, from) = scene.split_at(place);
+    match more {
+        0 => true,
+        2 => from.starts_with(b"]]>"),
+        3 => before.ends_with(b"<?") && from[..3].eq_ignore_ascii_case(b"xml"),
+        _ => false,
+    }
+}
+
+/// 2 and 3 are said of a byte once the one that decides is there, whatever follows; before that
+/// the scene only ends too early.
+fn first_refused(random: &mut Random, scene: &[u8]) {
+    let reading = events(scene);
+    let place = reading.place as usize;
+    if matches!(reading.number, 2 | 3) {
+        let mut cut = place;
+        let upto = loop {
+            let upto = events(&scene[..cut]);
+            assert_eq!(upto.list.len(), reading.list.len());
+            if !(upto.number == 1 || upto.number == 9 && cut == place) {
+                break upto;
+            }
+            assert_eq!(upto.place, cut as u64);
+            cut += 1;
+        };
+        assert_eq!((upto.number, upto.place), (reading.number, reading.place));
+        assert!(may_decide(scene, place, cut - place - 1));
+    }
+    let cut = events(&scene[..random.below(place + 1)]);
+    assert!(matches!(cut.number, 1 | 9) && cut.list.len() <= reading.list.len());
+}
+
 #[test]
 fn the_refused_byte_is_the_first() {
     for seed in 0..6000 {
         let mut random = Random::new(seed);
         let table = table(&mut random);
         let whole = scene(&mut random, &table);
-        let scene = damaged_scene(&mut random, &whole);
-        let reading = events(&scene);
-        let place = reading.place as usize;
-        if matches!(reading.number, 2 | 3) {
-            let upto = events(&scene[..place + 1]);
-            assert_eq!((upto.number, upto.place), (reading.number, reading.place));
-            let before = events(&scene[..place]);
-            assert!(matches!(before.number, 1 | 9));
-            assert_eq!(before.list.len(), reading.list.len());
+        let damaged = damaged_scene(&mut random, &whole);
+        first_refused(&mut random, &damaged);
+        for _ in 0..4 {
+            let (dense, mixed) = (misc_scene(&mut random), soup(&mut random));
+            first_refused(&mut random, &dense);
+            first_refused(&mut random, &mixed);
         }
-        let cut = events(&scene[..random.below(place + 1)]);
-        assert!(matches!(cut.number, 1 | 9) && cut.list.len() <= reading.list.len());
+    }
+}
+
+/// 2 at each kind of place, 1 inside each kind, 3 in a target, 9 and 25 behind a misc.
+#[test]
+fn every_boundary_of_misc_is_met() {
+    let mut met = BTreeMap::new();
+    for seed in 0..20_000 {
+        let mut random = Random::new(seed);
+        for scene in [misc_scene(&mut random), soup(&mut random)] {
+            let reading = events(&scene);
+            let cut = &scene[..random.below(scene.len() + 1)];
+            let short = run(&validating(), &scene, 16 * random.below(6)).0;
+            let found = [
+                boundary(&scene, &reading),
+                boundary(cut, &events(cut)),
+                (short.number == 25)
+                    .then(|| boundary_of_25(&scene, &reading, short.events as usize))
+                    .flatten(),
+            ];
+            for label in found.into_iter().flatten() {
+                *met.entry(label).or_insert(0) += 1;
+            }
+        }
+    }
+    let missed: Vec<&str> = BOUNDARIES
+        .into_iter()
+        .filter(|label| met.get(label).copied().unwrap_or(0) < 20)
+        .collect();
+    assert!(missed.is_empty(), "{missed:?} of {met:?}");
+}
+
+/// A table under which every element and text is delivered.
+fn validating() -> Vec<u8> {
+    let any = rule(0, ELEMENT, ANY, Action::Validate, 0, 0);
+    common::table(&[], 1, 1, vec![any])
+}
+
+/// A misc put between two events changes nothing but the offsets behind it.
+#[test]
+fn a_misc_between_events_only_shifts() {
+    for seed in 0..1500 {
+        let mut random = Random::new(seed);
+        let table = table(&mut random);
+        let profile = Profile {
+            misc: 0,
+            ..Profile::some(&mut random)
+        };
+        let scene = scene_of(&mut random, &table, &profile);
+        let list = events(&scene).list;
+        let at = match random.below(list.len() + 1) {
+            0 => 0,
+            event => list[event - 1].after,
+        };
+        let misc = misc(&mut random);
+        let (before, behind) = scene.split_at(at as usize);
+        let longer = [before, &misc, behind].concat();
+        let shift = |place: u64, added: bool| place + if added { misc.len() as u64 } else { 0 };
+        let (whole, records) = run(&table, &scene, AMPLE);
+        let (got, shifted) = run(&table, &longer, AMPLE);
+        let end = shift(whole.place, whole.place >= at);
+        let events = (whole.number, end, whole.events, whole.records);
+        assert_eq!((got.number, got.place, got.events, got.records), events);
+        for (one, other) in records.chunks(16).zip(shifted.chunks(16)) {
+            let (mut one, other) = (Record::read(one), Record::read(other));
+            // Only an open may stand at 0; else a 0 is an unused field.
+            let used = |place: u64| place >= at && (place > 0 || one.kind == 0);
+            (one.span.at, one.uri.at) = (
+                shift(one.span.at, used(one.span.at)),
+                shift(one.uri.at, used(one.uri.at) && one.uri.len > 0),
+            );
+            assert_eq!(one, other, "{seed}");
+        }
+    }
+}
+
+/// Steps agree with the model and with the sessions of the open path, at every cut.
+#[test]
+fn steps_over_scenes_dense_with_misc() {
+    let table = validating();
+    for seed in 0..1500 {
+        let mut random = Random::new(seed);
+        let scene = match random.percent(50) {
+            true => misc_scene(&mut random),
+            false => soup(&mut random),
+        };
+        let (mut session, mut joined, mut count) = (Session::fresh(), Vec::new(), 0);
+        for cut in 0..=scene.len() {
+            let part = &scene[..cut];
+            let last = loop {
+                let (answer, next, written) = step(&table, part, &session, AMPLE);
+                if answer.number != 0 {
+                    break answer;
+                }
+                count += 1;
+                joined.extend(written);
+                session = next;
+            };
+            let got = answer(last.number, last.place, count, joined.len() as u64 / 16);
+            assert_eq!((got, joined.clone()), run(&table, part, AMPLE));
+            assert_eq!(session, session_after(&table, part, count as usize));
+        }
     }
 }
 
@@ -340,12 +472,32 @@ fn all_short_scenes() {
     let pieces: [&[u8]; 11] = [
         b"<", b"/", b">", b"r", b":", b" ", b"=''", b"x", b"</r>", b"<r>", b"&lt;",
     ];
+    let met = short_scenes(b"<r", &pieces, 5);
+    assert!(met.keys().copied().eq([1, 2, 4, 5, 9]), "{met:?}");
+}
+
+/// The same with misc, inside the root and before it.
+#[test]
+fn all_short_scenes_with_misc() {
+    let pieces: [&[u8]; 14] = [
+        b"<!--", b"-->", b"-", b"<?", b"?>", b"?", b"xml", b" ", b"]]", b">", b"a", b"<r>",
+        b"</r>", b"<",
+    ];
+    for start in [&b"<r>"[..], b"<?xml version='1.0'", b"<r/>", b""] {
+        let met = short_scenes(start, &pieces, 4);
+        assert!(met.keys().all(|number| [1, 2, 4, 9].contains(number)));
+        assert!(met.len() >= 3, "{met:?}");
+    }
+}
+
+/// How often each number ends the scenes of a start and so many pieces; steps agree with run.
+fn short_scenes(start: &[u8], pieces: &[&[u8]], count: u32) -> BTreeMap<u8, u64> {
     let table = t();
     let mut met = BTreeMap::new();
-    for number in 0..pieces.len().pow(5) {
+    for number in 0..pieces.len().pow(count) {
         let mut rest = number;
-        let mut scene = b"<r".to_vec();
-        for _ in 0..5 {
+        let mut scene = start.to_vec();
+        for _ in 0..count {
             scene.extend(pieces[rest % pieces.len()]);
             rest /= pieces.len();
         }
@@ -366,7 +518,7 @@ fn all_short_scenes() {
         );
         *met.entry(whole.number).or_insert(0) += 1;
     }
-    assert!(met.keys().copied().eq([1, 2, 4, 5, 9]), "{met:?}");
+    met
 }
 
 /// Not a check: `cargo test --release -- --ignored --nocapture time` prints times per run.

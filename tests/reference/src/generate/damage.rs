@@ -1,5 +1,6 @@
 //! Damage to tables and scenes.
 
+use super::miscs::{bad_misc, damaged_declaration};
 use super::random::Random;
 use crate::lexical::{begins_part, continues_part, is_space};
 use crate::table::{self, XML_URI};
@@ -37,13 +38,16 @@ const INSERTED: [&[u8]; 22] = [
 pub fn damaged_scene(random: &mut Random, scene: &[u8]) -> Vec<u8> {
     let mut damaged = scene.to_vec();
     for _ in 0..random.between(1, 2) {
-        match random.below(12) {
+        match random.below(16) {
             0..=2 => replace(random, &mut damaged),
             3..=4 => insert(random, &mut damaged),
             5..=6 => remove(random, &mut damaged),
             7 => truncate(random, &mut damaged),
             8..=9 => into_tag(random, &mut damaged),
             10 => append(random, &mut damaged),
+            11 | 12 => into_misc(random, &mut damaged),
+            13 => spoil_text(random, &mut damaged),
+            14 => begin(random, &mut damaged),
             _ => move_piece(random, &mut damaged),
         }
     }
@@ -107,7 +111,49 @@ fn append(random: &mut Random, scene: &mut Vec<u8>) {
     let ends: [&[u8]; 8] = [
         b" ", b"\n\t\r ", b"<s/>", b"<", b"x", b"</r>", b"\x00", b" &lt;",
     ];
-    scene.extend(*random.pick(&ends));
+    match random.percent(50) {
+        true => scene.extend(*random.pick(&ends)),
+        false => scene.extend(bad_misc(random)),
+    }
+}
+
+/// A byte of a misc changed, put in or taken out, or the scene cut there; without a misc one
+/// more that may be refused.
+fn into_misc(random: &mut Random, scene: &mut Vec<u8>) {
+    let starts: Vec<usize> = (1..scene.len())
+        .filter(|&at| scene[at - 1] == b'<' && matches!(scene[at], b'!' | b'?'))
+        .collect();
+    if starts.is_empty() || random.percent(30) {
+        return spoil_text(random, scene);
+    }
+    let from = *random.pick(&starts);
+    let length = scene[from..]
+        .iter()
+        .take_while(|&&byte| byte != b'>')
+        .count();
+    let at = (from + random.below(length + 2)).min(scene.len() - 1);
+    match random.below(4) {
+        0 => scene[at] = *random.pick(BYTES),
+        1 => scene.insert(at, *random.pick(BYTES)),
+        2 => drop(scene.remove(at)),
+        _ => scene.truncate(at),
+    }
+}
+
+/// What may be refused put before a < or behind a >, where a misc may stand.
+fn spoil_text(random: &mut Random, scene: &mut Vec<u8>) {
+    let places: Vec<usize> = (0..=scene.len())
+        .filter(|&at| scene.get(at) == Some(&b'<') || at > 0 && scene[at - 1] == b'>')
+        .collect();
+    if !places.is_empty() {
+        let at = *random.pick(&places);
+        scene.splice(at..at, bad_misc(random));
+    }
+}
+
+/// A damaged declaration before all.
+fn begin(random: &mut Random, scene: &mut Vec<u8>) {
+    scene.splice(0..0, damaged_declaration(random));
 }
 
 fn move_piece(random: &mut Random, scene: &mut Vec<u8>) {

@@ -1,12 +1,16 @@
 //! Seeded random tables, scenes and sessions that fit each other.
 
+mod boundaries;
 mod damage;
+mod miscs;
 mod random;
 mod scenes;
 mod sessions;
 mod tables;
 
+pub use boundaries::{boundary, boundary_of_25, BOUNDARIES};
 pub use damage::{damaged_scene, damaged_table};
+pub use miscs::{misc, misc_scene, soup};
 pub use random::Random;
 pub use scenes::{scene, scene_of, Profile};
 pub use sessions::odd_session;

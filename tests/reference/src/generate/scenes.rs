@@ -1,5 +1,6 @@
 //! Scenes that the reader accepts whole; they may meet the limits 21 to 24.
 
+use super::miscs;
 use super::random::Random;
 use crate::table;
 
@@ -37,6 +38,8 @@ pub struct Profile {
     /// How often a name has 64 bytes.
     pub long: usize,
     pub text: usize,
+    /// How often a misc stands where one may.
+    pub misc: usize,
 }
 
 const PLAIN: Profile = Profile {
@@ -51,6 +54,7 @@ const PLAIN: Profile = Profile {
     declared_anew: 25,
     long: 1,
     text: 40,
+    misc: 12,
 };
 
 impl Profile {
@@ -150,9 +154,10 @@ pub fn scene_of(random: &mut Random, table: &[u8], profile: &Profile) -> Vec<u8>
         scope: Vec::new(),
         elements: 0,
     };
-    writer.space(30);
+    writer.declaration();
+    writer.outside_root();
     writer.element(1, b"");
-    writer.space(30);
+    writer.outside_root();
     writer.scene
 }
 
@@ -402,22 +407,50 @@ impl Writer<'_> {
         self.scene.push(b'>');
     }
 
+    /// At the scene's first byte.
+    fn declaration(&mut self) {
+        if self.random.percent(self.profile.misc) {
+            self.scene = miscs::declaration(self.random);
+        }
+    }
+
+    fn outside_root(&mut self) {
+        self.space(30);
+        while self.random.percent(self.profile.misc) {
+            self.scene.extend(miscs::misc(self.random));
+            self.space(30);
+        }
+    }
+
     fn content(&mut self, depth: usize, uri: &[u8], childless: bool) {
-        self.text();
+        self.texts();
         if childless {
             return;
         }
         for _ in 0..self.random.between(1, self.profile.children) {
             if self.elements < self.profile.elements {
                 self.element(depth + 1, uri);
-                self.text();
+                self.texts();
             }
         }
     }
 
+    /// A text, and more of them with misc in between.
+    fn texts(&mut self) {
+        self.text();
+        while self.random.percent(self.profile.misc) {
+            self.scene.extend(miscs::misc(self.random));
+            self.text();
+        }
+    }
+
+    /// Without ]]>, which only values may hold.
     fn text(&mut self) {
         if self.random.percent(self.profile.text) {
-            let text = self.characters(8);
+            let mut text = self.characters(8);
+            while let Some(at) = text.windows(3).position(|three| three == b"]]>") {
+                text.remove(at);
+            }
             self.scene.extend(text);
         }
     }
@@ -427,7 +460,7 @@ impl Writer<'_> {
         let without = *self.random.pick(b"\"'");
         let mut list = Vec::new();
         for _ in 0..self.random.between(0, at_most) {
-            match self.random.below(8) {
+            match self.random.below(9) {
                 0 => list.extend(*self.random.pick(&[
                     &b"&lt;"[..],
                     b"&gt;",
@@ -437,6 +470,14 @@ impl Writer<'_> {
                 ])),
                 1 => list.push(*self.random.pick(b" \t\n\r")),
                 2 => list.push(*self.random.pick(b">]=/;:\x7F\x80\xC3\xFF!?#\"'")),
+                3 => list.extend(*self.random.pick(&[
+                    &b"]]>"[..],
+                    b"]]",
+                    b"]>",
+                    b"--",
+                    b"-->",
+                    b"?>",
+                ])),
                 _ => list.push(*self.random.pick(b"abcxyz019")),
             }
         }

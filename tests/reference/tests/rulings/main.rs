@@ -6,6 +6,7 @@ mod common;
 mod answers;
 mod calls;
 mod limits;
+mod n01;
 mod names;
 mod odd;
 mod reader;

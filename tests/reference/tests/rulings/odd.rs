@@ -110,7 +110,9 @@ fn i4_9_is_not_final() {
     let closed = session_after(&t(), b"<r/>", 2);
     assert_eq!(step(&t(), b"<r/>", &closed, 0).0, answer(9, 4, 0, 0));
     assert_eq!(step(&t(), b"<r/> \n", &closed, 0).0, answer(9, 6, 0, 0));
-    assert_eq!(step(&t(), b"<r/> <", &closed, 0).0, answer(2, 5, 0, 0));
+    assert_eq!(step(&t(), b"<r/> x", &closed, 0).0, answer(2, 5, 0, 0));
+    // N1-9: < may be a misc's.
+    assert_eq!(step(&t(), b"<r/> <", &closed, 0).0, answer(1, 6, 0, 0));
     assert_eq!(step(&t(), b"<r/", &closed, 0).0, answer(20, 0, 0, 0));
 }
 

@@ -62,14 +62,16 @@ fn b4_attributes() {
 #[test]
 fn b5_b6_b7_where_nothing_is_open() {
     assert_eq!(with_t("</r>"), (2, 1));
-    assert_eq!(with_t("<r/><s/>"), (2, 4));
-    assert_eq!(with_t("<r/><"), (2, 4));
-    assert_eq!(with_t("<r/></r>"), (2, 4));
+    // N1-9: a misc may stand after the root, so < may, and the byte behind it is judged.
+    assert_eq!(with_t("<r/><s/>"), (2, 5));
+    assert_eq!(with_t("<r/><"), (1, 5));
+    assert_eq!(with_t("<r/></r>"), (2, 5));
     assert_eq!(with_t("<r/> x"), (2, 5));
-    assert_eq!(with_t("<?xml version='1.0'?><r/>"), (2, 1));
-    assert_eq!(with_t("<!-- --><r/>"), (2, 1));
-    assert_eq!(with_t("<r><![CDATA[]]></r>"), (2, 4));
-    assert_eq!(with_t("<r><?p?></r>"), (2, 4));
+    // N1-8: ! and ? may stand after <, and the first byte with which no misc goes on is refused.
+    assert_eq!(with_t("<?xml version='1.0'?><r/>"), (9, 25));
+    assert_eq!(with_t("<!-- --><r/>"), (9, 12));
+    assert_eq!(with_t("<r><![CDATA[]]></r>"), (2, 5));
+    assert_eq!(with_t("<r><?p?></r>"), (9, 12));
     assert_eq!(with_t("\u{FEFF}<r/>"), (2, 0));
     assert_eq!(with_t("x<r/>"), (2, 0));
     assert_eq!(with_t("  "), (1, 2));
@@ -78,7 +80,9 @@ fn b5_b6_b7_where_nothing_is_open() {
 
 #[test]
 fn b8_bytes_of_text_and_values() {
-    assert_eq!(with_t("<r a='\">' b=\"'\">]]>'\"</r>"), (9, 25));
+    assert_eq!(with_t("<r a='\">' b=\"'\">] ]>'\"</r>"), (9, 26));
+    // N1-21, N1-22: ]]> may stand in values only.
+    assert_eq!(with_t("<r a=']]>' b=\"]]>\">]]>'\"</r>"), (2, 19));
     assert_eq!(
         ends(&t(), b"<r a='\x7F\xFF\x80'>\x7F\xFF\t\r\n</r>"),
         (9, 20)

@@ -4,16 +4,16 @@ use mathlib.Core.Path.{_≡_, refl}
 use native.Mathlib.Nat.{le-refl}
 use borrow.Author.Needs.{needs}
 use lib.ListN.{length}
-use Rattle.lexer.specs.Values.{valueEnd}
+use Rattle.lexer.specs.Values.{valueFrom}
 use Rattle.lexer.proofs.Passing.{high-passed}
 use Rattle.lexer.proofs.values.high_end.Statement.{statement}
 use Rattle.lexer.proofs.values.high_end.Tie as tie
 
 abbrev Inv-loop : tie.InvT-loop
-Inv-loop s at quote i₀ i = (at ≤ i) × (valueEnd s i quote ≡ valueEnd s at quote)
+Inv-loop s at quote from i₀ i = (from ≤ i) × (valueFrom s at quote i ≡ valueFrom s at quote from)
 
 abbrev μ-loop : tie.MeasureT-loop
-μ-loop s at quote i₀ i = length s - i
+μ-loop s at quote from i₀ i = length s - i
 
 loop-holds : tie.Need-loop-holds Inv-loop μ-loop
 loop-holds c = (le-refl _, refl)

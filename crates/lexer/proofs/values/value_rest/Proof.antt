@@ -5,21 +5,23 @@ use native.Mathlib.Omega.{arith}
 use borrow.Author.Needs.{needs}
 use lib.ListN.{length, drop}
 use Rattle.laws.specs.Reading.{run, machine}
-use Rattle.lexer.specs.Values.{valueStep, valueEnd}
+use Rattle.laws.specs.Tests.{told}
+use Rattle.lexer.specs.Values.{valueStep, valueFrom}
 use Rattle.lexer.specs.declared.Stop.the-variants.{Cut}
 use Rattle.lexer.specs.declared.Read.the-variants.{Stopped}
-use Rattle.lexer.proofs.Passing.{plain-passed, text-stops, text-passed, reference-in, reference-passed, reference-stops, passed-on}
+use Rattle.lexer.proofs.ValueLaws.{closes-behind}
+use Rattle.lexer.proofs.Passing.{plain-passed, text-closes, text-stops, text-passed, reference-in, reference-passed, reference-stops, passed-on}
 use Rattle.lexer.proofs.values.value_rest.Statement.{statement}
 use Rattle.lexer.proofs.values.value_rest.Tie as tie
 
 abbrev Inv-loop : tie.InvT-loop
-Inv-loop s at quote i₀ i = run (Stopped Cut) (valueStep s quote) 0 (drop i s) i ≡ valueEnd s at quote
+Inv-loop s at quote from i₀ i = run (Stopped Cut) (valueStep s at quote) 0 (drop i s) i ≡ valueFrom s at quote from
 
 abbrev μ-loop : tie.MeasureT-loop
-μ-loop s at quote i₀ i = length s - i
+μ-loop s at quote from i₀ i = length s - i
 
 loop-holds : tie.Need-loop-holds Inv-loop μ-loop
-unfolding valueEnd
+unfolding valueFrom
 loop-holds c = refl
 
 shared-slice-read-b : tie.Need-shared-slice-read-b Inv-loop μ-loop
@@ -41,7 +43,7 @@ loop-less : tie.Need-loop-less Inv-loop μ-loop
 loop-less c = let a = c .before .before .before .before .before .before .before .before .before .before .before .args in omega (arith, reference-in (a .s .now) (c .before .before .before .before .before .before .before .before .before .loop .i) _ _ (c .before .before .before .before .reference-end .ensures) (c .before .before .j .given .1), c .plain-end .ensures .0)
 
 loop-again : tie.Need-loop-again Inv-loop μ-loop
-loop-again c = passed-on _ _ _ _ _ (plain-passed _ _ _ _ (c .plain-end .ensures)) (search reference-passed)
+loop-again c = passed-on _ _ _ _ _ _ (plain-passed _ _ _ _ _ (c .plain-end .ensures)) (search reference-passed)
 
 enum-known-x : tie.Need-enum-known-x Inv-loop μ-loop
 enum-known-x c = search needs
@@ -49,11 +51,24 @@ enum-known-x c = search needs
 returns-2 : tie.Need-returns-2 Inv-loop μ-loop
 returns-2 c = search reference-stops
 
+is-closing-requires : tie.Need-is-closing-requires Inv-loop μ-loop
+is-closing-requires c κs = search needs
+
+sub-t15 : tie.Need-sub-t15 Inv-loop μ-loop
+sub-t15 c = omega (arith, closes-behind _ _ _ _ _ (told _ _ _ (c .before .is-closing .ensures) (c .if3 .taken)))
+
+returns-3 : tie.Need-returns-3 Inv-loop μ-loop
+returns-3 c =
+    let d = c .before .before in
+    let a = d .before .before .before .before .before .before .args in
+    let l = d .before .before .before .before .loop in
+    text-closes _ (a .s .now) (a .at) (a .quote) (l .i) (l .inv) (d .before .before .before .loop-test .taken) (d .before .if1 .left) (d .if2 .left) _ (c .before .is-closing .ensures) (c .if3 .taken)
+
 is-text-requires : tie.Need-is-text-requires Inv-loop μ-loop
 is-text-requires c κs = search needs
 
-returns-3 : tie.Need-returns-3 Inv-loop μ-loop
-returns-3 c = search text-stops
+returns-4 : tie.Need-returns-4 Inv-loop μ-loop
+returns-4 c = search text-stops
 
 add-high-end : tie.Need-add-high-end Inv-loop μ-loop
 add-high-end c = search needs
@@ -65,13 +80,18 @@ plain-end-requires-2 : tie.Need-plain-end-requires-2 Inv-loop μ-loop
 plain-end-requires-2 c κs = search needs
 
 loop-less-2 : tie.Need-loop-less-2 Inv-loop μ-loop
-loop-less-2 c = omega (arith, c .plain-end2 .ensures .0, c .before .high-end .ensures .0, c .before .before .before .before .before .before .before .loop-test .taken)
+loop-less-2 c = omega (arith, c .plain-end2 .ensures .0, c .before .high-end .ensures .0, c .before .before .before .before .before .before .before .before .before .loop-test .taken)
 
 loop-again-2 : tie.Need-loop-again-2 Inv-loop μ-loop
-loop-again-2 c = passed-on _ _ _ _ _ (plain-passed _ _ _ _ (c .plain-end2 .ensures) ∙ c .before .high-end .ensures .1) (search text-passed)
+loop-again-2 c =
+    let d = c .before .before .before .before .before .before in
+    let a = d .before .before .before .before .before .before .args in
+    let l = d .before .before .before .before .loop in
+    passed-on _ _ _ _ _ _ (plain-passed _ _ _ _ _ (c .plain-end2 .ensures) ∙ c .before .high-end .ensures .1)
+    (text-passed _ (a .s .now) (a .at) (a .quote) (l .i) (l .inv) (d .before .before .before .loop-test .taken) (d .before .if1 .left) (d .if2 .left) _ (c .before .before .before .before .before .is-closing .ensures) (c .before .before .before .before .if3 .left) _ (c .before .before .before .is-text .ensures) (c .before .before .if4 .left))
 
-returns-4 : tie.Need-returns-4 Inv-loop μ-loop
-returns-4 c = search machine
+returns-5 : tie.Need-returns-5 Inv-loop μ-loop
+returns-5 c = search machine
 
 pub value-rest-spec : {M : Type 1} → statement M
 value-rest-spec =
@@ -89,11 +109,14 @@ value-rest-spec =
     loop-again
     enum-known-x
     returns-2
-    is-text-requires
+    is-closing-requires
+    sub-t15
     returns-3
+    is-text-requires
+    returns-4
     add-high-end
     high-end-requires
     plain-end-requires-2
     loop-less-2
     loop-again-2
-    returns-4)
+    returns-5)

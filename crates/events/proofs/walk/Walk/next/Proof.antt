@@ -5,10 +5,10 @@ use mathlib.Core.Bool.{Bool}
 use mathlib.Core.List.{List}
 use borrow.Author.Needs.{needs}
 use lib.ListN.{length}
-use Rattle.lexer.specs.Tags.{beginAt}
+use Rattle.lexer.specs.Begins.{beginAt}
 use Rattle.lexer.specs.declared.Begin.{Begin}
 use Rattle.lexer.specs.declared.Begin.the-variants as begin
-use Rattle.lexer.proofs.Inside.{BeginInside, begin-inside}
+use Rattle.misc.proofs.BeginLaws.{BeginInside, begin-inside}
 use Rattle.events.proofs.walk.Walk.next.Statement.{statement}
 use Rattle.events.proofs.walk.Walk.next.Tie as tie
 

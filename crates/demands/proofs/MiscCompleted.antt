@@ -1,0 +1,501 @@
+-- Bytes behind a scene with which a comment, an instruction or the declaration that was cut is read to its end.
+--     declaration-goes, instruction-completed, misc-completed    sixteen bytes suffice
+--     misc-begins                                                behind a <
+use Prim.Native.Nat.{ℕ, zero, suc, _+_, _≤_, _<_}
+use mathlib.Core.Path.{_≡_, refl, sym, ap, subst, _∙_}
+use mathlib.Core.List.{List, [], _∷_, _++_, append-assoc}
+use mathlib.Core.Bool.{Bool, true, false, cond, _&&_, _||_}
+use native.Mathlib.Omega.{arith}
+use borrow.Author.Tests.{eqb-true, eqb-false, eq-eqb, ne-eqb, lt-ltb}
+use lib.ListN.{length, drop, getD, length-append, List·getD-append}
+use lib.Dec.{ltb, eqb}
+use Rattle.laws.specs.Reading.{RunNext, go, stop, follow, run}
+use Rattle.laws.specs.Text.{bytes}
+use Rattle.laws.proofs.Flags.{and-left, and-right}
+use Rattle.lexer.specs.Stops.{afterRead}
+use Rattle.lexer.specs.Names.{isSpace, spacesEnd, isStart, isName, partStep, partEnd}
+use Rattle.lexer.specs.Tags.{wanted}
+use Rattle.lexer.specs.Declaration.{wordEnd, isLetter, fits, someStep, someEnd, versionEnd, encodingEnd, answerEnd, standaloneEnd, fieldWord, fieldValue, quotedEnd, fieldEnd, closeAt, turnFrom, fieldTurn, fieldThen, lastRest, standaloneThen, encodingRest, encodingThen, eitherThen, versionRest, versionThen, declarationEnd}
+use Rattle.lexer.specs.Misc.{isFree, commentStep, commentRest, commentEnd, contentStep, contentEnd, behindTarget, isXml, isDeclared, instructionEnd, miscEnd}
+use Rattle.lexer.specs.declared.Stop.the-variants.{Bad, Cut}
+use Rattle.lexer.specs.declared.Read.{Read}
+use Rattle.lexer.specs.declared.Read.the-variants as read
+use Rattle.lexer.specs.declared.Turn.the-variants as turn
+use Rattle.lexer.specs.declared.Field.{Field}
+use Rattle.lexer.specs.declared.Field.the-variants as field
+use Rattle.lexer.proofs.Inside.{ReadInside, PartTo, part-inside}
+use Rattle.lexer.proofs.Stable.{part-stable}
+use Rattle.misc.proofs.MiscLaws.{word-inside, answer-inside, field-word-inside, field-inside, word-stable, answer-stable, field-stable, declared-kept, xml-kept, xml-three}
+use Rattle.demands.proofs.CompletedParts.{Byte, byte-in, byte-kept, read-so, part-begins, part-goes, part-stops, PartDone, part-completed}
+use Rattle.demands.proofs.CompletedForms.{Form, Refused, Rest, Goes, Ends, goes-more, ends-at, fresh-behind, ends-same, ends-then, Spaced, ends-spaced, Peeked, goes-peek, ends-peek, goes-cond, goes-bad, Next, goes-next, fresh-next, Stops, ends-machine, OneByte, Word, ends-wanted, behindFirst, ends-word, Equalled, ends-equals}
+
+-- ---- the machines
+comment-ends : Ends commentRest (0x2D ∷ 0x2D ∷ 0x3E ∷ []) 3
+unfolding commentRest run
+comment-ends = ends-machine commentStep (λ (q : ℕ). q ≤ 2) keeps never 3 each 0 (omega arith)
+  where
+    keeps : (q q′ b i : ℕ) → q ≤ 2 → commentStep q b i ≡ go q′ → q′ ≤ 2
+    keeps q q′ b i j e = by (eqb q 2) refl (eqb b 0x3E) (eqb b 0x2D) (isFree b) e
+      where
+        by : (x : Bool) → eqb q 2 ≡ x → (y z w : Bool) → cond x (cond y (stop (read.End (i + 1))) (stop (read.Stopped (Bad i)))) (cond z (go (q + 1)) (cond w (go 0) (stop (read.Stopped (Bad i))))) ≡ go q′ → q′ ≤ 2
+        by true p true z w e = let z : _≡_ {A = ℕ} 0 1 = cc in absurd (omega arith)
+        by true p false z w e = let z : _≡_ {A = ℕ} 0 1 = cc in absurd (omega arith)
+        by false p y true w e = let f : q + 1 ≡ q′ = cc in omega (arith, eqb-false q 2 p)
+        by false p y false true e = let f : 0 ≡ q′ = cc in omega arith
+        by false p y false false e = let z : _≡_ {A = ℕ} 0 1 = cc in absurd (omega arith)
+
+    never : (q b i : ℕ) → commentStep q b i ≡ stop (read.Stopped Cut) → ⊥
+    never q b i e = by (eqb q 2) (eqb b 0x3E) (eqb b 0x2D) (isFree b) e
+      where
+        by : (x y z w : Bool) → _≡_ {A = RunNext ℕ Read} (cond x (cond y (stop (read.End (i + 1))) (stop (read.Stopped (Bad i)))) (cond z (go (q + 1)) (cond w (go 0) (stop (read.Stopped (Bad i)))))) (stop (read.Stopped Cut)) → ⊥
+        by true true z w e = let z : _≡_ {A = ℕ} 0 1 = cc in omega arith
+        by true false z w e = let z : _≡_ {A = ℕ} 0 1 = cc in omega arith
+        by false y true w e = let z : _≡_ {A = ℕ} 0 1 = cc in omega arith
+        by false y false true e = let z : _≡_ {A = ℕ} 0 1 = cc in omega arith
+        by false y false false e = let z : _≡_ {A = ℕ} 0 1 = cc in omega arith
+
+    each : (q : ℕ) → q ≤ 2 → Stops commentStep (λ (q : ℕ). q ≤ 2) keeps never 3 q
+    each zero j = record { word = 0x2D ∷ 0x2D ∷ 0x3E ∷ []; few = omega arith; stops = λ u i. ap read.End (omega arith) }
+    each (suc zero) j = record { word = 0x2D ∷ 0x3E ∷ []; few = omega arith; stops = λ u i. ap read.End (omega arith) }
+    each (suc (suc zero)) j = record { word = 0x3E ∷ []; few = omega arith; stops = λ u i. refl }
+    each (suc (suc (suc q))) j = absurd (omega arith)
+
+content-ends : Ends contentEnd (0x3F ∷ 0x3E ∷ []) 2
+unfolding contentEnd run
+content-ends = ends-machine contentStep (λ (q : ℕ). Unit {0}) (λ q q′ b i j e. tt) never 2 (λ q j. each q) 0 tt
+  where
+    never : (q b i : ℕ) → contentStep q b i ≡ stop (read.Stopped Cut) → ⊥
+    never q b i e = by (eqb q 1 && eqb b 0x3E) (isFree b) e
+      where
+        by : (x y : Bool) → _≡_ {A = RunNext ℕ Read} (cond x (stop (read.End (i + 1))) (cond y (go (cond (eqb b 0x3F) 1 0)) (stop (read.Stopped (Bad i))))) (stop (read.Stopped Cut)) → ⊥
+        by true y e = let z : _≡_ {A = ℕ} 0 1 = cc in omega arith
+        by false true e = let z : _≡_ {A = ℕ} 0 1 = cc in omega arith
+        by false false e = let z : _≡_ {A = ℕ} 0 1 = cc in omega arith
+
+    each : (q : ℕ) → Stops contentStep (λ (q : ℕ). Unit {0}) (λ q q′ b i j e. tt) never 2 q
+    each q = record { word = 0x3F ∷ 0x3E ∷ []; few = omega arith; stops = λ u i. by (eqb q 1) u i }
+      where
+        by : (x : Bool) (u : List ℕ) (i : ℕ) → follow (cond {A = RunNext ℕ Read} (x && false) (stop (read.End (i + 1))) (go 1)) (λ (p : ℕ). run (read.Stopped Cut) contentStep p (0x3E ∷ u) (i + 1)) ≡ read.End (i + 2)
+        by true u i = ap read.End (omega arith)
+        by false u i = ap read.End (omega arith)
+
+abbrev Some : Field → ℕ → Form
+Some f quote s at = someEnd s f at quote
+
+some-ends : (f : Field) (c quote : ℕ) → fits f c ≡ true → Ends (Some f quote) (c ∷ quote ∷ []) 2
+unfolding someEnd run
+some-ends f c quote fit = ends-machine (someStep f quote) (λ (q : ℕ). Unit {0}) (λ q q′ b i j e. tt) never 2 (λ q j. each q (eqb q 1) refl) 0 tt
+  where
+    never : (q b i : ℕ) → someStep f quote q b i ≡ stop (read.Stopped Cut) → ⊥
+    never q b i e = by (eqb q 1 && eqb b quote) (fits f b) e
+      where
+        by : (x y : Bool) → _≡_ {A = RunNext ℕ Read} (cond x (stop (read.End (i + 1))) (cond y (go 1) (stop (read.Stopped (Bad i))))) (stop (read.Stopped Cut)) → ⊥
+        by true y e = let z : _≡_ {A = ℕ} 0 1 = cc in omega arith
+        by false true e = let z : _≡_ {A = ℕ} 0 1 = cc in omega arith
+        by false false e = let z : _≡_ {A = ℕ} 0 1 = cc in omega arith
+
+    each : (q : ℕ) (x : Bool) → eqb q 1 ≡ x → Stops (someStep f quote) (λ (q : ℕ). Unit {0}) (λ q q′ b i j e. tt) never 2 q
+    each q true x = record { word = quote ∷ []; few = omega arith; stops = λ u i. rw (x, eq-eqb quote quote refl) }
+    each q false x = record { word = c ∷ quote ∷ []; few = omega arith; stops = λ u i. rw (x, fit, eq-eqb quote quote refl) (ap read.End (omega arith)) }
+
+-- ---- the fields of a declaration
+version-ends : (quote : ℕ) → Ends (λ (s : List ℕ) (at : ℕ). versionEnd s at quote) (bytes "1.0" ++ (quote ∷ [])) 4
+unfolding versionEnd
+version-ends quote =
+    ends-then (Word (bytes "1.")) (Some field.Version quote)
+    (λ s at. word-inside s at 0x31 (0x2E ∷ []))
+    (λ s t at. word-stable s t at (bytes "1."))
+    (bytes "1.")
+    (0x30 ∷ quote ∷ [])
+    1
+    2
+    4
+    (ends-word (bytes "1."))
+    (some-ends field.Version 0x30 quote refl)
+    (omega arith)
+    (omega arith)
+
+encoding-ends : (quote : ℕ) → Ends (λ (s : List ℕ) (at : ℕ). encodingEnd s at quote) (0x61 ∷ quote ∷ []) 2
+unfolding encodingEnd
+encoding-ends quote =
+    let some = some-ends field.Encoding 0x61 quote refl in
+    ends-peek (λ (b : ℕ) (s : List ℕ) (at : ℕ). cond (isLetter b) (someEnd s field.Encoding at quote) (read.Stopped (Bad at))) 0x61 (quote ∷ []) 2
+    (some .fresh)
+    (λ b. goes-cond (Some field.Encoding quote) Refused 2 (isLetter b) (some .goes) (goes-bad 2))
+
+answer-ends : Ends answerEnd (bytes "no") 2
+unfolding answerEnd
+answer-ends =
+    ends-peek (λ (b : ℕ) (s : List ℕ) (at : ℕ). cond (eqb b 0x79) (wordEnd s at (bytes "yes")) (wordEnd s at (bytes "no"))) 0x6E (0x6F ∷ []) 2
+    (ends-word (bytes "no") .fresh)
+    (λ b. goes-cond (Word (bytes "yes")) (Word (bytes "no")) 2 (eqb b 0x79) (ends-word (bytes "yes") .goes) (goes-more (Word (bytes "no")) 1 2 (omega arith) (ends-word (bytes "no") .goes)))
+
+standalone-ends : (quote : ℕ) → Ends (λ (s : List ℕ) (at : ℕ). standaloneEnd s at quote) (bytes "no" ++ (quote ∷ [])) 3
+unfolding standaloneEnd
+standalone-ends quote =
+    ends-then answerEnd (OneByte quote) answer-inside answer-stable (bytes "no") (quote ∷ []) 2 0 3 answer-ends (ends-wanted quote) (omega arith) (omega arith)
+
+-- what stands in a field's quotes
+abbrev fieldText : Field → List ℕ
+fieldText field.Version = bytes "1.0"
+fieldText field.Encoding = bytes "a"
+fieldText field.Standalone = bytes "no"
+
+abbrev Valued : Field → ℕ → Form
+Valued f quote s at = fieldValue f s at quote
+
+value-ends : (f : Field) (quote : ℕ) → Ends (Valued f quote) (fieldText f ++ (quote ∷ [])) (length (fieldText f) + 1)
+value-ends field.Version quote = version-ends quote
+value-ends field.Encoding quote = encoding-ends quote
+value-ends field.Standalone quote = standalone-ends quote
+
+abbrev quotedText : Field → List ℕ
+quotedText f = 0x27 ∷ (fieldText f ++ (0x27 ∷ []))
+
+quoted-ends : (f : Field) → Ends (λ (s : List ℕ) (at : ℕ). quotedEnd s f at) (quotedText f) (length (fieldText f) + 1)
+unfolding quotedEnd
+quoted-ends f =
+    ends-peek (λ (q : ℕ) (s : List ℕ) (at : ℕ). cond (eqb q 0x22 || eqb q 0x27) (fieldValue f s (at + 1) q) (read.Stopped (Bad at))) 0x27 (fieldText f ++ (0x27 ∷ [])) k
+    (fresh-next (Valued f 0x27) (fieldText f ++ (0x27 ∷ [])) k (value-ends f 0x27) 0x27)
+    (λ q.
+    goes-cond (Next (Valued f q) (fieldText f ++ (q ∷ [])) k (value-ends f q)) Refused k (eqb q 0x22 || eqb q 0x27)
+    (goes-next (Valued f q) (fieldText f ++ (q ∷ [])) k (value-ends f q) k (omega arith) (omega (arith, length-append (fieldText f) (q ∷ []))))
+    (goes-bad k))
+  where
+    k : ℕ
+    k = length (fieldText f) + 1
+
+-- a field of which a byte is there
+abbrev fieldLeft : Field → ℕ
+fieldLeft field.Version = 12
+fieldLeft field.Encoding = 11
+fieldLeft field.Standalone = 14
+
+abbrev Fielded : Field → Form
+Fielded f s at = fieldEnd s f at
+
+abbrev fieldWhole : Field → List ℕ
+fieldWhole f = fieldWord f ++ (0x3D ∷ quotedText f)
+
+field-ends : (f : Field) → Ends (Fielded f) (fieldWhole f) (fieldLeft f)
+unfolding fieldEnd
+field-ends f =
+    ends-then (Word (fieldWord f)) (Equalled (λ (s : List ℕ) (at : ℕ). quotedEnd s f at)) (λ s at. field-word-inside s f at) (λ s t at. word-stable s t at (fieldWord f)) (fieldWord f) (0x3D ∷ quotedText f) (behindFirst (fieldWord f)) k (fieldLeft f)
+    (ends-word (fieldWord f))
+    (ends-equals (λ (s : List ℕ) (at : ℕ). quotedEnd s f at) 0x27 (fieldText f ++ (0x27 ∷ [])) (length (fieldText f) + 1) k refl (quoted-ends f) (omega (arith, length-append (fieldText f) (0x27 ∷ []))) (omega arith))
+    (left f)
+    (few f)
+  where
+    k : ℕ
+    k = length (0x3D ∷ quotedText f)
+
+    left : (f : Field) → behindFirst (fieldWord f) + length (0x3D ∷ quotedText f) ≤ fieldLeft f
+    left field.Version = omega arith
+    left field.Encoding = omega arith
+    left field.Standalone = omega arith
+
+    few : (f : Field) → length (0x3D ∷ quotedText f) ≤ fieldLeft f
+    few field.Version = omega arith
+    few field.Encoding = omega arith
+    few field.Standalone = omega arith
+
+-- ---- behind a field: its ?>, or another field
+abbrev closing : List ℕ
+closing = 0x3F ∷ 0x3E ∷ []
+
+module _ (more : Form) (m : ℕ) (h : Goes more m) where
+  abbrev Rests : Form
+  Rests s at = fieldThen (λ (i : ℕ). more s i) (fieldTurn s at)
+
+  rest-ends : (k : ℕ) → 2 ≤ k → m ≤ k → Ends Rests closing k
+  unfolding fieldTurn turnFrom closeAt
+  rest-ends k two le =
+      ends-same (Spaced turned) Rests closing k
+      (λ s at. same s at (spacesEnd s at))
+      (ends-spaced turned 0x3F (0x3E ∷ []) k k refl each (omega arith) two)
+    where
+      byte : ℕ → ℕ → Form
+      byte at b s i = cond (eqb b 0x3F) (wanted s (i + 1) 0x3E) (cond (eqb i at) (read.Stopped (Bad i)) (more s i))
+
+      turned : ℕ → Form
+      turned at = Peeked (byte at)
+
+      behind : (at : ℕ) → Goes (λ (s : List ℕ) (i : ℕ). cond (eqb i at) (read.Stopped (Bad i)) (more s i)) k
+      behind at s i lt e = by (eqb i at) refl e
+        where
+          by : (t : Bool) → eqb i at ≡ t → cond t (read.Stopped (Bad i)) (more s i) ≡ read.Stopped Cut → Rest (λ (s : List ℕ) (i : ℕ). cond (eqb i at) (read.Stopped (Bad i)) (more s i)) s i k
+          by true q e = let z : _≡_ {A = ℕ} 0 1 = cc in absurd (omega arith)
+          by false q e =
+              let r = goes-more more m k le h s i lt e in
+              record { more = r .more; few = r .few; done = λ u. rw q (r .done u) }
+
+      each : (at : ℕ) → Ends (turned at) closing k
+      each at =
+          ends-peek (byte at) 0x3F (0x3E ∷ []) k
+          (fresh-next (OneByte 0x3E) (0x3E ∷ []) 0 (ends-wanted 0x3E) 0x3F)
+          (λ b.
+          goes-cond (Next (OneByte 0x3E) (0x3E ∷ []) 0 (ends-wanted 0x3E)) (λ (s : List ℕ) (i : ℕ). cond (eqb i at) (read.Stopped (Bad i)) (more s i)) k (eqb b 0x3F)
+          (goes-next (OneByte 0x3E) (0x3E ∷ []) 0 (ends-wanted 0x3E) k (omega arith) (omega arith))
+          (behind at))
+
+      closes : (s : List ℕ) (r : Read) → fieldThen (λ (i : ℕ). more s i) (afterRead turn.Stopped r (λ (next : ℕ). turn.Close next false)) ≡ r
+      closes s (read.End j) = refl
+      closes s (read.Stopped x) = refl
+
+      -- by the tests
+      chooses : (s : List ℕ) (at i : ℕ) (a b c : Bool) → fieldThen (λ (i : ℕ). more s i) (cond a (cond b (afterRead turn.Stopped (wanted s (i + 1) 0x3E) (λ (next : ℕ). turn.Close next false)) (cond c (turn.Stopped (Bad i)) (turn.Attribute i))) (turn.Stopped Cut)) ≡ cond a (cond b (wanted s (i + 1) 0x3E) (cond c (read.Stopped (Bad i)) (more s i))) (read.Stopped Cut)
+      chooses s at i true true c = closes s (wanted s (i + 1) 0x3E)
+      chooses s at i true false true = refl
+      chooses s at i true false false = refl
+      chooses s at i false b c = refl
+
+      same : (s : List ℕ) (at : ℕ) (r : Read) → fieldThen (λ (i : ℕ). more s i) (afterRead turn.Stopped r (λ (i : ℕ). turnFrom s at i)) ≡ afterRead read.Stopped r (λ (i : ℕ). turned at s i)
+      same s at (read.End i) = chooses s at i (ltb i (length s)) (eqb (getD s i 0) 0x3F) (eqb i at)
+      same s at (read.Stopped x) = refl
+
+-- a field, and what stands behind it
+field-then-ends : (f : Field) (g : Form) (kg k : ℕ) → Ends g closing kg → fieldLeft f + 2 ≤ k → kg ≤ k → Ends (λ (s : List ℕ) (at : ℕ). afterRead read.Stopped (fieldEnd s f at) (λ (i : ℕ). g s i)) (fieldWhole f ++ closing) k
+field-then-ends f g kg k h le le′ =
+    ends-then (Fielded f) g (λ s at. field-inside s f at) (λ s t at. field-stable s t f at) (fieldWhole f) closing (fieldLeft f) kg k (field-ends f) h le le′
+
+last-ends : Ends lastRest closing 2
+unfolding lastRest
+last-ends = rest-ends Refused 0 (goes-bad 0) 2 (omega arith) (omega arith)
+
+standalone-then-ends : Ends standaloneThen (fieldWhole field.Standalone ++ closing) 16
+unfolding standaloneThen
+standalone-then-ends = field-then-ends field.Standalone lastRest 2 16 last-ends (omega arith) (omega arith)
+
+encoding-rest-ends : Ends encodingRest closing 16
+unfolding encodingRest
+encoding-rest-ends = rest-ends standaloneThen 16 (standalone-then-ends .goes) 16 (omega arith) (omega arith)
+
+encoding-then-ends : Ends encodingThen (fieldWhole field.Encoding ++ closing) 16
+unfolding encodingThen
+encoding-then-ends = field-then-ends field.Encoding encodingRest 16 16 encoding-rest-ends (omega arith) (omega arith)
+
+either-goes : Goes eitherThen 16
+unfolding eitherThen
+either-goes =
+    goes-peek (λ (b : ℕ) (s : List ℕ) (at : ℕ). cond (eqb b 0x65) (encodingThen s at) (standaloneThen s at)) 16
+    (λ b. goes-cond encodingThen standaloneThen 16 (eqb b 0x65) (encoding-then-ends .goes) (standalone-then-ends .goes))
+
+version-rest-ends : Ends versionRest closing 16
+unfolding versionRest
+version-rest-ends = rest-ends eitherThen 16 either-goes 16 (omega arith) (omega arith)
+
+version-then-ends : Ends versionThen (fieldWhole field.Version ++ closing) 16
+unfolding versionThen
+version-then-ends = field-then-ends field.Version versionRest 16 16 version-rest-ends (omega arith) (omega arith)
+
+declaration-goes : Goes declarationEnd 16
+unfolding declarationEnd
+declaration-goes =
+    goes-peek (λ (b : ℕ) (s : List ℕ) (at : ℕ). cond (isSpace b) (afterRead read.Stopped (spacesEnd s at) (λ (i : ℕ). versionThen s i)) (read.Stopped (Bad at))) 16
+    (λ b. goes-cond (Spaced (λ (at : ℕ). versionThen)) Refused 16 (isSpace b) (ends-spaced (λ (at : ℕ). versionThen) 0x76 _ 16 16 refl (λ at. version-then-ends) (omega arith) (omega arith) .goes) (goes-bad 16))
+
+-- ---- comments and instructions
+comment-end-ends : Ends commentEnd (bytes "---->") 5
+unfolding commentEnd
+comment-end-ends =
+    ends-then (Word (bytes "--")) commentRest (λ s at. word-inside s at 0x2D (0x2D ∷ [])) (λ s t at. word-stable s t at (bytes "--")) (bytes "--") (bytes "-->") 1 3 5 (ends-word (bytes "--")) comment-ends (omega arith) (omega arith)
+
+target-ends : Ends behindTarget closing 2
+unfolding behindTarget
+target-ends =
+    let gt = ends-wanted 0x3E in
+    ends-peek (λ (b : ℕ) (s : List ℕ) (at : ℕ). cond (isSpace b) (contentEnd s (at + 1)) (cond (eqb b 0x3F) (wanted s (at + 1) 0x3E) (read.Stopped (Bad at)))) 0x3F (0x3E ∷ []) 2
+    (fresh-next (OneByte 0x3E) (0x3E ∷ []) 0 gt 0x3F)
+    (λ b.
+    goes-cond (Next contentEnd closing 2 content-ends) (λ (s : List ℕ) (at : ℕ). cond (eqb b 0x3F) (wanted s (at + 1) 0x3E) (read.Stopped (Bad at))) 2 (isSpace b) (goes-next contentEnd closing 2 content-ends 2 (omega arith) (omega arith))
+    (goes-cond (Next (OneByte 0x3E) (0x3E ∷ []) 0 gt) Refused 2 (eqb b 0x3F) (goes-next (OneByte 0x3E) (0x3E ∷ []) 0 gt 2 (omega arith) (omega arith)) (goes-bad 2)))
+
+-- ---- a target xml: with a byte more it is another
+either : (b x y : ℕ) (P : ℕ → Type 0) → P x → P y → (eqb b x || eqb b y) ≡ true → P b
+either b x y P p q e = by (eqb b x) refl e
+  where
+    by : (t : Bool) → eqb b x ≡ t → (t || eqb b y) ≡ true → P b
+    by true f e = subst P (sym (eqb-true b x f)) p
+    by false f e = subst P (sym (eqb-true b y e)) q
+
+-- its letters
+record Letters (s : List ℕ) (at : ℕ) : Type 0 where
+  first : isStart (getD s at 0) ≡ true
+  second : isName (getD s (at + 1) 0) ≡ true
+  third : isName (getD s (at + 2) 0) ≡ true
+
+xml-letters : (s : List ℕ) (at end : ℕ) → isXml s at end ≡ true → Letters s at
+unfolding isXml
+xml-letters s at end e =
+    let a = eqb end (at + 3) in
+    let x = eqb (getD s at 0) 0x58 || eqb (getD s at 0) 0x78 in
+    let m = eqb (getD s (at + 1) 0) 0x4D || eqb (getD s (at + 1) 0) 0x6D in
+    let l = eqb (getD s (at + 2) 0) 0x4C || eqb (getD s (at + 2) 0) 0x6C in
+    let axm = and-left (a && x && m) l e in
+    record {
+      first = either (getD s at 0) 0x58 0x78 (λ (b : ℕ). isStart b ≡ true) refl refl (and-right a x (and-left (a && x) m axm));
+      second = either (getD s (at + 1) 0) 0x4D 0x6D (λ (b : ℕ). isName b ≡ true) refl refl (and-right (a && x) m axm);
+      third = either (getD s (at + 2) 0) 0x4C 0x6C (λ (b : ℕ). isName b ≡ true) refl refl (and-right (a && x && m) l e);
+    }
+
+letters-kept : (s t : List ℕ) (at : ℕ) → at + 2 < length s → Letters s at → Letters (s ++ t) at
+letters-kept s t at h l =
+    record {
+      first = rw (List·getD-append s t 0 at (omega arith)) (l .first);
+      second = rw (List·getD-append s t 0 (at + 1) (omega arith)) (l .second);
+      third = rw (List·getD-append s t 0 (at + 2) h) (l .third);
+    }
+
+letters-before : (s t : List ℕ) (at : ℕ) → at + 2 < length s → Letters (s ++ t) at → Letters s at
+letters-before s t at h l =
+    record {
+      first = rw (List·getD-append s t 0 at (omega arith)) at (l .first);
+      second = rw (List·getD-append s t 0 (at + 1) (omega arith)) at (l .second);
+      third = rw (List·getD-append s t 0 (at + 2) h) at (l .third);
+    }
+
+four-letters : (s : List ℕ) (at : ℕ) → Letters s at → Byte s (at + 3) 0x61 → Byte s (at + 4) 0x3F → partEnd s at ≡ read.End (at + 4)
+unfolding partEnd
+four-letters s at l a q =
+    let two : at + 1 + 1 ≡ at + 2 = omega arith in
+    let three : at + 2 + 1 ≡ at + 3 = omega arith in
+    let more : at + 3 + 1 ≡ at + 4 = omega arith in
+    part-begins s 64 at (getD s at 0) refl (omega arith, refl) (l .first)
+    ∙ part-goes s 63 (at + 1) (getD s (at + 1) 0) refl refl (omega arith, refl) (l .second)
+    ∙ ap (From 62) two
+    ∙ part-goes s 62 (at + 2) (getD s (at + 2) 0) refl refl (omega arith, refl) (l .third)
+    ∙ ap (From 61) three
+    ∙ part-goes s 61 (at + 3) 0x61 refl refl a refl
+    ∙ ap (From 60) more
+    ∙ part-stops s 60 (at + 4) 0x3F refl q refl
+  where
+    From : ℕ → ℕ → Read
+    From room i = run (read.Stopped Cut) (partStep s) room (drop i s) i
+
+xml-not : (s : List ℕ) (at end : ℕ) → (end ≡ at + 3 → ⊥) → isXml s at end ≡ false
+unfolding isXml
+xml-not s at end n = rw (ne-eqb end (at + 3) n)
+
+-- ---- an instruction
+-- its target, then ?>
+instruction-closes : (s : List ℕ) (at j : ℕ) → partEnd s at ≡ read.End j → isXml s at j ≡ false → behindTarget s j ≡ read.End (j + 2) → instructionEnd s at ≡ read.End (j + 2)
+unfolding instructionEnd
+instruction-closes s at j p x b = rw (p, x, b)
+
+module _ (s : List ℕ) (at : ℕ) where
+  -- the target is cut
+  target-cut : PartDone s at → Rest instructionEnd s at 16
+  target-cut p = by (isXml (l ++ (0x3F ∷ [])) at (length s + length (p .more))) refl
+    where
+      l : List ℕ
+      l = s ++ p .more
+
+      j : ℕ
+      j = length s + length (p .more)
+
+      long : length l ≡ j
+      long = length-append s (p .more)
+
+      by : (t : Bool) → isXml (l ++ (0x3F ∷ [])) at j ≡ t → Rest instructionEnd s at 16
+      by false x =
+          record {
+            more = p .more ++ closing;
+            few = omega (arith, p .few, length-append (p .more) closing);
+            done =
+                λ u.
+                let S = s ++ (p .more ++ (0x3F ∷ 0x3E ∷ u)) in
+                let same : S ≡ (l ++ (0x3F ∷ [])) ++ (0x3E ∷ u) = sym (append-assoc s (p .more) (0x3F ∷ 0x3E ∷ u)) ∙ sym (append-assoc l (0x3F ∷ []) (0x3E ∷ u)) in
+                let no : isXml S at j ≡ false = ap (λ (r : List ℕ). isXml r at j) same ∙ xml-kept (l ++ (0x3F ∷ [])) (0x3E ∷ u) at j (omega (arith, long, length-append l (0x3F ∷ []))) ∙ x in
+                let ends : behindTarget S j ≡ read.End (j + 2) = fresh-behind behindTarget closing (target-ends .fresh) s (p .more) u j refl ∙ ap read.End (omega (arith, length-append (p .more) closing)) in
+                let last : j + 2 ≡ length s + length (p .more ++ closing) = omega (arith, length-append (p .more) closing) in
+                rw (append-assoc (p .more) closing u) (instruction-closes S at j (p .done 0x3F (0x3E ∷ u) refl) no ends ∙ ap read.End last);
+          }
+      by true x =
+          let three : j ≡ at + 3 = xml-three (l ++ (0x3F ∷ [])) [] at j x in
+          let letters : Letters l at = letters-before l (0x3F ∷ []) at (omega (arith, long)) (xml-letters (l ++ (0x3F ∷ [])) at j x) in
+          let w : List ℕ = 0x61 ∷ 0x3F ∷ 0x3E ∷ [] in
+          record {
+            more = p .more ++ w;
+            few = omega (arith, p .few, length-append (p .more) w);
+            done =
+                λ u.
+                let S = l ++ (w ++ u) in
+                let same : s ++ ((p .more ++ w) ++ u) ≡ S = ap (λ (r : List ℕ). s ++ r) (append-assoc (p .more) w u) ∙ sym (append-assoc s (p .more) (w ++ u)) in
+                let part : partEnd S at ≡ read.End (at + 4) = four-letters S at (letters-kept l (w ++ u) at (omega (arith, long)) letters) (byte-in l [] (w ++ u) 0 (at + 3) (omega (arith, long)) (omega arith)) (byte-in l [] (w ++ u) 1 (at + 4) (omega (arith, long)) (omega arith)) in
+                let no : isXml S at (at + 4) ≡ false = not-three S in
+                let ends : behindTarget S (at + 4) ≡ read.End (at + 4 + 2) = fresh-behind behindTarget closing (target-ends .fresh) l (0x61 ∷ []) u (at + 4) (omega (arith, long)) ∙ ap read.End (omega (arith, long)) in
+                let last : at + 4 + 2 ≡ length s + length (p .more ++ w) = omega (arith, length-append (p .more) w) in
+                ap (λ (r : List ℕ). instructionEnd r at) same ∙ instruction-closes S at (at + 4) part no ends ∙ ap read.End last;
+          }
+        where
+          not-three : (S : List ℕ) → isXml S at (at + 4) ≡ false
+          not-three S = xml-not S at (at + 4) (λ e. omega arith)
+
+  -- the target is whole
+  target-whole : (j : ℕ) → partEnd s at ≡ read.End j → PartTo s at j → (x : Bool) → isXml s at j ≡ x → (d : Bool) → isDeclared s at ≡ d → cond x (cond d (declarationEnd s j) (read.Stopped (Bad at))) (behindTarget s j) ≡ read.Stopped Cut → Rest instructionEnd s at 16
+  unfolding instructionEnd
+  target-whole j p to true x true d e =
+      let three = xml-three s s at j x in
+      let r = declaration-goes s j (to .1) e in
+      record {
+        more = r .more;
+        few = r .few;
+        done =
+            λ u.
+            let t = r .more ++ u in
+            rw (read-so (partEnd s at) (partEnd (s ++ t) at) j p (part-stable s t at), xml-kept s t at j (to .1), x, declared-kept s t at (omega arith), d) (r .done u);
+      }
+  target-whole j p to true x false d e = let z : _≡_ {A = ℕ} 0 1 = cc in absurd (omega arith)
+  target-whole j p to false x d d′ e =
+      let r = target-ends .goes s j (to .1) e in
+      record {
+        more = r .more;
+        few = omega (arith, r .few);
+        done =
+            λ u.
+            let t = r .more ++ u in
+            rw (read-so (partEnd s at) (partEnd (s ++ t) at) j p (part-stable s t at), xml-kept s t at j (to .1), x) (r .done u);
+      }
+
+  instruction-completed : at ≤ length s → instructionEnd s at ≡ read.Stopped Cut → Rest instructionEnd s at 16
+  unfolding instructionEnd
+  instruction-completed le e = by (partEnd s at) refl (part-inside s at) e
+    where
+      by : (r : Read) → partEnd s at ≡ r → ReadInside (PartTo s at) s at (partEnd s at) → afterRead read.Stopped r (λ (j : ℕ). cond (isXml s at j) (cond (isDeclared s at) (declarationEnd s j) (read.Stopped (Bad at))) (behindTarget s j)) ≡ read.Stopped Cut → Rest instructionEnd s at 16
+      by (read.End j) p in′ e = target-whole j p (subst (ReadInside (PartTo s at) s at) p in′) (isXml s at j) refl (isDeclared s at) refl e
+      by (read.Stopped x) p in′ e = target-cut (part-completed s at le (p ∙ e))
+
+-- ---- a misc whose < stands at a place, a ! or ? behind it
+pub misc-completed : (s : List ℕ) (at : ℕ) → at + 1 < length s → miscEnd s at ≡ read.Stopped Cut → Rest miscEnd s at 16
+unfolding miscEnd
+misc-completed s at lt e = by (eqb (getD s (at + 1) 0) 0x3F) refl (rw (lt-ltb (at + 1) (length s) lt) at e)
+  where
+    kept : (f : Form) (t : Bool) → eqb (getD s (at + 1) 0) 0x3F ≡ t → ((l : List ℕ) → f l (at + 2) ≡ cond t (instructionEnd l (at + 2)) (commentEnd l (at + 2))) → Rest f s (at + 2) 16 → Rest miscEnd s at 16
+    kept f t q same r =
+        record {
+          more = r .more;
+          few = r .few;
+          done =
+              λ u.
+              let b = byte-kept s (r .more ++ u) (at + 1) lt in
+              rw (lt-ltb (at + 1) (length (s ++ (r .more ++ u))) (b .0), b .1, q) (sym (same (s ++ (r .more ++ u))) ∙ r .done u);
+        }
+
+    by : (t : Bool) → eqb (getD s (at + 1) 0) 0x3F ≡ t → cond t (instructionEnd s (at + 2)) (commentEnd s (at + 2)) ≡ read.Stopped Cut → Rest miscEnd s at 16
+    by true q e = kept instructionEnd true q (λ l. refl) (instruction-completed s (at + 2) (omega arith) e)
+    by false q e = kept commentEnd false q (λ l. refl) (ends-at commentEnd (bytes "---->") 5 16 comment-end-ends (omega arith) (omega arith) s (at + 2) (omega arith) e)
+
+-- its < is the scene's last byte: <?a?>
+pub misc-begins : (s u : List ℕ) (at : ℕ) → at + 1 ≡ length s → miscEnd (s ++ (bytes "?a?>" ++ u)) at ≡ read.End (length s + 4)
+unfolding miscEnd partEnd
+misc-begins s u at e =
+    let w : List ℕ = 0x3F ∷ 0x61 ∷ 0x3F ∷ 0x3E ∷ u in
+    let S = s ++ w in
+    let b0 = byte-in s [] w 0 (at + 1) (omega arith) (omega arith) in
+    let b1 = byte-in s [] w 1 (at + 2) (omega arith) (omega arith) in
+    let b2 = byte-in s [] w 2 (at + 2 + 1) (omega arith) (omega arith) in
+    let part : partEnd S (at + 2) ≡ read.End (at + 2 + 1) = part-begins S 64 (at + 2) 0x61 refl b1 refl ∙ part-stops S 63 (at + 2 + 1) 0x3F refl b2 refl in
+    let no : isXml S (at + 2) (at + 2 + 1) ≡ false = xml-not S (at + 2) (at + 2 + 1) (λ f. omega arith) in
+    let ends : behindTarget S (at + 2 + 1) ≡ read.End (at + 2 + 1 + 2) = fresh-behind behindTarget closing (target-ends .fresh) s (0x3F ∷ 0x61 ∷ []) u (at + 2 + 1) (omega arith) ∙ ap read.End (omega arith) in
+    let last : at + 2 + 1 + 2 ≡ length s + 4 = omega arith in
+    rw (lt-ltb (at + 1) (length S) (b0 .0), b0 .1) (instruction-closes S (at + 2) (at + 2 + 1) part no ends ∙ ap read.End last)

@@ -1,0 +1,122 @@
+-- Worked examples, by computation: vectors of request N1 on comments, instructions, the declaration, where an event begins behind them, and ]]> in text.
+use mathlib.Core.Path.{_≡_, refl}
+use mathlib.Core.Bool.{true, false}
+use Rattle.laws.specs.Text.{bytes}
+use Rattle.lexer.specs.Values.{textEnd}
+use Rattle.lexer.specs.Misc.{miscEnd}
+use Rattle.lexer.specs.Begins.{beginAt}
+use Rattle.lexer.specs.Computing.{computing}
+use Rattle.lexer.specs.declared.Stop.the-variants.{Bad, Cut}
+use Rattle.lexer.specs.declared.Read.the-variants as read
+use Rattle.lexer.specs.declared.Begin.the-variants as begin
+
+-- [15], N1-8, N1-12, N1-13
+comments :
+    (miscEnd (bytes "<!-->") 0 ≡ read.Stopped Cut)
+    × (miscEnd (bytes "<!--->") 0 ≡ read.Stopped Cut)
+    × (miscEnd (bytes "<!---->") 0 ≡ read.End 7)
+    × (miscEnd (bytes "<!----->") 0 ≡ read.Stopped (Bad 6))
+    × (miscEnd (bytes "<!--a--->") 0 ≡ read.Stopped (Bad 7))
+    × (miscEnd (bytes "<!--a--b") 0 ≡ read.Stopped (Bad 7))
+    × (miscEnd (bytes "<!--a--") 0 ≡ read.Stopped Cut)
+    × (miscEnd (bytes "<!x") 0 ≡ read.Stopped (Bad 2))
+    × (miscEnd (bytes "<!-x") 0 ≡ read.Stopped (Bad 3))
+    × (miscEnd (bytes "<![CDATA[") 0 ≡ read.Stopped (Bad 2))
+    × (miscEnd (bytes "<!") 0 ≡ read.Stopped Cut)
+unfolding computing
+comments = (refl, refl, refl, refl, refl, refl, refl, refl, refl, refl, refl)
+
+-- [23], N1-18 to N1-20
+declarations :
+    (miscEnd (bytes "<?xml?>") 0 ≡ read.Stopped (Bad 5))
+    × (miscEnd (bytes "<?xml:a?>") 0 ≡ read.Stopped (Bad 5))
+    × (miscEnd (bytes "<?xml") 0 ≡ read.Stopped Cut)
+    × (miscEnd (bytes "<?xml version='1.0'?>") 0 ≡ read.End 21)
+    × (miscEnd (bytes "<?xml version=\"1.0\" standalone='no'?>") 0 ≡ read.End 37)
+    × (miscEnd (bytes "<?xml ?>") 0 ≡ read.Stopped (Bad 6))
+    × (miscEnd (bytes "<?xml encoding='a'?>") 0 ≡ read.Stopped (Bad 6))
+    × (miscEnd (bytes "<?xml version=1.0?>") 0 ≡ read.Stopped (Bad 14))
+    × (miscEnd (bytes "<?xml version='2.0'?>") 0 ≡ read.Stopped (Bad 15))
+    × (miscEnd (bytes "<?xml version='1'?>") 0 ≡ read.Stopped (Bad 16))
+    × (miscEnd (bytes "<?xml version='1.'?>") 0 ≡ read.Stopped (Bad 17))
+    × (miscEnd (bytes "<?xml version='1.0\"?>") 0 ≡ read.Stopped (Bad 18))
+    × (miscEnd (bytes "<?xml version='1.0'encoding='a'?>") 0 ≡ read.Stopped (Bad 19))
+    × (miscEnd (bytes "<?xml version='1.0' encoding=''?>") 0 ≡ read.Stopped (Bad 30))
+    × (miscEnd (bytes "<?xml version='1.0' encoding='_a'?>") 0 ≡ read.Stopped (Bad 30))
+    × (miscEnd (bytes "<?xml version='1.0' encoding='a+'?>") 0 ≡ read.Stopped (Bad 31))
+    × (miscEnd (bytes "<?xml version='1.0' encoding='a'standalone='no'?>") 0 ≡ read.Stopped (Bad 32))
+    × (miscEnd (bytes "<?xml version='1.0' standalone='no' encoding='a'?>") 0 ≡ read.Stopped (Bad 36))
+    × (miscEnd (bytes "<?xml version='1.0' encoding='a' encoding='a'?>") 0 ≡ read.Stopped (Bad 33))
+    × (miscEnd (bytes "<?xml version='1.0' standalone='yo'?>") 0 ≡ read.Stopped (Bad 33))
+    × (miscEnd (bytes "<?xml version='1.0' standalone='no '?>") 0 ≡ read.Stopped (Bad 34))
+    × (miscEnd (bytes "<?xml version='1.0' a='b'?>") 0 ≡ read.Stopped (Bad 20))
+    × (miscEnd (bytes "<?xml version='1.0' ? >") 0 ≡ read.Stopped (Bad 21))
+    × (miscEnd (bytes "<?xml version='1.0' ?") 0 ≡ read.Stopped Cut)
+unfolding computing
+declarations = (refl, refl, refl, refl, refl, refl, refl, refl, refl, refl, refl, refl, refl, refl, refl, refl, refl, refl, refl, refl, refl, refl, refl, refl)
+
+-- [16] and [17], N1-14 to N1-17
+instructions :
+    (miscEnd (bytes "<?1") 0 ≡ read.Stopped (Bad 2))
+    × (miscEnd (bytes "<?a:b?>") 0 ≡ read.Stopped (Bad 3))
+    × (miscEnd (bytes "<?p??>") 0 ≡ read.Stopped (Bad 4))
+    × (miscEnd (bytes "<?p?x") 0 ≡ read.Stopped (Bad 4))
+    × (miscEnd (bytes "<?p!") 0 ≡ read.Stopped (Bad 3))
+    × (miscEnd (bytes "<?p ??>") 0 ≡ read.End 7)
+    × (miscEnd (bytes "<? p?>") 0 ≡ read.Stopped (Bad 2))
+    × (miscEnd (bytes "<??>") 0 ≡ read.Stopped (Bad 2))
+    × (miscEnd (bytes "<?p") 0 ≡ read.Stopped Cut)
+    × (miscEnd (bytes "<?p ?") 0 ≡ read.Stopped Cut)
+    × (miscEnd (bytes "<?p <&]]>-- ?? >?>") 0 ≡ read.End 18)
+    × (miscEnd (bytes "<?xmlx?>") 0 ≡ read.End 8)
+    × (miscEnd (bytes "<r><?xml") 3 ≡ read.Stopped Cut)
+    × (miscEnd (bytes "<r><?xml?") 3 ≡ read.Stopped (Bad 5))
+    × (miscEnd (bytes "<r><?xml!") 3 ≡ read.Stopped (Bad 5))
+    × (miscEnd (bytes "<r><?xml:a?>") 3 ≡ read.Stopped (Bad 5))
+    × (miscEnd (bytes "<r><?xml-a?>") 3 ≡ read.End 12)
+    × (miscEnd (bytes "<?XML version='1.0'?>") 0 ≡ read.Stopped (Bad 2))
+    × (miscEnd (bytes " <?xml version='1.0'?>") 1 ≡ read.Stopped (Bad 3))
+unfolding computing
+instructions = (refl, refl, refl, refl, refl, refl, refl, refl, refl, refl, refl, refl, refl, refl, refl, refl, refl, refl, refl)
+
+-- N1-1, N1-5 to N1-9, N1-18
+begins :
+    (beginAt (bytes "<!----><?p?><r/>") 0 false false ≡ begin.Start 12)
+    × (beginAt (bytes "<r/><!--a--> <?b?> ") 4 false true ≡ begin.Finished)
+    × (beginAt (bytes "<r/><!--a-->x") 4 false true ≡ begin.Stopped (Bad 12))
+    × (beginAt (bytes "<r/><!--a--><s/>") 4 false true ≡ begin.Stopped (Bad 13))
+    × (beginAt (bytes "<r/><?p") 4 false true ≡ begin.Stopped Cut)
+    × (beginAt (bytes "<r/><?xml?>") 4 false true ≡ begin.Stopped (Bad 6))
+    × (beginAt (bytes " <!----> ") 0 false false ≡ begin.Stopped Cut)
+    × (beginAt (bytes "<!---->x<r/>") 0 false false ≡ begin.Stopped (Bad 7))
+    × (beginAt (bytes "<r>a<!") 4 true false ≡ begin.Stopped Cut)
+    × (beginAt (bytes "<r>a<!x") 4 true false ≡ begin.Stopped (Bad 6))
+    × (beginAt (bytes "<r/><s/>") 4 false true ≡ begin.Stopped (Bad 5))
+    × (beginAt (bytes "<r/></r>") 4 false true ≡ begin.Stopped (Bad 5))
+    × (beginAt (bytes "<r/><") 4 false true ≡ begin.Stopped Cut)
+    × (beginAt (bytes "<r/>x") 4 false true ≡ begin.Stopped (Bad 4))
+    × (beginAt (bytes "<r/>  ") 4 false true ≡ begin.Finished)
+    × (beginAt (bytes "</r>") 0 false false ≡ begin.Stopped (Bad 1))
+    × (beginAt (bytes "<r>a<!--x-->b</r>") 4 true false ≡ begin.Text 12)
+    × (beginAt (bytes "<r><!----><?p?></r>") 3 true false ≡ begin.End 15)
+    × (beginAt (bytes "<!--x-->") 0 false false ≡ begin.Stopped Cut)
+    × (beginAt (bytes "<r/><!--x") 4 false true ≡ begin.Stopped Cut)
+    × (beginAt (bytes "<!----><?xml version='1.0'?>") 0 false false ≡ begin.Stopped (Bad 9))
+    × (beginAt (bytes "<?xml version='1.0'?><!--x--> <?p?><r>") 0 false false ≡ begin.Start 35)
+unfolding computing
+begins = (refl, refl, refl, refl, refl, refl, refl, refl, refl, refl, refl, refl, refl, refl, refl, refl, refl, refl, refl, refl, refl, refl)
+
+-- N1-2, N1-21, N1-22
+texts :
+    (textEnd (bytes "<r>a]]") 3 ≡ read.Stopped Cut)
+    × (textEnd (bytes "<r>a]]>") 3 ≡ read.Stopped (Bad 4))
+    × (textEnd (bytes "<r>]]]>") 3 ≡ read.Stopped (Bad 4))
+    × (textEnd (bytes "<r>&quot;]]></r>") 3 ≡ read.Stopped (Bad 9))
+    × (textEnd (bytes "<r>] ]>]&amp;]></r>") 3 ≡ read.End 15)
+    × (textEnd (bytes "<r>]]&gt;</r>") 3 ≡ read.End 9)
+    × (textEnd (bytes "<r>]]<!---->></r>") 3 ≡ read.End 5)
+    × (textEnd (bytes "<r>]]></r>") 3 ≡ read.Stopped (Bad 3))
+    × (textEnd (bytes "<r>abc") 3 ≡ read.Stopped Cut)
+    × (textEnd (bytes "<r>&ampx") 3 ≡ read.Stopped (Bad 7))
+unfolding computing
+texts = (refl, refl, refl, refl, refl, refl, refl, refl, refl, refl)

@@ -1,0 +1,5 @@
+pub mod Words
+pub mod MiscTurns
+pub mod MiscLaws
+pub mod BeginLaws
+pub mod BeginTurns
