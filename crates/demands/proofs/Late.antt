@@ -23,7 +23,7 @@ use Rattle.lexer.specs.Stops.{afterRead, afterName}
 use Rattle.lexer.specs.Names.{isSpace, spaceStep, spacesEnd, startLen, nameLen, partStep, partEnd, nameOf, prefixedAt, nameAt}
 use Rattle.lexer.specs.Values.{references, common, wholeOf, furthest, noReference, referenceEnd, isText, referred, closes, valueStep, valueFrom, valueEnd}
 use Rattle.lexer.specs.Tags.{wanted, equalsEnd, attrOf, quotedAt, attributeAt, slashAt, turnBehind, turnAt, TagRead, tagStopped, fullTurn, attrThen, turnThen, attrsFrom, tagAt, endTagAt}
-use Rattle.lexer.specs.Declaration.{wordEnd, isLetter, fits, someStep, someEnd, versionEnd, encodingEnd, answerEnd, standaloneEnd, fieldWord, fieldValue, quotedEnd, fieldEnd, closeAt, turnFrom, fieldTurn, fieldThen, lastRest, standaloneThen, encodingRest, encodingThen, eitherThen, versionRest, versionThen, declarationEnd}
+use Rattle.lexer.specs.Declaration.{wordEnd, isLetter, isFieldByte, someStep, someEnd, versionEnd, encodingEnd, answerEnd, standaloneEnd, fieldWord, fieldValue, quotedEnd, fieldEnd, closeAt, turnFrom, fieldTurn, fieldThen, lastRest, standaloneThen, encodingRest, encodingThen, eitherThen, versionRest, versionThen, declarationEnd}
 use Rattle.lexer.specs.Misc.{isFree, commentStep, commentRest, commentEnd, contentStep, contentEnd, behindTarget, isXml, isDeclared, instructionEnd, miscEnd}
 use Rattle.lexer.specs.Begins.{stoppedAhead, miscAhead, opensMisc, markupAt, eitherAt, ending, aheadAt, aheadThen, beginAt}
 use Rattle.lexer.specs.declared.Stop.{Stop}
@@ -516,7 +516,7 @@ module _ (s t : List ℕ) where
   unfolding someEnd
   some-grows f at quote =
       local-grows (someStep f quote) s t
-      (λ q b i out. holds-cond (LateStep i) (eqb q 1 && eqb b quote) (λ e. omega arith) (λ e. holds-cond (LateStep i) (fits f b) (λ e. omega arith) (λ e. omega arith)))
+      (λ q b i out. holds-cond (LateStep i) (eqb q 1 && eqb b quote) (λ e. omega arith) (λ e. holds-cond (LateStep i) (isFieldByte f b) (λ e. omega arith) (λ e. omega arith)))
       at
 
   answer-grows : (at : ℕ) → Reads at (answerEnd s at) (answerEnd (s ++ t) at)

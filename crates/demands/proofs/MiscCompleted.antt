@@ -15,7 +15,7 @@ use Rattle.laws.proofs.Flags.{and-left, and-right}
 use Rattle.lexer.specs.Stops.{afterRead}
 use Rattle.lexer.specs.Names.{isSpace, spacesEnd, isStart, isName, partStep, partEnd}
 use Rattle.lexer.specs.Tags.{wanted}
-use Rattle.lexer.specs.Declaration.{wordEnd, isLetter, fits, someStep, someEnd, versionEnd, encodingEnd, answerEnd, standaloneEnd, fieldWord, fieldValue, quotedEnd, fieldEnd, closeAt, turnFrom, fieldTurn, fieldThen, lastRest, standaloneThen, encodingRest, encodingThen, eitherThen, versionRest, versionThen, declarationEnd}
+use Rattle.lexer.specs.Declaration.{wordEnd, isLetter, isFieldByte, someStep, someEnd, versionEnd, encodingEnd, answerEnd, standaloneEnd, fieldWord, fieldValue, quotedEnd, fieldEnd, closeAt, turnFrom, fieldTurn, fieldThen, lastRest, standaloneThen, encodingRest, encodingThen, eitherThen, versionRest, versionThen, declarationEnd}
 use Rattle.lexer.specs.Misc.{isFree, commentStep, commentRest, commentEnd, contentStep, contentEnd, behindTarget, isXml, isDeclared, instructionEnd, miscEnd}
 use Rattle.lexer.specs.declared.Stop.the-variants.{Bad, Cut}
 use Rattle.lexer.specs.declared.Read.{Read}
@@ -82,12 +82,12 @@ content-ends = ends-machine contentStep (λ (q : ℕ). Unit {0}) (λ q q′ b i 
 abbrev Some : Field → ℕ → Form
 Some f quote s at = someEnd s f at quote
 
-some-ends : (f : Field) (c quote : ℕ) → fits f c ≡ true → Ends (Some f quote) (c ∷ quote ∷ []) 2
+some-ends : (f : Field) (c quote : ℕ) → isFieldByte f c ≡ true → Ends (Some f quote) (c ∷ quote ∷ []) 2
 unfolding someEnd run
 some-ends f c quote fit = ends-machine (someStep f quote) (λ (q : ℕ). Unit {0}) (λ q q′ b i j e. tt) never 2 (λ q j. each q (eqb q 1) refl) 0 tt
   where
     never : (q b i : ℕ) → someStep f quote q b i ≡ stop (read.Stopped Cut) → ⊥
-    never q b i e = by (eqb q 1 && eqb b quote) (fits f b) e
+    never q b i e = by (eqb q 1 && eqb b quote) (isFieldByte f b) e
       where
         by : (x y : Bool) → _≡_ {A = RunNext ℕ Read} (cond x (stop (read.End (i + 1))) (cond y (go 1) (stop (read.Stopped (Bad i))))) (stop (read.Stopped Cut)) → ⊥
         by true y e = let z : _≡_ {A = ℕ} 0 1 = cc in omega arith

@@ -47,8 +47,8 @@ unfolding computing
 answers = (refl, refl, refl, refl, refl, refl, refl, refl, refl, refl, refl)
 
 -- the numbers and places of steps over these scenes in turn
-abbrev placed : List Step → List (ℕ × ℕ)
-placed rs = map (λ (r : Step). (r .answer .number, r .answer .place)) rs
+abbrev numbersOf : List Step → List (ℕ × ℕ)
+numbersOf rs = map (λ (r : Step). (r .answer .number, r .answer .place)) rs
 
 abbrev over : List (List ℕ) → List Call
 over scenes = map (λ (scene : List ℕ). record { scene = scene; output = replicate 64 7 }) scenes
@@ -57,7 +57,7 @@ over scenes = map (λ (scene : List ℕ). record { scene = scene; output = repli
 abbrev A : List ℕ
 A = bytes "<r xmlns=\"u\">a<!--x-->b</r>"
 
-places : placed (stepsFrom T freshOf (over (A ∷ A ∷ A ∷ A ∷ A ∷ []))) ≡ (0, 13) ∷ (0, 14) ∷ (0, 23) ∷ (0, 27) ∷ (9, 27) ∷ []
+places : numbersOf (stepsFrom T freshOf (over (A ∷ A ∷ A ∷ A ∷ A ∷ []))) ≡ (0, 13) ∷ (0, 14) ∷ (0, 23) ∷ (0, 27) ∷ (9, 27) ∷ []
 unfolding computing
 places = refl
 
@@ -65,15 +65,15 @@ places = refl
 abbrev B : List ℕ
 B = bytes "<?xml version='1.0'?> <r/><!--c--> "
 
-empty-places : placed (stepsFrom K freshOf (over (B ∷ B ∷ B ∷ []))) ≡ (0, 26) ∷ (0, 26) ∷ (9, 35) ∷ []
+empty-places : numbersOf (stepsFrom K freshOf (over (B ∷ B ∷ B ∷ []))) ≡ (0, 26) ∷ (0, 26) ∷ (9, 35) ∷ []
 unfolding computing
 empty-places = refl
 
 -- N1-2, N1-5, N1-17, N1-21: scenes that grow
 grown :
-    (placed (stepsFrom K freshOf (over (bytes "<r>a" ∷ bytes "<r>a" ∷ bytes "<r>a<" ∷ bytes "<r>a<!--c-" ∷ bytes "<r>a<!--c-->" ∷ bytes "<r>a<!--c-->b</r>" ∷ []))) ≡ (0, 3) ∷ (1, 4) ∷ (0, 4) ∷ (1, 10) ∷ (1, 12) ∷ (0, 13) ∷ [])
-    × (placed (stepsFrom K freshOf (over (bytes "<r>]]" ∷ bytes "<r>]]" ∷ bytes "<r>]]>" ∷ bytes "<r>]]<" ∷ []))) ≡ (0, 3) ∷ (1, 5) ∷ (2, 3) ∷ (0, 5) ∷ [])
-    × (placed (stepsFrom K freshOf (over (bytes "<r/>" ∷ bytes "<r/>" ∷ bytes "<r/>" ∷ bytes "<r/><!--" ∷ bytes "<r/><!---->" ∷ bytes "<r/><!----><?p?>x" ∷ []))) ≡ (0, 4) ∷ (0, 4) ∷ (9, 4) ∷ (1, 8) ∷ (9, 11) ∷ (2, 16) ∷ [])
-    × (placed (stepsFrom K freshOf (over (bytes "<r><?xml" ∷ bytes "<r><?xml" ∷ bytes "<r><?xml?" ∷ bytes "<r><?xml-" ∷ bytes "<r><?xml-?></r>" ∷ []))) ≡ (0, 3) ∷ (1, 8) ∷ (2, 5) ∷ (1, 9) ∷ (0, 15) ∷ [])
+    (numbersOf (stepsFrom K freshOf (over (bytes "<r>a" ∷ bytes "<r>a" ∷ bytes "<r>a<" ∷ bytes "<r>a<!--c-" ∷ bytes "<r>a<!--c-->" ∷ bytes "<r>a<!--c-->b</r>" ∷ []))) ≡ (0, 3) ∷ (1, 4) ∷ (0, 4) ∷ (1, 10) ∷ (1, 12) ∷ (0, 13) ∷ [])
+    × (numbersOf (stepsFrom K freshOf (over (bytes "<r>]]" ∷ bytes "<r>]]" ∷ bytes "<r>]]>" ∷ bytes "<r>]]<" ∷ []))) ≡ (0, 3) ∷ (1, 5) ∷ (2, 3) ∷ (0, 5) ∷ [])
+    × (numbersOf (stepsFrom K freshOf (over (bytes "<r/>" ∷ bytes "<r/>" ∷ bytes "<r/>" ∷ bytes "<r/><!--" ∷ bytes "<r/><!---->" ∷ bytes "<r/><!----><?p?>x" ∷ []))) ≡ (0, 4) ∷ (0, 4) ∷ (9, 4) ∷ (1, 8) ∷ (9, 11) ∷ (2, 16) ∷ [])
+    × (numbersOf (stepsFrom K freshOf (over (bytes "<r><?xml" ∷ bytes "<r><?xml" ∷ bytes "<r><?xml?" ∷ bytes "<r><?xml-" ∷ bytes "<r><?xml-?></r>" ∷ []))) ≡ (0, 3) ∷ (1, 8) ∷ (2, 5) ∷ (1, 9) ∷ (0, 15) ∷ [])
 unfolding computing
 grown = (refl, refl, refl, refl)

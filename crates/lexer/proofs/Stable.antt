@@ -3,15 +3,15 @@
 use Prim.Native.Nat.{ℕ, zero, suc, _+_, _<_}
 use mathlib.Core.Path.{_≡_, refl, sym, subst}
 use mathlib.Core.List.{List, [], _∷_, _++_}
-use mathlib.Core.Bool.{Bool, true, false, cond, _||_}
-use mathlib.Core.Logic.{_⊎_, inl, inr, ⊎-elim}
+use mathlib.Core.Bool.{true, false, cond, _||_}
+use mathlib.Core.Logic.{_⊎_, inl, inr}
 use native.Mathlib.Omega.{arith}
 use borrow.Author.Tests.{lt-ltb}
 use lib.ListN.{length, take, getD, length-append, List·getD-append}
 use lib.Seq.{take-length}
 use lib.Dec.{eqb}
 use Rattle.laws.specs.Reading.{stop, Stable, stable-same, stable-cond, stable-peek, run-stable, run-agree-at}
-use Rattle.laws.proofs.Kept.{Kept, kept-open, kept-bind, stable-inside, cut-short}
+use Rattle.laws.proofs.Kept.{Kept, kept-bind, stable-inside, cut-short}
 use Rattle.lexer.specs.Stops.{stopPlace, afterRead, afterName}
 use Rattle.lexer.specs.Names.{spaceStep, spacesEnd, startLen, nameLen, partStep, partEnd, nameOf, prefixedAt, nameAt}
 use Rattle.lexer.specs.Values.{valueEnd}

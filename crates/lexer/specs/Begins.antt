@@ -40,7 +40,7 @@ eitherAt s inside closed at =
     peek (stoppedAhead Cut) s at (λ (b : ℕ).
     cond (eqb b 0x3C) (markupAt s inside closed at) (cond inside (ahead.Event (begin.Text at)) (stoppedAhead (Bad at))))
 
--- "9 finished: root closed, only space follows"; 1 where it has not closed
+-- "9 finished: root closed, only space follows", and "9 passes over them"; 1 where it has not closed
 abbrev pub ending : Bool → Stop → Ahead
 ending closed x = cond closed (ahead.Event begin.Finished) (stoppedAhead x)
 

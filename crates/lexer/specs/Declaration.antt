@@ -29,19 +29,19 @@ abbrev pub isLetter : ℕ → Bool
 isLetter b = within 0x41 0x5A b || within 0x61 0x7A b
 
 -- [26] VersionNum ::= '1.' [0-9]+; [81] EncName ::= [A-Za-z] ([A-Za-z0-9._] | '-')*: the bytes that may stand any number of times
-abbrev pub fits : Field → ℕ → Bool
-fits field.Version b = isDigit b
-fits field.Encoding b = isLetter b || isDigit b || eqb b 0x2E || eqb b 0x5F || eqb b 0x2D
-fits field.Standalone b = false
+abbrev pub isFieldByte : Field → ℕ → Bool
+isFieldByte field.Version b = isDigit b
+isFieldByte field.Encoding b = isLetter b || isDigit b || eqb b 0x2E || eqb b 0x5F || eqb b 0x2D
+isFieldByte field.Standalone b = false
 
 -- a byte or more of these, and the quote: the place behind it. In the state: 1 behind a byte
 abbrev pub someStep : Field → ℕ → ℕ → ℕ → ℕ → RunNext ℕ Read
-someStep f quote q b i = cond (eqb q 1 && eqb b quote) (stop (read.End (i + 1))) (cond (fits f b) (go 1) (stop (read.Stopped (Bad i))))
+someStep f quote q b i = cond (eqb q 1 && eqb b quote) (stop (read.End (i + 1))) (cond (isFieldByte f b) (go 1) (stop (read.Stopped (Bad i))))
 
 unfoldable pub someEnd : List ℕ → Field → ℕ → ℕ → Read
 someEnd s f at quote = run (read.Stopped Cut) (someStep f quote) 0 (drop at s) at
 
--- a VersionNum, an EncName and its first letter, up to and with the quote
+-- a VersionNum, and an EncName from its first letter on, with the quote
 unfoldable pub versionEnd : List ℕ → ℕ → ℕ → Read
 versionEnd s at quote = afterRead read.Stopped (wordEnd s at (bytes "1.")) (λ (i : ℕ). someEnd s field.Version i quote)
 
@@ -71,7 +71,9 @@ unfoldable pub quotedEnd : List ℕ → Field → ℕ → Read
 quotedEnd s f at =
     peek (read.Stopped Cut) s at (λ (q : ℕ). cond (eqb q 0x22 || eqb q 0x27) (fieldValue f s (at + 1) q) (read.Stopped (Bad at)))
 
--- [24] VersionInfo ::= S 'version' Eq ("'" VersionNum "'" | '"' VersionNum '"'), behind its S; [80] EncodingDecl and [32] SDDecl are of the same form
+-- [24] VersionInfo ::= S 'version' Eq ("'" VersionNum "'" | '"' VersionNum '"')
+-- [80] EncodingDecl ::= S 'encoding' Eq ('"' EncName '"' | "'" EncName "'")
+-- [32] SDDecl ::= S 'standalone' Eq (("'" ('yes' | 'no') "'") | ('"' ('yes' | 'no') '"')), each from behind its S on. [25] Eq ::= S? '=' S?
 unfoldable pub fieldEnd : List ℕ → Field → ℕ → Read
 fieldEnd s f at =
     afterRead read.Stopped (wordEnd s at (fieldWord f)) (λ (i : ℕ).
@@ -99,14 +101,14 @@ fieldThen more (turn.Stopped x) = read.Stopped x
 unfoldable pub lastRest : List ℕ → ℕ → Read
 lastRest s at = fieldThen (λ (i : ℕ). read.Stopped (Bad i)) (fieldTurn s at)
 
--- SDDecl? S? '?>': its word at a place; behind an EncodingDecl
+-- SDDecl S? '?>', its word at a place; SDDecl? S? '?>', behind an EncodingDecl
 unfoldable pub standaloneThen : List ℕ → ℕ → Read
 standaloneThen s at = afterRead read.Stopped (fieldEnd s field.Standalone at) (λ (i : ℕ). lastRest s i)
 
 unfoldable pub encodingRest : List ℕ → ℕ → Read
 encodingRest s at = fieldThen (λ (i : ℕ). standaloneThen s i) (fieldTurn s at)
 
--- EncodingDecl? SDDecl? S? '?>': its word at a place; behind the VersionInfo
+-- EncodingDecl SDDecl? S? '?>', its word at a place; the same or an SDDecl; EncodingDecl? SDDecl? S? '?>', behind the VersionInfo
 unfoldable pub encodingThen : List ℕ → ℕ → Read
 encodingThen s at = afterRead read.Stopped (fieldEnd s field.Encoding at) (λ (i : ℕ). encodingRest s i)
 
@@ -116,6 +118,7 @@ eitherThen s at = peek (read.Stopped Cut) s at (λ (b : ℕ). cond (eqb b 0x65) 
 unfoldable pub versionRest : List ℕ → ℕ → Read
 versionRest s at = fieldThen (λ (i : ℕ). eitherThen s i) (fieldTurn s at)
 
+-- VersionInfo EncodingDecl? SDDecl? S? '?>', its word at a place
 unfoldable pub versionThen : List ℕ → ℕ → Read
 versionThen s at = afterRead read.Stopped (fieldEnd s field.Version at) (λ (i : ℕ). versionRest s i)
 

@@ -15,7 +15,7 @@ use crate::names::spaces_end;
 use crate::names::start_len;
 use crate::values::value_end;
 ghost use mathlib.Core.Path.{_≡_};
-ghost use mathlib.Core.List.{List, []};
+ghost use mathlib.Core.List.{[]};
 ghost use Prim.Native.Nat.{_*_, _<_};
 ghost use lib.ListN.{length};
 ghost use Rattle.laws.specs.Over.{overwrite};

@@ -21,7 +21,7 @@ use Rattle.laws.proofs.Holds.{holds-cond, holds-peek, Turned, run-held}
 use Rattle.lexer.specs.Stops.{afterRead}
 use Rattle.lexer.specs.Names.{isSpace, spacesEnd, partEnd}
 use Rattle.lexer.specs.Tags.{wanted, equalsEnd}
-use Rattle.lexer.specs.Declaration.{wordEnd, isLetter, fits, someStep, someEnd, versionEnd, encodingEnd, answerEnd, standaloneEnd, fieldWord, fieldValue, quotedEnd, fieldEnd, closeAt, turnFrom, fieldTurn, fieldThen, lastRest, standaloneThen, encodingRest, encodingThen, eitherThen, versionRest, versionThen, declarationEnd}
+use Rattle.lexer.specs.Declaration.{wordEnd, isLetter, isFieldByte, someStep, someEnd, versionEnd, encodingEnd, answerEnd, standaloneEnd, fieldWord, fieldValue, quotedEnd, fieldEnd, closeAt, turnFrom, fieldTurn, fieldThen, lastRest, standaloneThen, encodingRest, encodingThen, eitherThen, versionRest, versionThen, declarationEnd}
 use Rattle.lexer.specs.Misc.{isFree, commentStep, commentRest, commentEnd, contentStep, contentEnd, behindTarget, isXml, isDeclared, instructionEnd, miscEnd}
 use Rattle.lexer.specs.declared.Stop.{Stop}
 use Rattle.lexer.specs.declared.Stop.the-variants.{Bad, Cut}
@@ -71,7 +71,7 @@ module _ (s : List ℕ) where
       turn : (q j : ℕ) → j < length s → at ≤ j → Turns s at j (someStep f quote q (getD s j 0) j)
       turn q j hi lo =
           holds-cond (Turns s at j) (eqb q 1 && eqb (getD s j 0) quote) (λ e. omega arith)
-          (λ e. holds-cond (Turns s at j) (fits f (getD s j 0)) (λ e. omega arith) (λ e. omega arith))
+          (λ e. holds-cond (Turns s at j) (isFieldByte f (getD s j 0)) (λ e. omega arith) (λ e. omega arith))
 
   pub version-inside : (at quote : ℕ) → ReadInside (Onward s at) s at (versionEnd s at quote)
   unfolding versionEnd

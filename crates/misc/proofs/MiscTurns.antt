@@ -19,7 +19,7 @@ use Rattle.laws.specs.Reading.{le-or-lt}
 use Rattle.laws.specs.Tests.{neither}
 use Rattle.laws.proofs.Flags.{differ, or-left, or-right}
 use Rattle.lexer.specs.Values.{isText}
-use Rattle.lexer.specs.Declaration.{isDigit, isLetter, fits, wordEnd, fieldWord, fieldValue, fieldThen}
+use Rattle.lexer.specs.Declaration.{isDigit, isLetter, isFieldByte, wordEnd, fieldWord, fieldValue, fieldThen}
 use Rattle.lexer.specs.Misc.{isFree, isXml, isDeclared, instructionEnd, commentEnd, miscEnd}
 use Rattle.lexer.specs.declared.Read.{Read}
 use Rattle.lexer.specs.declared.Turn.{Turn}
@@ -30,7 +30,7 @@ pub by-turn : (more : ℕ → Read) (r v m : Turn) (x : Read) → r ≡ v → r 
 by-turn more r v m x p q h = h ∙ ap (fieldThen more) (sym q ∙ p)
 
 -- a field, and what the `match` says it is
-pub by-fit : (b : ℕ) (f m : Field) (x : Bool) → f ≡ m → x ≡ fits m b → x ≡ fits f b
+pub by-fit : (b : ℕ) (f m : Field) (x : Bool) → f ≡ m → x ≡ isFieldByte m b → x ≡ isFieldByte f b
 by-fit b f m x e h = rw e h
 
 pub by-word : (s : List ℕ) (at : ℕ) (f m : Field) (x : Read) → f ≡ m → x ≡ wordEnd s at (fieldWord m) → x ≡ wordEnd s at (fieldWord f)
@@ -39,7 +39,7 @@ by-word s at f m x e h = rw e h
 pub by-value : (s : List ℕ) (at quote : ℕ) (f m : Field) (x : Read) → f ≡ m → x ≡ fieldValue m s at quote → x ≡ fieldValue f s at quote
 by-value s at quote f m x e h = rw e h
 
-pub fit-encoding : (b : ℕ) (f : Field) (l d : Bool) → f ≡ Encoding → l ≡ isLetter b → d ≡ isDigit b → (l || d || eqb b 0x2E || eqb b 0x5F || eqb b 0x2D) ≡ fits f b
+pub fit-encoding : (b : ℕ) (f : Field) (l d : Bool) → f ≡ Encoding → l ≡ isLetter b → d ≡ isDigit b → (l || d || eqb b 0x2E || eqb b 0x5F || eqb b 0x2D) ≡ isFieldByte f b
 fit-encoding b f l d e p q = rw (e, p, q)
 
 pub free-text : (b : ℕ) (r : Bool) → r ≡ isText b → (r || eqb b 0x3C) ≡ isFree b

@@ -8,7 +8,7 @@ use lexer::names::spaces_end;
 use lexer::tags::equals_end;
 use lexer::tags::want;
 ghost use mathlib.Core.Path.{_≡_};
-ghost use Rattle.lexer.specs.Declaration.{isDigit, isLetter, fits, wordEnd, someEnd, versionEnd, encodingEnd, answerEnd, standaloneEnd, fieldWord, fieldValue, quotedEnd, fieldEnd, closeAt, turnFrom, fieldTurn, lastRest, standaloneThen, encodingRest, encodingThen, eitherThen, versionRest, versionThen, declarationEnd};
+ghost use Rattle.lexer.specs.Declaration.{isDigit, isLetter, isFieldByte, wordEnd, someEnd, versionEnd, encodingEnd, answerEnd, standaloneEnd, fieldWord, fieldValue, quotedEnd, fieldEnd, closeAt, turnFrom, fieldTurn, lastRest, standaloneThen, encodingRest, encodingThen, eitherThen, versionRest, versionThen, declarationEnd};
 
 // The place behind this word, which must stand here.
 pub fn word_end(s: &[u8], at: usize, word: &[u8]) -> Read
@@ -43,7 +43,7 @@ fn is_letter(b: u8) -> bool
 
 // Whether a byte may stand any number of times in a field's value.
 fn is_fit(field: Field, b: u8) -> bool
-    ensures { λ r. ⌜ r ≡ fits field b ⌝ }
+    ensures { λ r. ⌜ r ≡ isFieldByte field b ⌝ }
 {
     match field {
         Field::Version => is_digit(b),
