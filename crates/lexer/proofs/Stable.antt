@@ -193,7 +193,7 @@ module _ {A : Type 0} (C : A → Type 0) (decided : (a : A) → C a ⊎ (C a →
   stops-short s (Long p) h = cut-short C decided f kept p s (λ l e. inside l (Long p) (subst (λ (a : A). Is a (Long p)) (sym e) h) .1)
   stops-short s Cut h = rw (take-length s) (cut (f s) h)
 
-read-decided : (a : Read) → (a ≡ read.Stopped Cut) ⊎ (a ≡ read.Stopped Cut → ⊥)
+pub read-decided : (a : Read) → (a ≡ read.Stopped Cut) ⊎ (a ≡ read.Stopped Cut → ⊥)
 read-decided (read.End j) = inr (λ e. let z : _≡_ {A = ℕ} 0 1 = cc in omega arith)
 read-decided (read.Stopped (Bad p)) = inr (λ e. let z : _≡_ {A = ℕ} 0 1 = cc in omega arith)
 read-decided (read.Stopped (Long p)) = inr (λ e. let z : _≡_ {A = ℕ} 0 1 = cc in omega arith)

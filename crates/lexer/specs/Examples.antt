@@ -1,12 +1,14 @@
 -- Worked examples, by computation: vectors of request N1 on comments, instructions, the declaration, where an event begins behind them, and ]]> in text.
 use mathlib.Core.Path.{_≡_, refl}
+use mathlib.Core.List.{[], _∷_, _++_}
 use mathlib.Core.Bool.{true, false}
+use lib.ListN.{replicate}
 use Rattle.laws.specs.Text.{bytes}
-use Rattle.lexer.specs.Values.{textEnd}
+use Rattle.lexer.specs.Values.{valueEnd, textEnd}
 use Rattle.lexer.specs.Misc.{miscEnd}
 use Rattle.lexer.specs.Begins.{beginAt}
 use Rattle.lexer.specs.Computing.{computing}
-use Rattle.lexer.specs.declared.Stop.the-variants.{Bad, Cut}
+use Rattle.lexer.specs.declared.Stop.the-variants.{Bad, Long, Cut}
 use Rattle.lexer.specs.declared.Read.the-variants as read
 use Rattle.lexer.specs.declared.Begin.the-variants as begin
 
@@ -120,3 +122,18 @@ texts :
     × (textEnd (bytes "<r>&ampx") 3 ≡ read.Stopped (Bad 7))
 unfolding computing
 texts = (refl, refl, refl, refl, refl, refl, refl, refl, refl, refl)
+
+-- N1-11, N1-13, N1-14, N1-22: bytes and lengths; N1-23: places inside a misc and between the ] of ]]>
+bytes-and-places :
+    (beginAt (0xEF ∷ 0xBB ∷ 0xBF ∷ bytes "<r/>") 0 false false ≡ begin.Stopped (Bad 0))
+    × (miscEnd (bytes "<!--" ++ (0x0B ∷ [])) 0 ≡ read.Stopped (Bad 4))
+    × (miscEnd (bytes "<!--" ++ (0xFF ∷ bytes "-->")) 0 ≡ read.End 8)
+    × (miscEnd (bytes "<!--<&]]>&x;?>-->") 0 ≡ read.End 17)
+    × (miscEnd (bytes "<?" ++ replicate 64 0x74 ++ bytes "?>") 0 ≡ read.End 68)
+    × (miscEnd (bytes "<?" ++ replicate 65 0x74) 0 ≡ read.Stopped (Long 66))
+    × (miscEnd (bytes "<?" ++ replicate 64 0x74 ++ bytes ":") 0 ≡ read.Stopped (Bad 66))
+    × (valueEnd (bytes "<r a=']]>'/>") 6 0x27 ≡ read.End 9)
+    × (beginAt (bytes "<r><!--a-->x</r>") 4 true false ≡ begin.Text 4)
+    × (textEnd (bytes "<r>]]></r>") 4 ≡ read.End 6)
+unfolding computing
+bytes-and-places = (refl, refl, refl, refl, refl, refl, refl, refl, refl, refl)

@@ -6,19 +6,20 @@
 --     word-stable, declaration-stable, ..          more bytes
 --     comment-stable, instruction-stable, misc-stable
 --     xml-kept, declared-kept                      the bytes of a target that has been read
+--     misc-short                                   the bytes before the place where reading stops
 use Prim.Native.Nat.{ℕ, _+_, _≤_, _<_}
-use mathlib.Core.Path.{_≡_, refl, ap, _∙_}
+use mathlib.Core.Path.{_≡_, refl, ap, subst, _∙_}
 use mathlib.Core.List.{List, [], _∷_, _++_}
 use mathlib.Core.Bool.{Bool, true, false, cond, _&&_, _||_}
 use native.Mathlib.Omega.{arith}
 use borrow.Author.Tests.{eqb-true, eqb-false}
-use lib.ListN.{length, getD, List·getD-append}
+use lib.ListN.{length, take, getD, List·getD-append}
 use lib.Dec.{eqb}
 use Rattle.laws.specs.Reading.{RunNext, Stable, stable-same, stable-cond, stable-peek, stable-bind, run-stable}
 use Rattle.laws.specs.Text.{bytes}
 use Rattle.laws.proofs.Flags.{and-left}
 use Rattle.laws.proofs.Holds.{holds-cond, holds-peek, Turned, run-held}
-use Rattle.lexer.specs.Stops.{afterRead}
+use Rattle.lexer.specs.Stops.{stopPlace, afterRead}
 use Rattle.lexer.specs.Names.{isSpace, spacesEnd, partEnd}
 use Rattle.lexer.specs.Tags.{wanted, equalsEnd}
 use Rattle.lexer.specs.Declaration.{wordEnd, isLetter, isFieldByte, someStep, someEnd, versionEnd, encodingEnd, answerEnd, standaloneEnd, fieldWord, fieldValue, quotedEnd, fieldEnd, closeAt, turnFrom, fieldTurn, fieldThen, lastRest, standaloneThen, encodingRest, encodingThen, eitherThen, versionRest, versionThen, declarationEnd}
@@ -32,7 +33,7 @@ use Rattle.lexer.specs.declared.Turn.the-variants as turn
 use Rattle.lexer.specs.declared.Field.{Field}
 use Rattle.lexer.specs.declared.Field.the-variants as field
 use Rattle.lexer.proofs.Inside.{ReadInside, stop-later, after-inside, SpacesTo, spaces-inside, PartTo, part-inside, ByteTo, wanted-inside, EqualsTo, equals-inside, TurnInside}
-use Rattle.lexer.proofs.Stable.{stable-after, spaces-stable, part-stable, wanted-stable, equals-stable}
+use Rattle.lexer.proofs.Stable.{stops-short, read-decided, stable-after, spaces-stable, part-stable, wanted-stable, equals-stable}
 
 -- behind a place, and not behind the scene
 abbrev pub Onward : List ℕ → ℕ → ℕ → Type 0
@@ -426,3 +427,11 @@ module _ (s t : List ℕ) where
   unfolding miscEnd
   misc-stable at =
       stable-peek (read.Stopped Cut) s t (at + 1) _ _ (λ (b : ℕ). stable-cond (read.Stopped Cut) (eqb b 0x3F) (instruction-stable (at + 2)) (comment-stable (at + 2)))
+
+-- the bytes before the place where reading stops
+pub misc-short : (s : List ℕ) (at : ℕ) (x : Stop) → miscEnd s at ≡ read.Stopped x → miscEnd (take (stopPlace s x) s) at ≡ read.Stopped Cut
+misc-short s at x =
+    stops-short (λ (r : Read). r ≡ read.Stopped Cut) read-decided (λ (l : List ℕ). miscEnd l at) (λ l m. misc-stable l m at) at (λ (r : Read) (y : Stop). r ≡ read.Stopped y) (λ r e. e)
+    (λ l y e. subst (ReadInside (Onward l at) l at) e (misc-inside l at))
+    s
+    x
