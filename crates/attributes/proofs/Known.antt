@@ -14,16 +14,17 @@ use native.Mathlib.Omega.{arith}
 use native.Mathlib.Nat.{add-zero, mod-eq-of-lt, not-suc-le-zero}
 use native.Mathlib.Numerals.{add-one}
 use borrow.Author.Tests.{ltb-true, ltb-false, eqb-true}
-use lib.ListN.{length, getD, set, take, drop}
-use lib.Dec.{eqb, ltb, leb}
+use lib.ListN.{length, getD, set, drop}
+use lib.Dec.{eqb, ltb}
 use Rattle.laws.specs.Lists.{sameList, tabulate}
 use Rattle.laws.specs.Members.{All}
 use Rattle.laws.specs.Over.{overwrite}
 use Rattle.laws.proofs.Over.{over-none, length-over, over-set, getD-over-before, getD-over-in, getD-over-after}
 use Rattle.laws.proofs.Lists.{length-tabulate, getD-tabulate}
 use Rattle.compare.specs.Compare.{xmlUri}
-use Rattle.table.specs.Table.{Table, tableOf, urisFrom, urisOf, listedFrom, classOf}
+use Rattle.table.specs.Table.{Table, tableOf, urisOf, listedFrom, classOf}
 use Rattle.table.specs.declared.Header.{Header}
+use Rattle.table.proofs.Namespaces.{uris-few}
 use Rattle.lexer.specs.declared.Attr.{Attr}
 use Rattle.lexer.specs.Attrs.{attrIn, attrsIn}
 use Rattle.reader.specs.declared.Binding.{Binding}
@@ -43,16 +44,6 @@ use Rattle.attributes.proofs.Giving.{placing, placing-nothing, placing-
 use Rattle.attributes.proofs.Numbering.{map-tabulate}
 
 -- ---- a class is a byte
-uris-few : (n : ℕ) (l : List ℕ) → length (urisFrom n l) ≤ n
-unfolding urisFrom
-uris-few zero l = omega arith
-uris-few (suc n) [] = omega arith
-uris-few (suc n) (k ∷ l) = by (leb k (length l)) (uris-few n (drop k l))
-  where
-    by : (b : Bool) → length (urisFrom n (drop k l)) ≤ n → length (cond b (take k l ∷ urisFrom n (drop k l)) []) ≤ suc n
-    by true h = omega arith
-    by false h = omega arith
-
 listed-few : (us : List (List ℕ)) (k : ℕ) (u : List ℕ) → k + length us ≤ 256 → listedFrom us k u < 256
 unfolding listedFrom
 listed-few [] k u h = omega arith

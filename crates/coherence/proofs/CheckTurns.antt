@@ -14,18 +14,18 @@ use native.Mathlib.Omega.{arith}
 use native.Mathlib.Numerals.{add-one}
 use native.Mathlib.Nat.{add-zero}
 use borrow.Author.Tests.{ne-eqb, lt-ltb, le-ltb, le-leb, lt-leb, leb-true}
-use lib.ListN.{length, getD, take, drop, length-map, List·getD-eq-default}
+use lib.ListN.{length, getD, drop, length-map, List·getD-eq-default}
 use lib.Dec.{leb, ltb, eqb}
 use Rattle.laws.specs.Reading.{le-or-lt, drop-here, drop-out}
 use Rattle.laws.specs.Lists.{all}
 use Rattle.laws.proofs.Flags.{flag-same, eqb-same}
-use Rattle.table.specs.Table.{actionOf, urisFrom, urisOf}
+use Rattle.table.specs.Table.{actionOf, urisOf}
 use Rattle.table.specs.Places.{placed, placesFrom, placesOf, placeOf}
 use Rattle.table.specs.declared.Header.{Header}
 use Rattle.table.specs.declared.Listed.{Listed}
 use Rattle.table.specs.declared.Action.{Action}
 use Rattle.table.specs.declared.Action.the-variants.{Attach, Unwrap, Validate}
-use Rattle.table.proofs.Namespaces.{spans}
+use Rattle.table.proofs.Namespaces.{uris-few, spans}
 use Rattle.reader.specs.declared.Span.{Span}
 use Rattle.reader.specs.Counted.{countOf}
 use Rattle.compare.specs.Compare.{spanOf}
@@ -114,18 +114,8 @@ places-some (suc n) p (k ∷ l) i h e = by (leb k (length l)) i h e (λ j. place
     by false i h e ih = omega arith
 
 module _ (t : List ℕ) (h : Header) where
-  few-listed : (n : ℕ) (l : List ℕ) → length (urisFrom n l) ≤ n
-  unfolding urisFrom
-  few-listed zero l = omega arith
-  few-listed (suc n) [] = omega arith
-  few-listed (suc n) (k ∷ l) = by (leb k (length l)) (few-listed n (drop k l))
-    where
-      by : (b : Bool) → length (urisFrom n (drop k l)) ≤ n → length (cond b (take k l ∷ urisFrom n (drop k l)) []) ≤ suc n
-      by true m = omega arith
-      by false m = omega arith
-
   pub listed-start : length (urisOf t h) ≤ h .namespaces
-  listed-start = few-listed (h .namespaces) (drop (4 + 4 * h .rules) t)
+  listed-start = uris-few (h .namespaces) (drop (4 + 4 * h .rules) t)
 
   as-many : length (placesOf t h) ≡ length (urisOf t h)
   as-many = sym (length-map (placesOf t h) (λ (q : Listed). spanOf t (q .at) (q .len))) ∙ ap length (spans t h)

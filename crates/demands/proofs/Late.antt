@@ -23,7 +23,7 @@ use Rattle.lexer.specs.Stops.{afterRead, afterName}
 use Rattle.lexer.specs.Names.{isSpace, spaceStep, spacesEnd, startLen, nameLen, partStep, partEnd, nameOf, prefixedAt, nameAt}
 use Rattle.lexer.specs.Values.{references, common, wholeOf, furthest, noReference, referenceEnd, isText, referred, closes, valueStep, valueFrom, valueEnd}
 use Rattle.lexer.specs.Tags.{wanted, equalsEnd, attrOf, quotedAt, attributeAt, slashAt, turnBehind, turnAt, TagRead, tagStopped, fullTurn, attrThen, turnThen, attrsFrom, tagAt, endTagAt}
-use Rattle.lexer.specs.Declaration.{wordEnd, isLetter, isFieldByte, someStep, someEnd, versionEnd, encodingEnd, answerEnd, standaloneEnd, fieldWord, fieldValue, quotedEnd, fieldEnd, closeAt, turnFrom, fieldTurn, fieldThen, lastRest, standaloneThen, encodingRest, encodingThen, eitherThen, versionRest, versionThen, declarationEnd}
+use Rattle.lexer.specs.Declaration.{wordEnd, isLetter, isFieldByte, someStep, someEnd, versionEnd, encodingEnd, answerEnd, standaloneEnd, fieldWord, fieldValue, quotedEnd, fieldEnd, turnFrom, fieldTurn, fieldThen, lastRest, standaloneThen, encodingRest, encodingThen, eitherThen, versionRest, versionThen, declarationEnd}
 use Rattle.lexer.specs.Misc.{isFree, commentStep, commentRest, commentEnd, contentStep, contentEnd, behindTarget, isXml, isDeclared, instructionEnd, miscEnd}
 use Rattle.lexer.specs.Begins.{stoppedAhead, miscAhead, opensMisc, markupAt, eitherAt, ending, aheadAt, aheadThen, beginAt}
 use Rattle.lexer.specs.declared.Stop.{Stop}
@@ -431,10 +431,10 @@ module _ (s t : List ℕ) where
   abbrev Turns : ℕ → Turn → Turn → Type 0
   Turns = Grows (LateTurn (length s)) (length s)
 
-  -- > behind a byte at a place
-  close-grows : (at : ℕ) (empty : Bool) → Turns at (afterRead turn.Stopped (wanted s (at + 1) 0x3E) (λ (next : ℕ). turn.Close next empty)) (afterRead turn.Stopped (wanted (s ++ t) (at + 1) 0x3E) (λ (next : ℕ). turn.Close next empty))
-  close-grows at empty =
-      grows-later L (length s) at (at + 1) (omega arith) (grows-after L (length s) (at + 1) turn.Stopped (λ x l. l) (wanted-grows (at + 1) 0x3E) (λ j. grows-same L (length s) j (turn.Close j empty) (λ out. out)))
+  slash-grows : (at : ℕ) → Turns at (slashAt s at) (slashAt (s ++ t) at)
+  unfolding slashAt
+  slash-grows at =
+      grows-later L (length s) at (at + 1) (omega arith) (grows-after L (length s) (at + 1) turn.Stopped (λ x l. l) (wanted-grows (at + 1) 0x3E) (λ j. grows-same L (length s) j (turn.Close j true) (λ out. out)))
     where
       L : Turn → Type 0
       L = LateTurn (length s)
@@ -448,11 +448,11 @@ module _ (s t : List ℕ) where
       L = LateTurn (length s)
 
   behind-grows : (at i : ℕ) → Turns i (turnBehind s at i) (turnBehind (s ++ t) at i)
-  unfolding turnBehind slashAt
+  unfolding turnBehind
   behind-grows at i =
       grows-peek L s t i (turn.Stopped Cut) tt (λ b.
       grows-cond L (length s) i (eqb b 0x3E) (grows-same L (length s) i (turn.Close (i + 1) false) (λ out. omega arith))
-      (grows-cond L (length s) i (eqb b 0x2F) (close-grows i true)
+      (grows-cond L (length s) i (eqb b 0x2F) (slash-grows i)
       (grows-cond L (length s) i (eqb i at) (grows-same L (length s) i (turn.Stopped (Bad i)) (λ out. omega arith)) (start-grows i))))
     where
       L : Turn → Type 0
@@ -538,10 +538,10 @@ module _ (s t : List ℕ) where
   fieldEnd-grows f at = then at (word-grows at (fieldWord f)) (λ i. then i (equals-grows i) (quotedEnd-grows f))
 
   turnFrom-grows : (at i : ℕ) → Turns i (turnFrom s at i) (turnFrom (s ++ t) at i)
-  unfolding turnFrom closeAt
+  unfolding turnFrom
   turnFrom-grows at i =
       grows-peek L s t i (turn.Stopped Cut) tt (λ b.
-      grows-cond L (length s) i (eqb b 0x3F) (close-grows i false)
+      grows-cond L (length s) i (eqb b 0x3F) (slash-grows i)
       (grows-cond L (length s) i (eqb i at) (grows-same L (length s) i (turn.Stopped (Bad i)) (λ out. omega arith)) (grows-same L (length s) i (turn.Attribute i) (λ out. out))))
     where
       L : Turn → Type 0

@@ -14,8 +14,8 @@ use Rattle.laws.specs.Text.{bytes}
 use Rattle.laws.proofs.Flags.{and-left, and-right}
 use Rattle.lexer.specs.Stops.{afterRead}
 use Rattle.lexer.specs.Names.{isSpace, spacesEnd, isStart, isName, partStep, partEnd}
-use Rattle.lexer.specs.Tags.{wanted}
-use Rattle.lexer.specs.Declaration.{wordEnd, isLetter, isFieldByte, someStep, someEnd, versionEnd, encodingEnd, answerEnd, standaloneEnd, fieldWord, fieldValue, quotedEnd, fieldEnd, closeAt, turnFrom, fieldTurn, fieldThen, lastRest, standaloneThen, encodingRest, encodingThen, eitherThen, versionRest, versionThen, declarationEnd}
+use Rattle.lexer.specs.Tags.{wanted, slashAt}
+use Rattle.lexer.specs.Declaration.{wordEnd, isLetter, isFieldByte, someStep, someEnd, versionEnd, encodingEnd, answerEnd, standaloneEnd, fieldWord, fieldValue, quotedEnd, fieldEnd, turnFrom, fieldTurn, fieldThen, lastRest, standaloneThen, encodingRest, encodingThen, eitherThen, versionRest, versionThen, declarationEnd}
 use Rattle.lexer.specs.Misc.{isFree, commentStep, commentRest, commentEnd, contentStep, contentEnd, behindTarget, isXml, isDeclared, instructionEnd, miscEnd}
 use Rattle.lexer.specs.declared.Stop.the-variants.{Bad, Cut}
 use Rattle.lexer.specs.declared.Read.{Read}
@@ -208,7 +208,7 @@ module _ (more : Form) (m : ℕ) (h : Goes more m) where
   Rests s at = fieldThen (λ (i : ℕ). more s i) (fieldTurn s at)
 
   rest-ends : (k : ℕ) → 2 ≤ k → m ≤ k → Ends Rests closing k
-  unfolding fieldTurn turnFrom closeAt
+  unfolding fieldTurn turnFrom slashAt
   rest-ends k two le =
       ends-same (Spaced turned) Rests closing k
       (λ s at. same s at (spacesEnd s at))
@@ -238,12 +238,12 @@ module _ (more : Form) (m : ℕ) (h : Goes more m) where
           (goes-next (OneByte 0x3E) (0x3E ∷ []) 0 (ends-wanted 0x3E) k (omega arith) (omega arith))
           (behind at))
 
-      closes : (s : List ℕ) (r : Read) → fieldThen (λ (i : ℕ). more s i) (afterRead turn.Stopped r (λ (next : ℕ). turn.Close next false)) ≡ r
+      closes : (s : List ℕ) (r : Read) → fieldThen (λ (i : ℕ). more s i) (afterRead turn.Stopped r (λ (next : ℕ). turn.Close next true)) ≡ r
       closes s (read.End j) = refl
       closes s (read.Stopped x) = refl
 
       -- by the tests
-      chooses : (s : List ℕ) (at i : ℕ) (a b c : Bool) → fieldThen (λ (i : ℕ). more s i) (cond a (cond b (afterRead turn.Stopped (wanted s (i + 1) 0x3E) (λ (next : ℕ). turn.Close next false)) (cond c (turn.Stopped (Bad i)) (turn.Attribute i))) (turn.Stopped Cut)) ≡ cond a (cond b (wanted s (i + 1) 0x3E) (cond c (read.Stopped (Bad i)) (more s i))) (read.Stopped Cut)
+      chooses : (s : List ℕ) (at i : ℕ) (a b c : Bool) → fieldThen (λ (i : ℕ). more s i) (cond a (cond b (afterRead turn.Stopped (wanted s (i + 1) 0x3E) (λ (next : ℕ). turn.Close next true)) (cond c (turn.Stopped (Bad i)) (turn.Attribute i))) (turn.Stopped Cut)) ≡ cond a (cond b (wanted s (i + 1) 0x3E) (cond c (read.Stopped (Bad i)) (more s i))) (read.Stopped Cut)
       chooses s at i true true c = closes s (wanted s (i + 1) 0x3E)
       chooses s at i true false true = refl
       chooses s at i true false false = refl

@@ -5,9 +5,8 @@ use mathlib.Core.List.{List, [], _∷_, _++_, tail}
 use mathlib.Core.Bool.{Bool, true, false, not, _||_}
 use mathlib.Core.Option.{Option, none, some}
 use native.Mathlib.Omega.{arith}
-use lib.ListN.{length, length-append}
+use lib.ListN.{length}
 use Rattle.laws.specs.Lists.{sameList, any, anyPair}
-use Rattle.laws.specs.Gather.{gather}
 use Rattle.laws.proofs.Holds.{holds-cond}
 use Rattle.lexer.specs.Values.{textEnd}
 use Rattle.lexer.specs.Tags.{TagRead, tagAt, endTagAt}
@@ -24,12 +23,11 @@ use Rattle.lexer.specs.declared.Begin.{Begin}
 use Rattle.lexer.specs.declared.Begin.the-variants as begin
 use Rattle.lexer.proofs.Inside.{TagInside, TaggedInside, TagReadInside, tag-inside}
 use Rattle.reader.specs.declared.Binding.{Binding}
-use Rattle.reader.specs.declared.Kind.{Kind}
-use Rattle.reader.specs.declared.Kind.the-variants.{Plain, Prefixed, Default, Declares}
-use Rattle.reader.specs.Spans.{bytesOf, wholeSpan, kindOf}
-use Rattle.reader.specs.Namespaces.{declaredBy, declarationsOf, refusedBinding, Namespace, ReadAttribute, Meaning, refused, meant, meantBy, meaningOf, ofElement, resolved, sameName, sameExpanded}
+use Rattle.reader.specs.Spans.{bytesOf, wholeSpan}
+use Rattle.reader.specs.Namespaces.{declarationsOf, refusedBinding, Namespace, ReadAttribute, Meaning, refused, meant, meantBy, meaningOf, ofElement, resolved, sameName, sameExpanded}
 use Rattle.reader.specs.Events.{Start, Event, start, text, end, Open, ReaderState, bindingsOf, Next, event, refusal, finished, partOf, isNil, endRead, startMeant, startRead, textRead, begun, nextBy, next}
 use Rattle.reader.specs.Held.{Held}
+use Rattle.reader.proofs.Declaring.{declared-few}
 use Rattle.reader.proofs.ReadNames.{part-of}
 
 pub record StartFollowed (s : List ℕ) (z : ReaderState) (e : Start) (z′ : ReaderState) : Type 0 where
@@ -50,18 +48,6 @@ NextFollowed s z (finished p) = Unit {0}
 
 -- ---- a tag's declarations are no more than its attributes
 module _ (s : List ℕ) where
-  declares-one : (k : Kind) (a : Attr) → length (declaredBy k a) ≤ 1
-  declares-one Plain a = omega arith
-  declares-one Prefixed a = omega arith
-  declares-one Default a = omega arith
-  declares-one Declares a = omega arith
-
-  declares-few : (attrs : List Attr) → length (declarationsOf s attrs) ≤ length attrs
-  unfolding gather
-  declares-few [] = omega arith
-  declares-few (a ∷ attrs) =
-      omega (arith, length-append (declaredBy (kindOf s (a .name)) a) (declarationsOf s attrs), declares-one (kindOf s (a .name)) a, declares-few attrs)
-
   abbrev MeaningFew : ℕ → Meaning → Type 0
   MeaningFew n (refused k) = Unit {0}
   MeaningFew n (meant m as′ own) = length own ≤ n
@@ -78,7 +64,7 @@ module _ (s : List ℕ) where
       by none r = tt
       by (some m) none = tt
       by (some m) (some as′) =
-          holds-cond (MeaningFew (length attrs)) (anyPair (sameName s) attrs || anyPair (sameExpanded s) as′) {a = refused 6} {b = meant m as′ own} (λ e. tt) (λ e. declares-few attrs)
+          holds-cond (MeaningFew (length attrs)) (anyPair (sameName s) attrs || anyPair (sameExpanded s) as′) {a = refused 6} {b = meant m as′ own} (λ e. tt) (λ e. declared-few s attrs)
 
 -- ---- by what was read
 module _ (s : List ℕ) (z : ReaderState) where

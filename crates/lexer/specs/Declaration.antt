@@ -8,7 +8,7 @@ use Rattle.laws.specs.Reading.{RunNext, go, stop, run, peek}
 use Rattle.laws.specs.Text.{bytes}
 use Rattle.lexer.specs.Stops.{afterRead}
 use Rattle.lexer.specs.Names.{isSpace, spacesEnd, within}
-use Rattle.lexer.specs.Tags.{wanted, equalsEnd}
+use Rattle.lexer.specs.Tags.{wanted, equalsEnd, slashAt}
 use Rattle.lexer.specs.declared.Stop.the-variants.{Bad, Cut}
 use Rattle.lexer.specs.declared.Read.{Read}
 use Rattle.lexer.specs.declared.Read.the-variants as read
@@ -79,14 +79,10 @@ fieldEnd s f at =
     afterRead read.Stopped (wordEnd s at (fieldWord f)) (λ (i : ℕ).
     afterRead read.Stopped (equalsEnd s i) (λ (j : ℕ). quotedEnd s f j))
 
--- "?>", its ? at a place
-unfoldable pub closeAt : List ℕ → ℕ → Turn
-closeAt s at = afterRead turn.Stopped (wanted s (at + 1) 0x3E) (λ (next : ℕ). turn.Close next false)
-
--- behind the space from a place to i
+-- behind the space from a place to i: "?>" as "/>" of a tag, or a word
 unfoldable pub turnFrom : List ℕ → ℕ → ℕ → Turn
 turnFrom s at i =
-    peek (turn.Stopped Cut) s i (λ (b : ℕ). cond (eqb b 0x3F) (closeAt s i) (cond (eqb i at) (turn.Stopped (Bad i)) (turn.Attribute i)))
+    peek (turn.Stopped Cut) s i (λ (b : ℕ). cond (eqb b 0x3F) (slashAt s i) (cond (eqb i at) (turn.Stopped (Bad i)) (turn.Attribute i)))
 
 -- behind a field: S? '?>', or S and a field that may follow
 unfoldable pub fieldTurn : List ℕ → ℕ → Turn

@@ -46,7 +46,7 @@ pub enum Attributed {
 
 // What stands behind a tag's name or an attribute, or behind a field of the declaration.
 pub enum Turn {
-    // The tag's end: the place behind it, and whether it is />. Of the declaration: behind its ?>.
+    // The tag's end: the place behind it, and whether it is />, or the declaration's ?>.
     Close(usize, bool),
     // A name, after space.
     Attribute(usize),

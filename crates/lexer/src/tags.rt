@@ -80,8 +80,8 @@ pub fn attribute_at(s: &[u8], at: usize) -> Attributed
     }
 }
 
-// The end of a tag that ends in />, its / at a place.
-fn slash_at(s: &[u8], at: usize) -> Turn
+// The end of a tag that ends in />, its / at a place; or of a declaration, its ? there.
+pub fn slash_at(s: &[u8], at: usize) -> Turn
     ensures { λ r. ⌜ r ≡ slashAt (now (s .entry)) at ⌝ }
 {
     if s.len() <= at {

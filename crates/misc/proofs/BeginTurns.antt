@@ -30,8 +30,8 @@ module _ (s : List ℕ) (inside closed : Bool) (i : ℕ) (v : Begin) (inv : begi
   pub begin-misc : (j : ℕ) → r ≡ ahead.Misc j → beginAt s j inside closed ≡ v
   begin-misc j q = ap (aheadThen (λ (k : ℕ). beginAt s k inside closed)) (sym q ∙ p) ∙ sym (begin-is s i inside closed) ∙ inv
 
-  pub misc-onward : (j : ℕ) → r ≡ ahead.Misc j → (i < j) × (j ≤ length s)
-  misc-onward j q = subst (AheadInside s i inside closed) (sym p ∙ q) (ahead-inside s inside closed i)
+pub misc-onward : (s : List ℕ) (inside closed : Bool) (i : ℕ) (r : Ahead) → r ≡ aheadAt s inside closed i → (j : ℕ) → r ≡ ahead.Misc j → (i < j) × (j ≤ length s)
+misc-onward s inside closed i r p j q = subst (AheadInside s i inside closed) (sym p ∙ q) (ahead-inside s inside closed i)
 
 -- inside an element
 module _ (s : List ℕ) (at : ℕ) (closed : Bool) (h : at < length s) where

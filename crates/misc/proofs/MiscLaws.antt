@@ -21,8 +21,8 @@ use Rattle.laws.proofs.Flags.{and-left}
 use Rattle.laws.proofs.Holds.{holds-cond, holds-peek, Turned, run-held}
 use Rattle.lexer.specs.Stops.{stopPlace, afterRead}
 use Rattle.lexer.specs.Names.{isSpace, spacesEnd, partEnd}
-use Rattle.lexer.specs.Tags.{wanted, equalsEnd}
-use Rattle.lexer.specs.Declaration.{wordEnd, isLetter, isFieldByte, someStep, someEnd, versionEnd, encodingEnd, answerEnd, standaloneEnd, fieldWord, fieldValue, quotedEnd, fieldEnd, closeAt, turnFrom, fieldTurn, fieldThen, lastRest, standaloneThen, encodingRest, encodingThen, eitherThen, versionRest, versionThen, declarationEnd}
+use Rattle.lexer.specs.Tags.{wanted, equalsEnd, slashAt}
+use Rattle.lexer.specs.Declaration.{wordEnd, isLetter, isFieldByte, someStep, someEnd, versionEnd, encodingEnd, answerEnd, standaloneEnd, fieldWord, fieldValue, quotedEnd, fieldEnd, turnFrom, fieldTurn, fieldThen, lastRest, standaloneThen, encodingRest, encodingThen, eitherThen, versionRest, versionThen, declarationEnd}
 use Rattle.lexer.specs.Misc.{isFree, commentStep, commentRest, commentEnd, contentStep, contentEnd, behindTarget, isXml, isDeclared, instructionEnd, miscEnd}
 use Rattle.lexer.specs.declared.Stop.{Stop}
 use Rattle.lexer.specs.declared.Stop.the-variants.{Bad, Cut}
@@ -32,8 +32,8 @@ use Rattle.lexer.specs.declared.Turn.{Turn}
 use Rattle.lexer.specs.declared.Turn.the-variants as turn
 use Rattle.lexer.specs.declared.Field.{Field}
 use Rattle.lexer.specs.declared.Field.the-variants as field
-use Rattle.lexer.proofs.Inside.{ReadInside, stop-later, after-inside, SpacesTo, spaces-inside, PartTo, part-inside, ByteTo, wanted-inside, EqualsTo, equals-inside, TurnInside}
-use Rattle.lexer.proofs.Stable.{stops-short, read-decided, stable-after, spaces-stable, part-stable, wanted-stable, equals-stable}
+use Rattle.lexer.proofs.Inside.{ReadInside, stop-later, after-inside, SpacesTo, spaces-inside, PartTo, part-inside, ByteTo, wanted-inside, EqualsTo, equals-inside, TurnInside, slash-inside}
+use Rattle.lexer.proofs.Stable.{stops-short, read-decided, stable-after, spaces-stable, part-stable, wanted-stable, equals-stable, slash-stable}
 
 -- behind a place, and not behind the scene
 abbrev pub Onward : List ℕ → ℕ → ℕ → Type 0
@@ -125,16 +125,11 @@ module _ (s : List ℕ) where
       onward-after (EqualsTo s i) i (λ j h. omega arith) (equalsEnd s i) _ (equals-inside s i) (λ (j : ℕ) k. quoted-inside f j))
 
   -- ---- what stands behind a field
-  pub close-inside : (at : ℕ) → TurnInside s at (closeAt s at)
-  unfolding closeAt
-  close-inside at =
-      after-inside (TurnInside s at) turn.Stopped (ByteTo s (at + 1) 0x3E) s (at + 1) (wanted s (at + 1) 0x3E) _ (wanted-inside s (at + 1) 0x3E) (stop-later s at (at + 1) (omega arith)) (λ (j : ℕ) h. omega arith)
-
   pub turn-from-inside : (at i : ℕ) → at ≤ i → TurnInside s at (turnFrom s at i)
   unfolding turnFrom
   turn-from-inside at i le =
       holds-peek (TurnInside s at) s i tt (λ lt.
-      holds-cond (TurnInside s at) (eqb (getD s i 0) 0x3F) (λ e. later (closeAt s i) (close-inside i)) (λ e.
+      holds-cond (TurnInside s at) (eqb (getD s i 0) 0x3F) (λ e. later (slashAt s i) (slash-inside s i)) (λ e.
       holds-cond (TurnInside s at) (eqb i at) (λ e. omega arith) (λ ne. omega (arith, eqb-false i at ne))))
     where
       later : (r : Turn) → TurnInside s i r → TurnInside s at r
@@ -296,15 +291,11 @@ module _ (s t : List ℕ) where
       stable-after read.Stopped _ _ (λ (i : ℕ). stable-after read.Stopped _ _ (λ (j : ℕ). quoted-stable f j) _ _ (equals-stable s t i)) _ _ (word-stable at (fieldWord f))
 
   -- ---- what stands behind a field
-  pub close-stable : (at : ℕ) → Stable (turn.Stopped Cut) (closeAt s at) (closeAt (s ++ t) at)
-  unfolding closeAt
-  close-stable at = stable-after turn.Stopped _ _ (λ (next : ℕ). stable-same (turn.Stopped Cut) (turn.Close next false)) _ _ (wanted-stable s t (at + 1) 0x3E)
-
   pub turn-from-stable : (at i : ℕ) → Stable (turn.Stopped Cut) (turnFrom s at i) (turnFrom (s ++ t) at i)
   unfolding turnFrom
   turn-from-stable at i =
       stable-peek (turn.Stopped Cut) s t i _ _ (λ (b : ℕ).
-      stable-cond (turn.Stopped Cut) (eqb b 0x3F) (close-stable i) (stable-same (turn.Stopped Cut) (cond (eqb i at) (turn.Stopped (Bad i)) (turn.Attribute i))))
+      stable-cond (turn.Stopped Cut) (eqb b 0x3F) (slash-stable s t i) (stable-same (turn.Stopped Cut) (cond (eqb i at) (turn.Stopped (Bad i)) (turn.Attribute i))))
 
   pub field-turn-stable : (at : ℕ) → Stable (turn.Stopped Cut) (fieldTurn s at) (fieldTurn (s ++ t) at)
   unfolding fieldTurn

@@ -6,9 +6,10 @@ use lexer::Turn;
 use lexer::names::is_space;
 use lexer::names::spaces_end;
 use lexer::tags::equals_end;
+use lexer::tags::slash_at;
 use lexer::tags::want;
 ghost use mathlib.Core.Path.{_≡_};
-ghost use Rattle.lexer.specs.Declaration.{isDigit, isLetter, isFieldByte, wordEnd, someEnd, versionEnd, encodingEnd, answerEnd, standaloneEnd, fieldWord, fieldValue, quotedEnd, fieldEnd, closeAt, turnFrom, fieldTurn, lastRest, standaloneThen, encodingRest, encodingThen, eitherThen, versionRest, versionThen, declarationEnd};
+ghost use Rattle.lexer.specs.Declaration.{isDigit, isLetter, isFieldByte, wordEnd, someEnd, versionEnd, encodingEnd, answerEnd, standaloneEnd, fieldWord, fieldValue, quotedEnd, fieldEnd, turnFrom, fieldTurn, lastRest, standaloneThen, encodingRest, encodingThen, eitherThen, versionRest, versionThen, declarationEnd};
 
 // The place behind this word, which must stand here.
 pub fn word_end(s: &[u8], at: usize, word: &[u8]) -> Read
@@ -162,19 +163,6 @@ fn field_end(s: &[u8], field: Field, at: usize) -> Read
     }
 }
 
-// The end of the declaration, its ? at a place.
-fn close_at(s: &[u8], at: usize) -> Turn
-    ensures { λ r. ⌜ r ≡ closeAt (now (s .entry)) at ⌝ }
-{
-    if s.len() <= at {
-        return Turn::Stopped(Stop::Cut);
-    }
-    match want(s, at + 1, b'>') {
-        Read::End(next) => Turn::Close(next, false),
-        Read::Stopped(x) => Turn::Stopped(x),
-    }
-}
-
 // What stands behind a field, behind the space from `at` to i.
 fn turn_from(s: &[u8], at: usize, i: usize) -> Turn
     ensures { λ r. ⌜ r ≡ turnFrom (now (s .entry)) at i ⌝ }
@@ -183,7 +171,7 @@ fn turn_from(s: &[u8], at: usize, i: usize) -> Turn
         return Turn::Stopped(Stop::Cut);
     }
     if s[i] == b'?' {
-        return close_at(s, i);
+        return slash_at(s, i);
     }
     if i == at {
         return Turn::Stopped(Stop::Bad(i));

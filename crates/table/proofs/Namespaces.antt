@@ -3,6 +3,7 @@
 --     class-of-listed, listed-of-class     in an accepted table the class of a listed URI is its place, from 1, and back
 --     one-class                            two URIs of one listed class are equal
 --     class-nil, class-xml                 the classes of no namespace and of xml's
+--     uris-few                             no more URIs than are asked for
 use Prim.Native.Nat.{ℕ, zero, suc, _+_, _-_, _*_, _≤_, _<_}
 use mathlib.Core.Path.{_≡_, refl, sym, ap, _∙_}
 use mathlib.Core.List.{List, [], _∷_, map}
@@ -11,8 +12,8 @@ use mathlib.Core.Logic.{_⊎_, inl, inr, ⊎-elim}
 use native.Mathlib.Nat.{add-zero}
 use native.Mathlib.Omega.{arith}
 use borrow.Author.Tests.{eqb-true, eqb-false, ne-eqb, lt-ltb}
-use lib.ListN.{length, getD, drop, List·getD-map, List·getD-eq-default}
-use lib.Dec.{eqb, ltb}
+use lib.ListN.{length, getD, take, drop, List·getD-map, List·getD-eq-default}
+use lib.Dec.{eqb, ltb, leb}
 use Rattle.laws.specs.Lists.{sameList, any, anyPair}
 use Rattle.laws.specs.Members.{In, All}
 use Rattle.laws.specs.Reading.{le-or-lt}
@@ -27,6 +28,17 @@ use Rattle.table.specs.declared.Header.{Header}
 use Rattle.table.specs.declared.Listed.{Listed}
 use Rattle.table.proofs.Walk.{uriAt, last-uri, last-place, first-uri, first-place, place-inside}
 use Rattle.table.proofs.Accepted.{header-in, all-listed, no-pair, no-xml, not-empty, uri-in}
+
+-- no more URIs than are asked for
+pub uris-few : (n : ℕ) (l : List ℕ) → length (urisFrom n l) ≤ n
+unfolding urisFrom
+uris-few zero l = omega arith
+uris-few (suc n) [] = omega arith
+uris-few (suc n) (k ∷ l) = by (leb k (length l)) (uris-few n (drop k l))
+  where
+    by : (b : Bool) → length (urisFrom n (drop k l)) ≤ n → length (cond b (take k l ∷ urisFrom n (drop k l)) []) ≤ suc n
+    by true h = omega arith
+    by false h = omega arith
 
 -- the classes of no namespace and of xml's
 pub class-nil : (t : Table) → classOf t [] ≡ 0

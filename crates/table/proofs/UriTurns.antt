@@ -1,13 +1,13 @@
 -- The turns and ends of the loops that go through a table's URIs: v is the answer, i of n URIs are behind p.
-use Prim.Native.Nat.{ℕ, zero, suc, _+_, _-_, _*_, _≤_, _<_}
+use Prim.Native.Nat.{ℕ, suc, _+_, _-_, _*_, _≤_, _<_}
 use mathlib.Core.Path.{_≡_, refl, sym, ap, _∙_}
 use mathlib.Core.List.{List, [], _∷_}
 use mathlib.Core.Bool.{Bool, true, false, cond, not, _||_, or-true}
 use native.Mathlib.Nat.{sub-zero}
 use native.Mathlib.Omega.{arith}
 use borrow.Author.Tests.{eq-eqb, ne-eqb, le-leb, lt-leb, lt-ltb}
-use lib.ListN.{length, getD, drop, take, length-drop}
-use lib.Dec.{eqb, leb}
+use lib.ListN.{length, getD, drop, length-drop}
+use lib.Dec.{eqb}
 use Rattle.laws.specs.Lists.{sameList, any, anyPair}
 use Rattle.laws.proofs.Flags.{eqb-same}
 use Rattle.laws.proofs.Lists.{any-same}
@@ -18,6 +18,7 @@ use Rattle.table.specs.Judge.{urisFill, urisClash, lengthFits, isEmpty}
 use Rattle.table.specs.Places.{placed, placesFrom, placeOf}
 use Rattle.table.specs.declared.Header.{Header}
 use Rattle.table.specs.declared.Listed.{Listed}
+use Rattle.table.proofs.Namespaces.{uris-few}
 use Rattle.table.proofs.Walk.{uriAt, no-uri, one-uri, no-place, one-place, no-fill, one-fill}
 
 module _ (t : List ℕ) (p n i : ℕ) where
@@ -160,19 +161,9 @@ module _ (uri : List ℕ) where
       by true ih = ap not (ne-eqb k 255 (λ z. omega arith))
       by false ih = ih
 
-  few : (n : ℕ) (l : List ℕ) → length (urisFrom n l) ≤ n
-  unfolding urisFrom
-  few zero l = omega arith
-  few (suc n) [] = omega arith
-  few (suc n) (k ∷ l) = by (leb k (length l)) (few n (drop k l))
-    where
-      by : (b : Bool) → length (urisFrom n (drop k l)) ≤ n → length (cond b (take k l ∷ urisFrom n (drop k l)) []) ≤ suc n
-      by true h = omega arith
-      by false h = omega arith
-
   pub is-listed : (n : ℕ) (l : List ℕ) → n ≤ 30 → (r : ℕ) → r ≡ listedFrom (urisFrom n l) 1 uri
       → not (eqb r 255) ≡ any (λ (u : List ℕ). sameList u uri) (urisFrom n l)
-  is-listed n l h r e = ap (λ (k : ℕ). not (eqb k 255)) e ∙ place-or-none (urisFrom n l) 1 (omega (arith, few n l))
+  is-listed n l h r e = ap (λ (k : ℕ). not (eqb k 255)) e ∙ place-or-none (urisFrom n l) 1 (omega (arith, uris-few n l))
 
 -- the empty URI is the one of length 0
 pub empty-listed : (t : List ℕ) (h : Header) (p : ℕ) → p ≡ 4 + 4 * h .rules → (b : Bool)

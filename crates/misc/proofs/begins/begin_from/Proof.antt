@@ -31,7 +31,7 @@ enum-known-j : tie.Need-enum-known-j Inv-loop μ-loop
 enum-known-j c = search needs
 
 loop-less : tie.Need-loop-less Inv-loop μ-loop
-loop-less c = omega (arith, misc-onward _ _ _ _ _ (c .before .before .before .before .loop .inv) _ (c .before .before .before .ahead-at .ensures) _ (c .before .j .given .1))
+loop-less c = omega (arith, misc-onward _ _ _ _ _ (c .before .before .before .ahead-at .ensures) _ (c .before .j .given .1))
 
 loop-again : tie.Need-loop-again Inv-loop μ-loop
 loop-again c = search begin-misc

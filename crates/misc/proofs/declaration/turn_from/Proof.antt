@@ -12,8 +12,8 @@ returns c = search tests
 shared-slice-read-if2 : tie.Need-shared-slice-read-if2
 shared-slice-read-if2 c = search needs
 
-close-at-requires : tie.Need-close-at-requires
-close-at-requires c κs = search needs
+slash-at-requires : tie.Need-slash-at-requires
+slash-at-requires c κs = search needs
 
 returns-2 : tie.Need-returns-2
 unfolding turnFrom
@@ -30,4 +30,4 @@ returns-4 c = search tests
 pub turn-from-spec : {M : Type 1} → statement M
 turn-from-spec =
     tie.close
-    (tie.spec returns shared-slice-read-if2 close-at-requires returns-2 returns-3 returns-4)
+    (tie.spec returns shared-slice-read-if2 slash-at-requires returns-2 returns-3 returns-4)
