@@ -5,19 +5,19 @@
 --     spaces-grows, .., ahead-grows        of each reading definition
 --     value-ext, .., begin-ext             the first half; value-late, .., begin-late the second
 --     finished-on                          what stands behind a finished scene is read as if it stood alone
-use Prim.Native.Nat.{ℕ, zero, suc, _+_, _≤_, _<_}
+use Prim.Native.Nat.{ℕ, zero, suc, _+_, _-_, _≤_, _<_}
 use mathlib.Core.Path.{_≡_, refl, sym, ap, subst, _∙_}
 use mathlib.Core.List.{List, [], _∷_, _++_}
 use mathlib.Core.Bool.{Bool, true, false, cond, not, _&&_, _||_}
 use mathlib.Core.Logic.{_⊎_, inl, inr, ⊎-elim}
 use native.Mathlib.Omega.{arith}
-use borrow.Author.Tests.{eqb-true, eqb-false, ne-eqb, ltb-true, ltb-false, lt-ltb, lt-leb}
+use borrow.Author.Tests.{eqb-true, eqb-false, ltb-true, ltb-false, lt-ltb, lt-leb, leb-true, le-leb}
 use lib.ListN.{length, drop, getD, length-append, length-drop, List·getD-append}
 use lib.Seq.{drop-append-le}
 use lib.Dec.{leb, ltb, eqb}
 use Rattle.laws.specs.Reading.{RunNext, go, stop, follow, run, peek, le-or-lt, drop-here, drop-out}
 use Rattle.laws.specs.Text.{bytes}
-use Rattle.laws.proofs.Flags.{differ, and-left}
+use Rattle.laws.proofs.Flags.{differ, and-left, and-right}
 use Rattle.laws.proofs.Holds.{holds-cond, holds-peek, Turned, run-held}
 use Rattle.lexer.specs.Stops.{afterRead, afterName}
 use Rattle.lexer.specs.Names.{isSpace, spaceStep, spacesEnd, startLen, nameLen, partStep, partEnd, nameOf, prefixedAt, nameAt}
@@ -49,58 +49,85 @@ use Rattle.lexer.specs.declared.Begin.the-variants as begin
 use Rattle.lexer.specs.declared.Ahead.{Ahead}
 use Rattle.lexer.specs.declared.Ahead.the-variants as ahead
 use Rattle.lexer.proofs.Common.{common-kept}
-use Rattle.lexer.proofs.ValueLaws.{Within, ReferenceTo, reference-inside, reference-stable, closes-kept}
+use Rattle.lexer.proofs.ValueLaws.{Within, ReferenceTo, reference-inside, reference-stable, closes-kept, closes-behind}
 use Rattle.lexer.proofs.Stable.{start-stable, nameLen-stable}
+use Rattle.misc.proofs.MiscLaws.{xml-three, declared-kept, xml-kept}
 use Rattle.misc.proofs.BeginLaws.{begin-is, begin-held, CutAhead, ahead-stable}
+use Rattle.demands.specs.Answers.{settled}
+
+-- ---- what settles the two refusals that their byte does not settle
+settled-xml : (S : List ℕ) (at j : ℕ) → isXml S at j ≡ true → settled S at ≡ 3
+unfolding settled
+settled-xml S at j x = rw (subst (λ (k : ℕ). isXml S at k ≡ true) (xml-three S at j x) x)
+
+closes-here : (S : List ℕ) (at quote b i : ℕ) → closes S at quote b i ≡ true → closes S (i - 2) 0x3C b i ≡ true
+unfolding closes
+closes-here S at quote b i e =
+    let q = eqb quote 0x3C in
+    let l = leb (at + 2) i in
+    let x = eqb b 0x3E in
+    let y = eqb (getD S (i - 1) 0) 0x5D in
+    let z = eqb (getD S (i - 2) 0) 0x5D in
+    let v = and-left (q && l && x && y) z e in
+    let w = and-left (q && l && x) y v in
+    let le : at + 2 ≤ i = leb-true (at + 2) i (and-right q l (and-left (q && l) x w)) in
+    rw (le-leb (i - 2 + 2) i (omega arith), and-right (q && l) x w, and-right (q && l && x) y v, and-right (q && l && x && y) z e)
+
+settled-closes : (S : List ℕ) (at quote i : ℕ) → closes S at quote (getD S i 0) i ≡ true → i ≤ i - 2 + settled S (i - 2)
+unfolding settled
+settled-closes S at quote i e =
+    let le : at + 2 ≤ i = closes-behind S at quote (getD S i 0) i e in
+    let k : i - 2 + 2 ≡ i = omega arith in
+    holds-cond (λ (n : ℕ). i ≤ i - 2 + n) (isXml S (i - 2) (i - 2 + 3)) (λ x. omega arith) (λ x. rw (k, closes-here S at quote (getD S i 0) i e) (omega arith))
 
 -- ---- the same answer, or a late one
 abbrev pub Ext : {A : Type 0} → (A → Type 0) → A → A → Type 0
 Ext L a b = (b ≡ a) ⊎ L b
 
--- decided at most three bytes further on
-abbrev pub LateStop : ℕ → Stop → Type 0
-LateStop n (Bad j) = n ≤ j + 3
-LateStop n (Long j) = n ≤ j + 3
-LateStop n Cut = Unit {0}
+-- of a scene S: decided at n or behind it
+abbrev pub LateStop : List ℕ → ℕ → Stop → Type 0
+LateStop S n (Bad j) = n ≤ j + settled S j
+LateStop S n (Long j) = n ≤ j
+LateStop S n Cut = Unit {0}
 
 -- a place at n or behind it
-abbrev pub LateRead : ℕ → Read → Type 0
-LateRead n (read.End j) = n ≤ j
-LateRead n (read.Stopped x) = LateStop n x
+abbrev pub LateRead : List ℕ → ℕ → Read → Type 0
+LateRead S n (read.End j) = n ≤ j
+LateRead S n (read.Stopped x) = LateStop S n x
 
-abbrev pub LateNamed : ℕ → Named → Type 0
-LateNamed n (named.Got m) = n ≤ m .end
-LateNamed n (named.Stopped x) = LateStop n x
+abbrev pub LateNamed : List ℕ → ℕ → Named → Type 0
+LateNamed S n (named.Got m) = n ≤ m .end
+LateNamed S n (named.Stopped x) = LateStop S n x
 
-abbrev pub LateAttributed : ℕ → Attributed → Type 0
-LateAttributed n (attributed.Got a) = n ≤ a .stop
-LateAttributed n (attributed.Stopped x) = LateStop n x
+abbrev pub LateAttributed : List ℕ → ℕ → Attributed → Type 0
+LateAttributed S n (attributed.Got a) = n ≤ a .stop
+LateAttributed S n (attributed.Stopped x) = LateStop S n x
 
-abbrev pub LateTurn : ℕ → Turn → Type 0
-LateTurn n (turn.Close next empty) = n ≤ next
-LateTurn n (turn.Attribute i) = n ≤ i
-LateTurn n (turn.Stopped x) = LateStop n x
+abbrev pub LateTurn : List ℕ → ℕ → Turn → Type 0
+LateTurn S n (turn.Close next empty) = n ≤ next
+LateTurn S n (turn.Attribute i) = n ≤ i
+LateTurn S n (turn.Stopped x) = LateStop S n x
 
 -- behind a whole tag no byte is refused
-abbrev pub LateTagged : ℕ → Tagged → Type 0
-LateTagged n (tagged.Got t) = Unit {0}
-LateTagged n (tagged.Stopped x) = LateStop n x
+abbrev pub LateTagged : List ℕ → ℕ → Tagged → Type 0
+LateTagged S n (tagged.Got t) = Unit {0}
+LateTagged S n (tagged.Stopped x) = LateStop S n x
 
-abbrev pub LateEnded : ℕ → Ended → Type 0
-LateEnded n (ended.Got e) = Unit {0}
-LateEnded n (ended.Stopped x) = LateStop n x
+abbrev pub LateEnded : List ℕ → ℕ → Ended → Type 0
+LateEnded S n (ended.Got e) = Unit {0}
+LateEnded S n (ended.Stopped x) = LateStop S n x
 
 -- the byte behind the < of a tag
-abbrev pub LateBegin : ℕ → Begin → Type 0
-LateBegin n (begin.Start i) = n ≤ i + 1
-LateBegin n (begin.End i) = n ≤ i + 1
-LateBegin n (begin.Text i) = n ≤ i
-LateBegin n begin.Finished = Unit {0}
-LateBegin n (begin.Stopped x) = LateStop n x
+abbrev pub LateBegin : List ℕ → ℕ → Begin → Type 0
+LateBegin S n (begin.Start i) = n ≤ i + 1
+LateBegin S n (begin.End i) = n ≤ i + 1
+LateBegin S n (begin.Text i) = n ≤ i
+LateBegin S n begin.Finished = Unit {0}
+LateBegin S n (begin.Stopped x) = LateStop S n x
 
-abbrev pub LateAhead : ℕ → Ahead → Type 0
-LateAhead n (ahead.Event b) = LateBegin n b
-LateAhead n (ahead.Misc j) = n ≤ j
+abbrev pub LateAhead : List ℕ → ℕ → Ahead → Type 0
+LateAhead S n (ahead.Event b) = LateBegin S n b
+LateAhead S n (ahead.Misc j) = n ≤ j
 
 pub ext-cond : {A : Type 0} (L : A → Type 0) (t : Bool) {a b a′ b′ : A} → Ext L a a′ → Ext L b b′ → Ext L (cond t a b) (cond t a′ b′)
 ext-cond L true p q = p
@@ -134,18 +161,18 @@ module _ {A : Type 0} (L : A → Type 0) (n at : ℕ) where
   grows-bind M f f′ h v w k = (ext-bind M L f f′ (λ x. h x .0) (λ x. h x .1) v w (k .0), λ out. h w .1 (k .1 out))
 
   -- behind what was read: f says what a stop becomes, k and k′ what is read behind an end
-  module _ (f : Stop → A) (stops : (x : Stop) → LateStop n x → L (f x)) where
-    pub grows-after : {k k′ : ℕ → A} {r r′ : Read} → Grows (LateRead n) n at r r′ → ((j : ℕ) → Grows L n j (k j) (k′ j)) → Grows L n at (afterRead f r k) (afterRead f r′ k′)
-    grows-after {k} {k′} {r} {r′} g h = grows-bind (LateRead n) (λ (r : Read). afterRead f r k) (λ (r : Read). afterRead f r k′) each r r′ g
+  module _ (S : List ℕ) (f : Stop → A) (stops : (x : Stop) → LateStop S n x → L (f x)) where
+    pub grows-after : {k k′ : ℕ → A} {r r′ : Read} → Grows (LateRead S n) n at r r′ → ((j : ℕ) → Grows L n j (k j) (k′ j)) → Grows L n at (afterRead f r k) (afterRead f r′ k′)
+    grows-after {k} {k′} {r} {r′} g h = grows-bind (LateRead S n) (λ (r : Read). afterRead f r k) (λ (r : Read). afterRead f r k′) each r r′ g
       where
-        each : (r : Read) → Ext L (afterRead f r k) (afterRead f r k′) × (LateRead n r → L (afterRead f r k′))
+        each : (r : Read) → Ext L (afterRead f r k) (afterRead f r k′) × (LateRead S n r → L (afterRead f r k′))
         each (read.End j) = h j
         each (read.Stopped x) = (inl refl, stops x)
 
-    pub grows-afterName : {k k′ : Name → A} {r r′ : Named} → Grows (LateNamed n) n at r r′ → ((m : Name) → Grows L n (m .end) (k m) (k′ m)) → Grows L n at (afterName f r k) (afterName f r′ k′)
-    grows-afterName {k} {k′} {r} {r′} g h = grows-bind (LateNamed n) (λ (r : Named). afterName f r k) (λ (r : Named). afterName f r k′) each r r′ g
+    pub grows-afterName : {k k′ : Name → A} {r r′ : Named} → Grows (LateNamed S n) n at r r′ → ((m : Name) → Grows L n (m .end) (k m) (k′ m)) → Grows L n at (afterName f r k) (afterName f r′ k′)
+    grows-afterName {k} {k′} {r} {r′} g h = grows-bind (LateNamed S n) (λ (r : Named). afterName f r k) (λ (r : Named). afterName f r k′) each r r′ g
       where
-        each : (r : Named) → Ext L (afterName f r k) (afterName f r k′) × (LateNamed n r → L (afterName f r k′))
+        each : (r : Named) → Ext L (afterName f r k) (afterName f r k′) × (LateNamed S n r → L (afterName f r k′))
         each (named.Got m) = h m
         each (named.Stopped x) = (inl refl, stops x)
 
@@ -202,10 +229,10 @@ module _ {St Out : Type 0} (cut : Out) (step step′ : St → ℕ → ℕ → Ru
 
 -- a machine that knows nothing of the scene but its byte, and names that byte
 pub local-grows : (step : ℕ → ℕ → ℕ → RunNext ℕ Read) (s t : List ℕ)
-    → ((q b i : ℕ) → length s ≤ i → Turned (λ (q′ : ℕ). length s ≤ i + 1) (LateRead (length s)) (step q b i))
-    → (at : ℕ) → Grows (LateRead (length s)) (length s) at (run (read.Stopped Cut) step 0 (drop at s) at) (run (read.Stopped Cut) step 0 (drop at (s ++ t)) at)
+    → ((q b i : ℕ) → length s ≤ i → Turned (λ (q′ : ℕ). length s ≤ i + 1) (LateRead (s ++ t) (length s)) (step q b i))
+    → (at : ℕ) → Grows (LateRead (s ++ t) (length s)) (length s) at (run (read.Stopped Cut) step 0 (drop at s) at) (run (read.Stopped Cut) step 0 (drop at (s ++ t)) at)
 local-grows step s t h =
-    run-grows (read.Stopped Cut) step step s t (λ (q i : ℕ). length s ≤ i) (LateRead (length s)) tt (λ q i lt. h q (getD (s ++ t) i 0) i) (λ q i out. out) (λ q i lt. inl refl) 0
+    run-grows (read.Stopped Cut) step step s t (λ (q i : ℕ). length s ≤ i) (LateRead (s ++ t) (length s)) tt (λ q i lt. h q (getD (s ++ t) i 0) i) (λ q i out. out) (λ q i lt. inl refl) 0
 
 -- ---- references
 common-word : (l word : List ℕ) → common l word ≤ length word
@@ -244,7 +271,7 @@ furthest-grows l t (w ∷ words) =
 
 module _ (s t : List ℕ) (at : ℕ) (inside : at ≤ length s) where
   -- where the scene ends inside a word, that word reaches behind its end
-  late-whole : (words : List (List ℕ)) (other other′ : Read) → wholeOf s at words other ≡ read.Stopped Cut → (other ≡ read.Stopped Cut → LateRead (length s) other′) → LateRead (length s) (wholeOf (s ++ t) at words other′)
+  late-whole : (words : List (List ℕ)) (other other′ : Read) → wholeOf s at words other ≡ read.Stopped Cut → (other ≡ read.Stopped Cut → LateRead (s ++ t) (length s) other′) → LateRead (s ++ t) (length s) (wholeOf (s ++ t) at words other′)
   unfolding wholeOf
   late-whole [] other other′ q late = late q
   late-whole (w ∷ words) other other′ q late =
@@ -261,19 +288,19 @@ module _ (s t : List ℕ) (at : ℕ) (inside : at ≤ length s) where
 
       by : (a : Bool) → eqb (common (drop at s) w) (length w) ≡ a → (b : Bool) → eqb (common (drop at (s ++ t)) w) (length w) ≡ b
           → cond a (read.End (at + length w)) (wholeOf s at words other) ≡ read.Stopped Cut
-          → (wholeOf s at words other ≡ read.Stopped Cut → LateRead (length s) (wholeOf (s ++ t) at words other′))
-          → LateRead (length s) (cond b (read.End (at + length w)) (wholeOf (s ++ t) at words other′))
+          → (wholeOf s at words other ≡ read.Stopped Cut → LateRead (s ++ t) (length s) (wholeOf (s ++ t) at words other′))
+          → LateRead (s ++ t) (length s) (cond b (read.End (at + length w)) (wholeOf (s ++ t) at words other′))
       by true e b f q ih = let z : _≡_ {A = ℕ} 0 1 = cc in absurd (omega arith)
       by false e true f q ih = reaches e f
       by false e false f q ih = ih q
 
-  late-none : noReference s at ≡ read.Stopped Cut → LateRead (length s) (noReference (s ++ t) at)
+  late-none : noReference s at ≡ read.Stopped Cut → LateRead (s ++ t) (length s) (noReference (s ++ t) at)
   unfolding noReference
   late-none q =
       let k = at + furthest (drop at s) references in
       let far : length s ≤ k = ⊎-elim (λ le. le) (λ lt. absurd (never lt q)) (le-or-lt (length s) k) in
       let grows : furthest (drop at s) references ≤ furthest (drop at (s ++ t)) references = rw (drop-append-le at s t inside) (furthest-grows (drop at s) t references) in
-      holds-cond (LateRead (length s)) (leb (length (s ++ t)) (at + furthest (drop at (s ++ t)) references)) (λ e. tt) (λ e. omega arith)
+      holds-cond (LateRead (s ++ t) (length s)) (leb (length (s ++ t)) (at + furthest (drop at (s ++ t)) references)) (λ e. tt) (λ e. omega arith)
     where
       never : at + furthest (drop at s) references < length s → cond (leb (length s) (at + furthest (drop at s) references)) (read.Stopped Cut) (read.Stopped (Bad (at + furthest (drop at s) references))) ≡ read.Stopped Cut → ⊥
       never lt e =
@@ -281,14 +308,14 @@ module _ (s t : List ℕ) (at : ℕ) (inside : at ≤ length s) where
           let z : _≡_ {A = ℕ} 0 1 = cc in
           omega arith
 
-  late-reference : referenceEnd s at ≡ read.Stopped Cut → LateRead (length s) (referenceEnd (s ++ t) at)
+  late-reference : referenceEnd s at ≡ read.Stopped Cut → LateRead (s ++ t) (length s) (referenceEnd (s ++ t) at)
   unfolding referenceEnd
   late-reference q = late-whole references (noReference s at) (noReference (s ++ t) at) q late-none
 
-  reference-ext : Ext (LateRead (length s)) (referenceEnd s at) (referenceEnd (s ++ t) at)
+  reference-ext : Ext (LateRead (s ++ t) (length s)) (referenceEnd s at) (referenceEnd (s ++ t) at)
   reference-ext = by (referenceEnd s at) refl
     where
-      by : (r : Read) → referenceEnd s at ≡ r → Ext (LateRead (length s)) (referenceEnd s at) (referenceEnd (s ++ t) at)
+      by : (r : Read) → referenceEnd s at ≡ r → Ext (LateRead (s ++ t) (length s)) (referenceEnd s at) (referenceEnd (s ++ t) at)
       by (read.End j) e = inl (reference-stable s t at (λ c. let d : read.End j ≡ read.Stopped Cut = sym e ∙ c in let z : _≡_ {A = ℕ} 0 1 = cc in omega arith))
       by (read.Stopped (Bad j)) e = inl (reference-stable s t at (λ c. let d : read.Stopped (Bad j) ≡ read.Stopped Cut = sym e ∙ c in let z : _≡_ {A = ℕ} 0 1 = cc in omega arith))
       by (read.Stopped (Long j)) e = inl (reference-stable s t at (λ c. let d : read.Stopped (Long j) ≡ read.Stopped Cut = sym e ∙ c in let z : _≡_ {A = ℕ} 0 1 = cc in omega arith))
@@ -298,28 +325,28 @@ module _ (s t : List ℕ) (at : ℕ) (inside : at ≤ length s) where
 module _ (s t : List ℕ) where
   -- a step at a byte behind the scene
   abbrev LateStep : ℕ → RunNext ℕ Read → Type 0
-  LateStep i = Turned (λ (q′ : ℕ). length s ≤ i + 1) (LateRead (length s))
+  LateStep i = Turned (λ (q′ : ℕ). length s ≤ i + 1) (LateRead (s ++ t) (length s))
 
   -- what is read from a place on
   abbrev Reads : ℕ → Read → Read → Type 0
-  Reads = Grows (LateRead (length s)) (length s)
+  Reads = Grows (LateRead (s ++ t) (length s)) (length s)
 
   bad-grows : (at : ℕ) → Reads at (read.Stopped (Bad at)) (read.Stopped (Bad at))
-  bad-grows at = grows-same (LateRead (length s)) (length s) at (read.Stopped (Bad at)) (λ out. omega arith)
+  bad-grows at = grows-same (LateRead (s ++ t) (length s)) (length s) at (read.Stopped (Bad at)) (λ out. omega arith)
 
   -- read, and then what stands behind it
   then : (at : ℕ) {k k′ : ℕ → Read} {r r′ : Read} → Reads at r r′ → ((j : ℕ) → Reads j (k j) (k′ j)) → Reads at (afterRead read.Stopped r k) (afterRead read.Stopped r′ k′)
-  then at = grows-after (LateRead (length s)) (length s) at read.Stopped (λ x l. l)
+  then at = grows-after (LateRead (s ++ t) (length s)) (length s) at (s ++ t) read.Stopped (λ x l. l)
 
   -- by the byte at a place
   byte : (at : ℕ) {f g : ℕ → Read} → ((b : ℕ) → Reads at (f b) (g b)) → Reads at (peek (read.Stopped Cut) s at f) (peek (read.Stopped Cut) (s ++ t) at g)
-  byte at = grows-peek (LateRead (length s)) s t at (read.Stopped Cut) tt
+  byte at = grows-peek (LateRead (s ++ t) (length s)) s t at (read.Stopped Cut) tt
 
   either : (at : ℕ) (x : Bool) {a b a′ b′ : Read} → Reads at a a′ → Reads at b b′ → Reads at (cond x a b) (cond x a′ b′)
-  either at = grows-cond (LateRead (length s)) (length s) at
+  either at = grows-cond (LateRead (s ++ t) (length s)) (length s) at
 
   on : (at : ℕ) {a b : Read} → Reads (at + 1) a b → Reads at a b
-  on at = grows-later (LateRead (length s)) (length s) at (at + 1) (omega arith)
+  on at = grows-later (LateRead (s ++ t) (length s)) (length s) at (at + 1) (omega arith)
 
   pub spaces-grows : (at : ℕ) → Reads at (spacesEnd s at) (spacesEnd (s ++ t) at)
   unfolding spacesEnd
@@ -328,7 +355,7 @@ module _ (s t : List ℕ) where
   pub part-grows : (at : ℕ) → Reads at (partEnd s at) (partEnd (s ++ t) at)
   unfolding partEnd
   part-grows =
-      run-grows (read.Stopped Cut) (partStep s) (partStep (s ++ t)) s t (λ (q i : ℕ). length s ≤ i) (LateRead (length s)) tt turn (λ q i out. out)
+      run-grows (read.Stopped Cut) (partStep s) (partStep (s ++ t)) s t (λ (q i : ℕ). length s ≤ i) (LateRead (s ++ t) (length s)) tt turn (λ q i out. out)
       (λ room i lt. inl (simp (start-stable s t i lt, nameLen-stable s t i lt)))
       64
     where
@@ -341,7 +368,7 @@ module _ (s t : List ℕ) where
   module _ (at quote : ℕ) where
     -- a value's step at a byte behind the scene, or at one of a reference that reaches behind it
     abbrev LateValue : ℕ → RunNext ℕ Read → Type 0
-    LateValue i = Turned (λ (left : ℕ). length s ≤ i + 1 + left) (LateRead (length s))
+    LateValue i = Turned (λ (left : ℕ). length s ≤ i + 1 + left) (LateRead (s ++ t) (length s))
 
     value-turn : (left i : ℕ) → i < length (s ++ t) → length s ≤ i + left → LateValue i (valueStep (s ++ t) at quote left (getD (s ++ t) i 0) i)
     value-turn left i lt h =
@@ -350,7 +377,7 @@ module _ (s t : List ℕ) where
         let out : length s ≤ i = omega (arith, eqb-true left 0 z) in
         holds-cond (LateValue i) (eqb b quote) (λ e. out)
         (λ e. holds-cond (LateValue i) (eqb b 0x26) (λ e. passed out (referenceEnd (s ++ t) i) (reference-inside (s ++ t) i))
-        (λ e. holds-cond (LateValue i) (closes (s ++ t) at quote b i) (λ e. omega arith)
+        (λ e. holds-cond (LateValue i) (closes (s ++ t) at quote b i) (λ c. omega (arith, settled-closes (s ++ t) at quote i c))
         (λ e. holds-cond (LateValue i) (isText b) (λ e. omega arith) (λ e. omega arith)))))
         (λ z. omega (arith, eqb-false left 0 z))
       where
@@ -368,76 +395,76 @@ module _ (s t : List ℕ) where
         rw (closes-kept s t at quote (getD s i 0) i lt)
         (ext-cond (LateValue i) (eqb left 0)
         (ext-cond (LateValue i) (eqb (getD s i 0) quote) (inl refl)
-        (ext-cond (LateValue i) (eqb (getD s i 0) 0x26) (ext-bind (LateRead (length s)) (LateValue i) (referred i) (referred i) (λ r. inl refl) late (referenceEnd s i) (referenceEnd (s ++ t) i) (reference-ext s t i (omega arith))) (inl refl)))
+        (ext-cond (LateValue i) (eqb (getD s i 0) 0x26) (ext-bind (LateRead (s ++ t) (length s)) (LateValue i) (referred i) (referred i) (λ r. inl refl) late (referenceEnd s i) (referenceEnd (s ++ t) i) (reference-ext s t i (omega arith))) (inl refl)))
         (inl refl))
       where
-        late : (r : Read) → LateRead (length s) r → LateValue i (referred i r)
+        late : (r : Read) → LateRead (s ++ t) (length s) r → LateValue i (referred i r)
         late (read.End j) l = omega arith
         late (read.Stopped x) l = l
 
     pub value-grows : Reads at (valueEnd s at quote) (valueEnd (s ++ t) at quote)
     unfolding valueFrom
     value-grows =
-        run-grows (read.Stopped Cut) (valueStep s at quote) (valueStep (s ++ t) at quote) s t (λ (left i : ℕ). length s ≤ i + left) (LateRead (length s)) tt value-turn (λ q i out. omega arith) value-agree 0 at
+        run-grows (read.Stopped Cut) (valueStep s at quote) (valueStep (s ++ t) at quote) s t (λ (left i : ℕ). length s ≤ i + left) (LateRead (s ++ t) (length s)) tt value-turn (λ q i out. omega arith) value-agree 0 at
 
   -- ---- names and attributes
-  prefixed-grows : (at part : ℕ) → Grows (LateNamed (length s)) (length s) part (prefixedAt s at part) (prefixedAt (s ++ t) at part)
+  prefixed-grows : (at part : ℕ) → Grows (LateNamed (s ++ t) (length s)) (length s) part (prefixedAt s at part) (prefixedAt (s ++ t) at part)
   unfolding prefixedAt
-  prefixed-grows at part = grows-after L (length s) part named.Stopped (λ x l. l) (part-grows part) (λ j. grows-same L (length s) j (nameOf at part j) (λ out. out))
+  prefixed-grows at part = grows-after L (length s) part (s ++ t) named.Stopped (λ x l. l) (part-grows part) (λ j. grows-same L (length s) j (nameOf at part j) (λ out. out))
     where
       L : Named → Type 0
-      L = LateNamed (length s)
+      L = LateNamed (s ++ t) (length s)
 
-  pub name-grows : (at : ℕ) → Grows (LateNamed (length s)) (length s) at (nameAt s at) (nameAt (s ++ t) at)
+  pub name-grows : (at : ℕ) → Grows (LateNamed (s ++ t) (length s)) (length s) at (nameAt s at) (nameAt (s ++ t) at)
   unfolding nameAt
   name-grows at =
-      grows-after L (length s) at named.Stopped (λ x l. l) (part-grows at) (λ j.
+      grows-after L (length s) at (s ++ t) named.Stopped (λ x l. l) (part-grows at) (λ j.
       grows-peek L s t j (named.Stopped Cut) tt (λ b.
       grows-cond L (length s) j (eqb b 0x3A) (grows-later L (length s) j (j + 1) (omega arith) (prefixed-grows at (j + 1))) (grows-same L (length s) j (nameOf at at j) (λ out. out))))
     where
       L : Named → Type 0
-      L = LateNamed (length s)
+      L = LateNamed (s ++ t) (length s)
 
   wanted-grows : (at c : ℕ) → Reads at (wanted s at c) (wanted (s ++ t) at c)
   unfolding wanted
-  wanted-grows at c = byte at (λ b. either at (eqb b c) (grows-same (LateRead (length s)) (length s) at (read.End (at + 1)) (λ out. omega arith)) (bad-grows at))
+  wanted-grows at c = byte at (λ b. either at (eqb b c) (grows-same (LateRead (s ++ t) (length s)) (length s) at (read.End (at + 1)) (λ out. omega arith)) (bad-grows at))
 
   equals-grows : (at : ℕ) → Reads at (equalsEnd s at) (equalsEnd (s ++ t) at)
   unfolding equalsEnd
   equals-grows at = then at (spaces-grows at) (λ i. then i (wanted-grows i 0x3D) spaces-grows)
 
   -- the quote, and the value behind it
-  quoted-grows : (name : Name) (at : ℕ) → Grows (LateAttributed (length s)) (length s) at (quotedAt s name at) (quotedAt (s ++ t) name at)
+  quoted-grows : (name : Name) (at : ℕ) → Grows (LateAttributed (s ++ t) (length s)) (length s) at (quotedAt s name at) (quotedAt (s ++ t) name at)
   unfolding quotedAt
   quoted-grows name at =
       grows-peek L s t at (attributed.Stopped Cut) tt (λ q.
       grows-cond L (length s) at (eqb q 0x22 || eqb q 0x27)
-      (grows-later L (length s) at (at + 1) (omega arith) (grows-after L (length s) (at + 1) attributed.Stopped (λ x l. l) (value-grows (at + 1) q) (λ j. grows-same L (length s) j (attributed.Got (attrOf name (at + 1) j)) (λ out. out))))
+      (grows-later L (length s) at (at + 1) (omega arith) (grows-after L (length s) (at + 1) (s ++ t) attributed.Stopped (λ x l. l) (value-grows (at + 1) q) (λ j. grows-same L (length s) j (attributed.Got (attrOf name (at + 1) j)) (λ out. out))))
       (grows-same L (length s) at (attributed.Stopped (Bad at)) (λ out. omega arith)))
     where
       L : Attributed → Type 0
-      L = LateAttributed (length s)
+      L = LateAttributed (s ++ t) (length s)
 
-  attribute-grows : (at : ℕ) → Grows (LateAttributed (length s)) (length s) at (attributeAt s at) (attributeAt (s ++ t) at)
+  attribute-grows : (at : ℕ) → Grows (LateAttributed (s ++ t) (length s)) (length s) at (attributeAt s at) (attributeAt (s ++ t) at)
   unfolding attributeAt
   attribute-grows at =
-      grows-afterName L (length s) at attributed.Stopped (λ x l. l) (name-grows at) (λ name.
-      grows-after L (length s) (name .end) attributed.Stopped (λ x l. l) (equals-grows (name .end)) (quoted-grows name))
+      grows-afterName L (length s) at (s ++ t) attributed.Stopped (λ x l. l) (name-grows at) (λ name.
+      grows-after L (length s) (name .end) (s ++ t) attributed.Stopped (λ x l. l) (equals-grows (name .end)) (quoted-grows name))
     where
       L : Attributed → Type 0
-      L = LateAttributed (length s)
+      L = LateAttributed (s ++ t) (length s)
 
   -- ---- what stands behind a tag's name or an attribute
   abbrev Turns : ℕ → Turn → Turn → Type 0
-  Turns = Grows (LateTurn (length s)) (length s)
+  Turns = Grows (LateTurn (s ++ t) (length s)) (length s)
 
   slash-grows : (at : ℕ) → Turns at (slashAt s at) (slashAt (s ++ t) at)
   unfolding slashAt
   slash-grows at =
-      grows-later L (length s) at (at + 1) (omega arith) (grows-after L (length s) (at + 1) turn.Stopped (λ x l. l) (wanted-grows (at + 1) 0x3E) (λ j. grows-same L (length s) j (turn.Close j true) (λ out. out)))
+      grows-later L (length s) at (at + 1) (omega arith) (grows-after L (length s) (at + 1) (s ++ t) turn.Stopped (λ x l. l) (wanted-grows (at + 1) 0x3E) (λ j. grows-same L (length s) j (turn.Close j true) (λ out. out)))
     where
       L : Turn → Type 0
-      L = LateTurn (length s)
+      L = LateTurn (s ++ t) (length s)
 
   -- a refused byte, or an attribute's first
   start-grows : (i : ℕ) → Turns i (cond (eqb (startLen s i) 0) (turn.Stopped (Bad i)) (turn.Attribute i)) (cond (eqb (startLen (s ++ t) i) 0) (turn.Stopped (Bad i)) (turn.Attribute i))
@@ -445,7 +472,7 @@ module _ (s t : List ℕ) where
       grows-split L (length s) i (λ out. holds-cond L (eqb (startLen (s ++ t) i) 0) (λ e. omega arith) (λ e. out)) (λ lt. inl (rw (start-stable s t i lt)))
     where
       L : Turn → Type 0
-      L = LateTurn (length s)
+      L = LateTurn (s ++ t) (length s)
 
   behind-grows : (at i : ℕ) → Turns i (turnBehind s at i) (turnBehind (s ++ t) at i)
   unfolding turnBehind
@@ -456,26 +483,26 @@ module _ (s t : List ℕ) where
       (grows-cond L (length s) i (eqb i at) (grows-same L (length s) i (turn.Stopped (Bad i)) (λ out. omega arith)) (start-grows i))))
     where
       L : Turn → Type 0
-      L = LateTurn (length s)
+      L = LateTurn (s ++ t) (length s)
 
   turn-grows : (at : ℕ) → Turns at (turnAt s at) (turnAt (s ++ t) at)
   unfolding turnAt
-  turn-grows at = grows-after (LateTurn (length s)) (length s) at turn.Stopped (λ x l. l) (spaces-grows at) (behind-grows at)
+  turn-grows at = grows-after (LateTurn (s ++ t) (length s)) (length s) at (s ++ t) turn.Stopped (λ x l. l) (spaces-grows at) (behind-grows at)
 
   -- ---- tags
   abbrev LateTag : TagRead → Type 0
-  LateTag r = LateTagged (length s) (r .answer)
+  LateTag r = LateTagged (s ++ t) (length s) (r .answer)
 
   attrs-grows : (name : Name) (room : ℕ) (l : List Attr) (i : ℕ) → Grows LateTag (length s) i (attrsFrom s name l room i) (attrsFrom (s ++ t) name l room i)
   unfolding attrsFrom
-  attrs-grows name zero l i = grows-bind LateTag (length s) i (LateTurn (length s)) (fullTurn name l) (fullTurn name l) each (turnAt s i) (turnAt (s ++ t) i) (turn-grows i)
+  attrs-grows name zero l i = grows-bind LateTag (length s) i (LateTurn (s ++ t) (length s)) (fullTurn name l) (fullTurn name l) each (turnAt s i) (turnAt (s ++ t) i) (turn-grows i)
     where
-      each : (r : Turn) → Ext LateTag (fullTurn name l r) (fullTurn name l r) × (LateTurn (length s) r → LateTag (fullTurn name l r))
+      each : (r : Turn) → Ext LateTag (fullTurn name l r) (fullTurn name l r) × (LateTurn (s ++ t) (length s) r → LateTag (fullTurn name l r))
       each (turn.Close next empty) = (inl refl, λ h. tt)
       each (turn.Attribute j) = (inl refl, λ h. omega arith)
       each (turn.Stopped x) = (inl refl, λ h. h)
   attrs-grows name (suc room) l i =
-      grows-bind LateTag (length s) i (LateTurn (length s)) (turnThen s (more s) name l) (turnThen (s ++ t) (more (s ++ t)) name l) (each (attrs-grows name room)) (turnAt s i) (turnAt (s ++ t) i) (turn-grows i)
+      grows-bind LateTag (length s) i (LateTurn (s ++ t) (length s)) (turnThen s (more s) name l) (turnThen (s ++ t) (more (s ++ t)) name l) (each (attrs-grows name room)) (turnAt s i) (turnAt (s ++ t) i) (turn-grows i)
     where
       more : List ℕ → List Attr → ℕ → TagRead
       more scene l′ k = attrsFrom scene name l′ room k
@@ -483,33 +510,33 @@ module _ (s t : List ℕ) where
       More : Type 0
       More = (l′ : List Attr) (k : ℕ) → Grows LateTag (length s) k (more s l′ k) (more (s ++ t) l′ k)
 
-      one : More → (r : Attributed) → Ext LateTag (attrThen (more s) l r) (attrThen (more (s ++ t)) l r) × (LateAttributed (length s) r → LateTag (attrThen (more (s ++ t)) l r))
+      one : More → (r : Attributed) → Ext LateTag (attrThen (more s) l r) (attrThen (more (s ++ t)) l r) × (LateAttributed (s ++ t) (length s) r → LateTag (attrThen (more (s ++ t)) l r))
       one h (attributed.Got a) = grows-later LateTag (length s) (a .stop) (a .stop + 1) (omega arith) (h (l ++ (a ∷ [])) (a .stop + 1))
       one h (attributed.Stopped x) = (inl refl, λ le. le)
 
-      each : More → (r : Turn) → Ext LateTag (turnThen s (more s) name l r) (turnThen (s ++ t) (more (s ++ t)) name l r) × (LateTurn (length s) r → LateTag (turnThen (s ++ t) (more (s ++ t)) name l r))
+      each : More → (r : Turn) → Ext LateTag (turnThen s (more s) name l r) (turnThen (s ++ t) (more (s ++ t)) name l r) × (LateTurn (s ++ t) (length s) r → LateTag (turnThen (s ++ t) (more (s ++ t)) name l r))
       each h (turn.Close next empty) = (inl refl, λ le. tt)
-      each h (turn.Attribute j) = grows-bind LateTag (length s) j (LateAttributed (length s)) (attrThen (more s) l) (attrThen (more (s ++ t)) l) (one h) (attributeAt s j) (attributeAt (s ++ t) j) (attribute-grows j)
+      each h (turn.Attribute j) = grows-bind LateTag (length s) j (LateAttributed (s ++ t) (length s)) (attrThen (more s) l) (attrThen (more (s ++ t)) l) (one h) (attributeAt s j) (attributeAt (s ++ t) j) (attribute-grows j)
       each h (turn.Stopped x) = (inl refl, λ le. le)
 
   pub tag-grows : (at : ℕ) → Grows LateTag (length s) at (tagAt s at) (tagAt (s ++ t) at)
   unfolding tagAt
-  tag-grows at = grows-afterName LateTag (length s) at (tagStopped []) (λ x l. l) (name-grows at) (λ name. attrs-grows name 16 [] (name .end))
+  tag-grows at = grows-afterName LateTag (length s) at (s ++ t) (tagStopped []) (λ x l. l) (name-grows at) (λ name. attrs-grows name 16 [] (name .end))
 
-  pub endTag-grows : (at : ℕ) → Grows (LateEnded (length s)) (length s) at (endTagAt s at) (endTagAt (s ++ t) at)
+  pub endTag-grows : (at : ℕ) → Grows (LateEnded (s ++ t) (length s)) (length s) at (endTagAt s at) (endTagAt (s ++ t) at)
   unfolding endTagAt
   endTag-grows at =
-      grows-afterName L (length s) at ended.Stopped (λ x l. l) (name-grows at) (λ name.
-      grows-after L (length s) (name .end) ended.Stopped (λ x l. l) (spaces-grows (name .end)) (λ i.
-      grows-after L (length s) i ended.Stopped (λ x l. l) (wanted-grows i 0x3E) (λ j. grows-same L (length s) j (ended.Got (record { name = name; next = j })) (λ out. tt))))
+      grows-afterName L (length s) at (s ++ t) ended.Stopped (λ x l. l) (name-grows at) (λ name.
+      grows-after L (length s) (name .end) (s ++ t) ended.Stopped (λ x l. l) (spaces-grows (name .end)) (λ i.
+      grows-after L (length s) i (s ++ t) ended.Stopped (λ x l. l) (wanted-grows i 0x3E) (λ j. grows-same L (length s) j (ended.Got (record { name = name; next = j })) (λ out. tt))))
     where
       L : Ended → Type 0
-      L = LateEnded (length s)
+      L = LateEnded (s ++ t) (length s)
 
   -- ---- the declaration
   word-grows : (at : ℕ) (word : List ℕ) → Reads at (wordEnd s at word) (wordEnd (s ++ t) at word)
   unfolding wordEnd
-  word-grows at [] = grows-same (LateRead (length s)) (length s) at (read.End at) (λ out. out)
+  word-grows at [] = grows-same (LateRead (s ++ t) (length s)) (length s) at (read.End at) (λ out. out)
   word-grows at (c ∷ word) = then at (wanted-grows at c) (λ i. word-grows i word)
 
   some-grows : (f : Field) (at quote : ℕ) → Reads at (someEnd s f at quote) (someEnd (s ++ t) f at quote)
@@ -545,19 +572,19 @@ module _ (s t : List ℕ) where
       (grows-cond L (length s) i (eqb i at) (grows-same L (length s) i (turn.Stopped (Bad i)) (λ out. omega arith)) (grows-same L (length s) i (turn.Attribute i) (λ out. out))))
     where
       L : Turn → Type 0
-      L = LateTurn (length s)
+      L = LateTurn (s ++ t) (length s)
 
   -- what stands behind a field, by what may follow
   fieldThen-grows : (more more′ : ℕ → Read) → ((j : ℕ) → Reads j (more j) (more′ j)) → (at : ℕ) → Reads at (fieldThen more (fieldTurn s at)) (fieldThen more′ (fieldTurn (s ++ t) at))
   unfolding fieldTurn
   fieldThen-grows more more′ h at =
-      grows-bind L (length s) at (LateTurn (length s)) (fieldThen more) (fieldThen more′) each (fieldTurn s at) (fieldTurn (s ++ t) at)
-      (grows-after (LateTurn (length s)) (length s) at turn.Stopped (λ x l. l) (spaces-grows at) (turnFrom-grows at))
+      grows-bind L (length s) at (LateTurn (s ++ t) (length s)) (fieldThen more) (fieldThen more′) each (fieldTurn s at) (fieldTurn (s ++ t) at)
+      (grows-after (LateTurn (s ++ t) (length s)) (length s) at (s ++ t) turn.Stopped (λ x l. l) (spaces-grows at) (turnFrom-grows at))
     where
       L : Read → Type 0
-      L = LateRead (length s)
+      L = LateRead (s ++ t) (length s)
 
-      each : (r : Turn) → Ext L (fieldThen more r) (fieldThen more′ r) × (LateTurn (length s) r → L (fieldThen more′ r))
+      each : (r : Turn) → Ext L (fieldThen more r) (fieldThen more′ r) × (LateTurn (s ++ t) (length s) r → L (fieldThen more′ r))
       each (turn.Close next empty) = (inl refl, λ l. l)
       each (turn.Attribute i) = h i
       each (turn.Stopped x) = (inl refl, λ l. l)
@@ -600,29 +627,12 @@ module _ (s t : List ℕ) where
   unfolding behindTarget
   target-grows at = byte at (λ b. either at (isSpace b) (on at (content-grows (at + 1))) (either at (eqb b 0x3F) (on at (wanted-grows (at + 1) 0x3E)) (bad-grows at)))
 
-  -- the target xml: three bytes, and the byte behind them decides
-  xml-long : (l : List ℕ) (at j : ℕ) → isXml l at j ≡ true → j ≡ at + 3
-  unfolding isXml
-  xml-long l at j e = eqb-true j (at + 3) (and-left _ _ (and-left _ _ (and-left _ _ e)))
-
-  xml-short : (l : List ℕ) (at j : ℕ) → j < at + 3 → isXml l at j ≡ false
-  unfolding isXml
-  xml-short l at j lt = rw (ne-eqb j (at + 3) (λ e. omega arith))
-
-  xml-kept : (at j : ℕ) → at + 3 ≤ length s → isXml (s ++ t) at j ≡ isXml s at j
-  unfolding isXml
-  xml-kept at j le = rw (List·getD-append s t 0 at (omega arith), List·getD-append s t 0 (at + 1) (omega arith), List·getD-append s t 0 (at + 2) (omega arith))
-
-  declared-kept : (at : ℕ) → at + 3 ≤ length s → isDeclared (s ++ t) at ≡ isDeclared s at
-  unfolding isDeclared
-  declared-kept at le = rw (List·getD-append s t 0 at (omega arith), List·getD-append s t 0 (at + 1) (omega arith), List·getD-append s t 0 (at + 2) (omega arith))
-
   instruction-grows : (at : ℕ) → Reads at (instructionEnd s at) (instructionEnd (s ++ t) at)
   unfolding instructionEnd
   instruction-grows at = then at (part-grows at) (λ j. grows-split L (length s) j (late j) (same j))
     where
       L : Read → Type 0
-      L = LateRead (length s)
+      L = LateRead (s ++ t) (length s)
 
       behind : List ℕ → ℕ → Read
       behind l j = cond (isXml l at j) (cond (isDeclared l at) (declarationEnd l j) (read.Stopped (Bad at))) (behindTarget l j)
@@ -630,15 +640,15 @@ module _ (s t : List ℕ) where
       late : (j : ℕ) → length s ≤ j → L (behind (s ++ t) j)
       late j out =
           holds-cond L (isXml (s ++ t) at j)
-          (λ x. holds-cond L (isDeclared (s ++ t) at) (λ e. declaration-grows j .1 out) (λ e. omega (arith, xml-long (s ++ t) at j x)))
+          (λ x. holds-cond L (isDeclared (s ++ t) at) (λ e. declaration-grows j .1 out) (λ e. omega (arith, xml-three (s ++ t) at j x, settled-xml (s ++ t) at j x)))
           (λ x. target-grows j .1 out)
 
+      declared : (j : ℕ) (x : Bool) → isXml s at j ≡ x → j < length s → Ext L (cond x (cond (isDeclared s at) (declarationEnd s j) (read.Stopped (Bad at))) (behindTarget s j)) (cond x (cond (isDeclared (s ++ t) at) (declarationEnd (s ++ t) j) (read.Stopped (Bad at))) (behindTarget (s ++ t) j))
+      declared j true q lt = rw (declared-kept s t at (omega (arith, xml-three s at j q))) (ext-cond L (isDeclared s at) (declaration-grows j .0) (inl refl))
+      declared j false q lt = target-grows j .0
+
       same : (j : ℕ) → j < length s → Ext L (behind s j) (behind (s ++ t) j)
-      same j lt =
-          ⊎-elim
-          (λ le. rw (xml-kept at j le, declared-kept at le) (ext-cond L (isXml s at j) (ext-cond L (isDeclared s at) (declaration-grows j .0) (inl refl)) (target-grows j .0)))
-          (λ gt. rw (xml-short s at j (omega arith), xml-short (s ++ t) at j (omega arith)) (target-grows j .0))
-          (le-or-lt (at + 3) (length s))
+      same j lt = rw (xml-kept s t at j lt) (declared j (isXml s at j) refl lt)
 
   -- by the byte behind its <
   pub misc-grows : (at : ℕ) → Reads (at + 1) (miscEnd s at) (miscEnd (s ++ t) at)
@@ -646,11 +656,11 @@ module _ (s t : List ℕ) where
   misc-grows at = byte (at + 1) (λ b. either (at + 1) (eqb b 0x3F) (further (instruction-grows (at + 2))) (further (comment-grows (at + 2))))
     where
       further : {a b : Read} → Reads (at + 2) a b → Reads (at + 1) a b
-      further = grows-later (LateRead (length s)) (length s) (at + 1) (at + 2) (omega arith)
+      further = grows-later (LateRead (s ++ t) (length s)) (length s) (at + 1) (at + 2) (omega arith)
 
   -- ---- where the next event begins
   abbrev Looks : ℕ → Ahead → Ahead → Type 0
-  Looks = Grows (LateAhead (length s)) (length s)
+  Looks = Grows (LateAhead (s ++ t) (length s)) (length s)
 
   -- by the byte behind a <
   markup-grows : (inside closed : Bool) (at : ℕ) → Looks (at + 1) (markupAt s inside closed at) (markupAt (s ++ t) inside closed at)
@@ -658,11 +668,11 @@ module _ (s t : List ℕ) where
   markup-grows inside closed at =
       grows-peek L s t (at + 1) (stoppedAhead Cut) tt (λ b.
       if (eqb b 0x2F) (if inside (only (ahead.Event (begin.End at)) (λ out. out)) bad)
-      (if (opensMisc b) (grows-after L (length s) (at + 1) stoppedAhead (λ x l. l) (misc-grows at) (λ j. grows-same L (length s) j (ahead.Misc j) (λ out. out)))
+      (if (opensMisc b) (grows-after L (length s) (at + 1) (s ++ t) stoppedAhead (λ x l. l) (misc-grows at) (λ j. grows-same L (length s) j (ahead.Misc j) (λ out. out)))
       (if (inside || not closed) (only (ahead.Event (begin.Start at)) (λ out. out)) bad)))
     where
       L : Ahead → Type 0
-      L = LateAhead (length s)
+      L = LateAhead (s ++ t) (length s)
 
       if : (x : Bool) {a b a′ b′ : Ahead} → Looks (at + 1) a a′ → Looks (at + 1) b b′ → Looks (at + 1) (cond x a b) (cond x a′ b′)
       if = grows-cond L (length s) (at + 1)
@@ -681,50 +691,50 @@ module _ (s t : List ℕ) where
       (grows-cond L (length s) at inside (grows-same L (length s) at (ahead.Event (begin.Text at)) (λ out. out)) (grows-same L (length s) at (stoppedAhead (Bad at)) (λ out. omega arith))))
     where
       L : Ahead → Type 0
-      L = LateAhead (length s)
+      L = LateAhead (s ++ t) (length s)
 
   pub ahead-grows : (inside closed : Bool) (at : ℕ) → Looks at (aheadAt s inside closed at) (aheadAt (s ++ t) inside closed at)
   unfolding aheadAt
   ahead-grows inside closed at =
       grows-cond L (length s) at inside (eitherAt-grows true closed at)
-      (grows-after L (length s) at (ending closed) (λ x l. holds-cond L closed (λ e. tt) (λ e. l)) (spaces-grows at) (eitherAt-grows false closed))
+      (grows-after L (length s) at (s ++ t) (ending closed) (λ x l. holds-cond L closed (λ e. tt) (λ e. l)) (spaces-grows at) (eitherAt-grows false closed))
     where
       L : Ahead → Type 0
-      L = LateAhead (length s)
+      L = LateAhead (s ++ t) (length s)
 
   -- ---- each half by itself
-  pub value-ext : (at quote : ℕ) → Ext (LateRead (length s)) (valueEnd s at quote) (valueEnd (s ++ t) at quote)
+  pub value-ext : (at quote : ℕ) → Ext (LateRead (s ++ t) (length s)) (valueEnd s at quote) (valueEnd (s ++ t) at quote)
   value-ext at quote = value-grows at quote .0
 
-  pub value-late : (at quote : ℕ) → length s ≤ at → LateRead (length s) (valueEnd (s ++ t) at quote)
+  pub value-late : (at quote : ℕ) → length s ≤ at → LateRead (s ++ t) (length s) (valueEnd (s ++ t) at quote)
   value-late at quote = value-grows at quote .1
 
-  pub tag-ext : (at : ℕ) → Ext (λ (r : TagRead). LateTagged (length s) (r .answer)) (tagAt s at) (tagAt (s ++ t) at)
+  pub tag-ext : (at : ℕ) → Ext (λ (r : TagRead). LateTagged (s ++ t) (length s) (r .answer)) (tagAt s at) (tagAt (s ++ t) at)
   tag-ext at = tag-grows at .0
 
-  pub tag-late : (at : ℕ) → length s ≤ at → LateTagged (length s) (tagAt (s ++ t) at .answer)
+  pub tag-late : (at : ℕ) → length s ≤ at → LateTagged (s ++ t) (length s) (tagAt (s ++ t) at .answer)
   tag-late at = tag-grows at .1
 
-  pub endTag-ext : (at : ℕ) → Ext (LateEnded (length s)) (endTagAt s at) (endTagAt (s ++ t) at)
+  pub endTag-ext : (at : ℕ) → Ext (LateEnded (s ++ t) (length s)) (endTagAt s at) (endTagAt (s ++ t) at)
   endTag-ext at = endTag-grows at .0
 
-  pub endTag-late : (at : ℕ) → length s ≤ at → LateEnded (length s) (endTagAt (s ++ t) at)
+  pub endTag-late : (at : ℕ) → length s ≤ at → LateEnded (s ++ t) (length s) (endTagAt (s ++ t) at)
   endTag-late at = endTag-grows at .1
 
-  pub misc-ext : (at : ℕ) → Ext (LateRead (length s)) (miscEnd s at) (miscEnd (s ++ t) at)
+  pub misc-ext : (at : ℕ) → Ext (LateRead (s ++ t) (length s)) (miscEnd s at) (miscEnd (s ++ t) at)
   misc-ext at = misc-grows at .0
 
-  pub ahead-ext : (inside closed : Bool) (at : ℕ) → Ext (LateAhead (length s)) (aheadAt s inside closed at) (aheadAt (s ++ t) inside closed at)
+  pub ahead-ext : (inside closed : Bool) (at : ℕ) → Ext (LateAhead (s ++ t) (length s)) (aheadAt s inside closed at) (aheadAt (s ++ t) inside closed at)
   ahead-ext inside closed at = ahead-grows inside closed at .0
 
-  pub ahead-late : (inside closed : Bool) (at : ℕ) → length s ≤ at → LateAhead (length s) (aheadAt (s ++ t) inside closed at)
+  pub ahead-late : (inside closed : Bool) (at : ℕ) → length s ≤ at → LateAhead (s ++ t) (length s) (aheadAt (s ++ t) inside closed at)
   ahead-late inside closed at = ahead-grows inside closed at .1
 
   -- ---- and behind any number of misc
-  pub begin-late : (at : ℕ) (inside closed : Bool) → length s ≤ at → LateBegin (length s) (beginAt (s ++ t) at inside closed)
+  pub begin-late : (at : ℕ) (inside closed : Bool) → length s ≤ at → LateBegin (s ++ t) (length s) (beginAt (s ++ t) at inside closed)
   begin-late at inside closed =
-      begin-held (s ++ t) inside closed (λ (i : ℕ) (b : Begin). length s ≤ i → LateBegin (length s) b)
-      (λ i b e out. subst (LateAhead (length s)) e (ahead-late inside closed i out))
+      begin-held (s ++ t) inside closed (λ (i : ℕ) (b : Begin). length s ≤ i → LateBegin (s ++ t) (length s) b)
+      (λ i b e out. subst (LateAhead (s ++ t) (length s)) e (ahead-late inside closed i out))
       (λ i j b e h k out. k (omega arith))
       at
 
@@ -732,18 +742,18 @@ module _ (s t : List ℕ) where
   looked : (at : ℕ) (inside closed : Bool) (a : Ahead) → aheadAt (s ++ t) inside closed at ≡ a → beginAt (s ++ t) at inside closed ≡ aheadThen (λ (j : ℕ). beginAt (s ++ t) j inside closed) a
   looked at inside closed a e = begin-is (s ++ t) at inside closed ∙ ap (aheadThen (λ (j : ℕ). beginAt (s ++ t) j inside closed)) e
 
-  looked-late : (at : ℕ) (inside closed : Bool) (a : Ahead) → aheadAt (s ++ t) inside closed at ≡ a → LateAhead (length s) a → LateBegin (length s) (beginAt (s ++ t) at inside closed)
+  looked-late : (at : ℕ) (inside closed : Bool) (a : Ahead) → aheadAt (s ++ t) inside closed at ≡ a → LateAhead (s ++ t) (length s) a → LateBegin (s ++ t) (length s) (beginAt (s ++ t) at inside closed)
   looked-late at inside closed (ahead.Event b) e l = rw (looked at inside closed (ahead.Event b) e) l
   looked-late at inside closed (ahead.Misc j) e l = rw (looked at inside closed (ahead.Misc j) e) (begin-late j inside closed l)
 
-  pub begin-ext : (at : ℕ) (inside closed : Bool) → Ext (LateBegin (length s)) (beginAt s at inside closed) (beginAt (s ++ t) at inside closed)
+  pub begin-ext : (at : ℕ) (inside closed : Bool) → Ext (LateBegin (s ++ t) (length s)) (beginAt s at inside closed) (beginAt (s ++ t) at inside closed)
   begin-ext at inside closed =
-      begin-held s inside closed (λ (i : ℕ) (b : Begin). Ext (LateBegin (length s)) b (beginAt (s ++ t) i inside closed))
+      begin-held s inside closed (λ (i : ℕ) (b : Begin). Ext (LateBegin (s ++ t) (length s)) b (beginAt (s ++ t) i inside closed))
       (λ i b e. from i (ahead.Event b) e b (inl refl))
       (λ i j b e h k. from i (ahead.Misc j) e b k)
       at
     where
-      from : (i : ℕ) (a : Ahead) → aheadAt s inside closed i ≡ a → (b : Begin) → Ext (LateBegin (length s)) b (aheadThen (λ (j : ℕ). beginAt (s ++ t) j inside closed) a) → Ext (LateBegin (length s)) b (beginAt (s ++ t) i inside closed)
+      from : (i : ℕ) (a : Ahead) → aheadAt s inside closed i ≡ a → (b : Begin) → Ext (LateBegin (s ++ t) (length s)) b (aheadThen (λ (j : ℕ). beginAt (s ++ t) j inside closed) a) → Ext (LateBegin (s ++ t) (length s)) b (beginAt (s ++ t) i inside closed)
       from i a e b k =
           ⊎-elim
           (λ q. rw (looked i inside closed a (q ∙ e)) k)

@@ -1,5 +1,4 @@
--- More bytes behind a scene: the reader says the same, or no 2 and no 3 more than three bytes before the scene's end. So a refused byte, and at most
--- three bytes behind it, settle the refusal.
+-- More bytes behind a scene: the reader says the same, or no 2 and no 3 that is settled before the scene's end.
 --     LateNext, next-ext                     the same answer, or a late one
 --     MeaningNumber, meaning-number          what a tag means is no 2 and no 3
 --     next-stays                             a 2 or a 3 stays
@@ -43,22 +42,23 @@ use Rattle.reader.specs.Held.{Held}
 use Rattle.reader.specs.declared.Binding.{Binding}
 use Rattle.reader.proofs.Held.{NextHeld, next-held}
 use Rattle.reader.proofs.NextStable.{Placed, next-placed, next-stable, refusal-stable}
+use Rattle.demands.specs.Answers.{settled}
 use Rattle.demands.proofs.Late.{Ext, ext-bind, LateStop, LateRead, LateTagged, LateEnded, LateBegin, value-ext, value-late, tag-ext, tag-late, endTag-ext, endTag-late, begin-ext, finished-on}
 
 -- ---- 2 and 3
-abbrev pub LateNext : ℕ → scene.Next → Type 0
-LateNext n (scene.event e z) = Unit {0}
-LateNext n (scene.refusal m p) = (2 ≤ m) → (m ≤ 3) → n ≤ p + 3
-LateNext n (scene.finished p) = Unit {0}
+abbrev pub LateNext : List ℕ → ℕ → scene.Next → Type 0
+LateNext S n (scene.event e z) = Unit {0}
+LateNext S n (scene.refusal m p) = (2 ≤ m) → (m ≤ 3) → n ≤ p + settled S p
+LateNext S n (scene.finished p) = Unit {0}
 
 -- what a tag means is no 2 and no 3
 abbrev pub MeaningNumber : Meaning → Type 0
 MeaningNumber (refused k) = 5 ≤ k
 MeaningNumber (meant x as′ own) = Unit {0}
 
-meant-late : (n at : ℕ) (os : List scene.Open) (tag : Tag) (m : Meaning) → MeaningNumber m → LateNext n (scene.startMeant at os tag m)
-meant-late n at os tag (refused k) h = λ lo hi. absurd (omega arith)
-meant-late n at os tag (meant x as′ own) h = tt
+meant-late : (S : List ℕ) (n at : ℕ) (os : List scene.Open) (tag : Tag) (m : Meaning) → MeaningNumber m → LateNext S n (scene.startMeant at os tag m)
+meant-late S n at os tag (refused k) h = λ lo hi. absurd (omega arith)
+meant-late S n at os tag (meant x as′ own) h = tt
 
 pub meaning-number : (s : List ℕ) (bs : List Binding) (n : Name) (attrs : List Attr) → MeaningNumber (meaningOf s bs n attrs)
 unfolding meaningOf
@@ -73,12 +73,12 @@ meaning-number s bs n attrs =
 
 module _ (s t : List ℕ) (z : scene.ReaderState) where
   N : scene.Next → Type 0
-  N = LateNext (length s)
+  N = LateNext (s ++ t) (length s)
 
-  stopped-late : (x : Stop) → LateStop (length s) x → N (scene.stopped (s ++ t) x)
+  stopped-late : (x : Stop) → LateStop (s ++ t) (length s) x → N (scene.stopped (s ++ t) x)
   unfolding N
   stopped-late (Bad j) h lo hi = h
-  stopped-late (Long j) h lo hi = h
+  stopped-late (Long j) h lo hi = omega arith
   stopped-late Cut h lo hi = absurd (omega arith)
 
   stopped-ext : (x : Stop) → Ext N (scene.stopped s x) (scene.stopped (s ++ t) x)
@@ -87,7 +87,7 @@ module _ (s t : List ℕ) (z : scene.ReaderState) where
   stopped-ext (Long j) = inl refl
   stopped-ext Cut = inr (λ lo hi. absurd (omega arith))
 
-  text-late : (at : ℕ) (r : Read) → LateRead (length s) r → N (scene.textRead (s ++ t) z at r)
+  text-late : (at : ℕ) (r : Read) → LateRead (s ++ t) (length s) r → N (scene.textRead (s ++ t) z at r)
   unfolding N
   text-late at (read.End j) h = tt
   text-late at (read.Stopped x) h = stopped-late x h
@@ -95,14 +95,14 @@ module _ (s t : List ℕ) (z : scene.ReaderState) where
   text-ext : (at : ℕ) → Ext N (scene.textRead s z at (textEnd s at)) (scene.textRead (s ++ t) z at (textEnd (s ++ t) at))
   unfolding N
   text-ext at =
-      ext-bind (LateRead (length s)) N (scene.textRead s z at) (scene.textRead (s ++ t) z at) same (text-late at) (textEnd s at) (textEnd (s ++ t) at) (value-ext s t at 0x3C)
+      ext-bind (LateRead (s ++ t) (length s)) N (scene.textRead s z at) (scene.textRead (s ++ t) z at) same (text-late at) (textEnd s at) (textEnd (s ++ t) at) (value-ext s t at 0x3C)
     where
       same : (r : Read) → Ext N (scene.textRead s z at r) (scene.textRead (s ++ t) z at r)
       same (read.End j) = inr tt
       same (read.Stopped x) = stopped-ext x
 
   -- 4 is no 2 and no 3
-  got-late : (at : ℕ) (o : scene.Open) (os : List scene.Open) (r : Ended) → LateEnded (length s) r → N (scene.endRead (s ++ t) at (o ∷ os) r)
+  got-late : (at : ℕ) (o : scene.Open) (os : List scene.Open) (r : Ended) → LateEnded (s ++ t) (length s) r → N (scene.endRead (s ++ t) at (o ∷ os) r)
   unfolding N
   got-late at o os (ended.Stopped x) h = stopped-late x h
   got-late at o os (ended.Got e) h =
@@ -111,7 +111,7 @@ module _ (s t : List ℕ) (z : scene.ReaderState) where
   end-ext : (at : ℕ) (os : List scene.Open) → Ext N (scene.endRead s at os (endTagAt s (at + 2))) (scene.endRead (s ++ t) at os (endTagAt (s ++ t) (at + 2)))
   end-ext at [] = inl refl
   end-ext at (o ∷ os) =
-      ext-bind (LateEnded (length s)) N (scene.endRead s at (o ∷ os)) (scene.endRead (s ++ t) at (o ∷ os)) same (got-late at o os) (endTagAt s (at + 2)) (endTagAt (s ++ t) (at + 2)) (endTag-ext s t (at + 2))
+      ext-bind (LateEnded (s ++ t) (length s)) N (scene.endRead s at (o ∷ os)) (scene.endRead (s ++ t) at (o ∷ os)) same (got-late at o os) (endTagAt s (at + 2)) (endTagAt (s ++ t) (at + 2)) (endTag-ext s t (at + 2))
     where
       same : (r : Ended) → Ext N (scene.endRead s at (o ∷ os) r) (scene.endRead (s ++ t) at (o ∷ os) r)
       same (ended.Stopped x) = stopped-ext x
@@ -122,14 +122,14 @@ module _ (s t : List ℕ) (z : scene.ReaderState) where
   end-late at le [] = λ lo hi. omega arith
   end-late at le (o ∷ os) = got-late at o os (endTagAt (s ++ t) (at + 2)) (endTag-late s t (at + 2) (omega arith))
 
-  tagged-late : (at : ℕ) (os : List scene.Open) (r : TagRead) (a : Tagged) → LateTagged (length s) a → N (scene.startRead (s ++ t) at os r a)
+  tagged-late : (at : ℕ) (os : List scene.Open) (r : TagRead) (a : Tagged) → LateTagged (s ++ t) (length s) a → N (scene.startRead (s ++ t) at os r a)
   unfolding N
   tagged-late at os r (tagged.Stopped x) h = stopped-late x h
-  tagged-late at os r (tagged.Got e) h = meant-late (length s) at os e (meaningOf (s ++ t) (scene.bindingsOf os) (e .name) (r .attrs)) (meaning-number (s ++ t) (scene.bindingsOf os) (e .name) (r .attrs))
+  tagged-late at os r (tagged.Got e) h = meant-late (s ++ t) (length s) at os e (meaningOf (s ++ t) (scene.bindingsOf os) (e .name) (r .attrs)) (meaning-number (s ++ t) (scene.bindingsOf os) (e .name) (r .attrs))
 
   start-ext : (at : ℕ) (os : List scene.Open) → Ext N (scene.startRead s at os (tagAt s (at + 1)) (tagAt s (at + 1) .answer)) (scene.startRead (s ++ t) at os (tagAt (s ++ t) (at + 1)) (tagAt (s ++ t) (at + 1) .answer))
   start-ext at os =
-      ext-bind (λ (r : TagRead). LateTagged (length s) (r .answer)) N (λ (r : TagRead). scene.startRead s at os r (r .answer)) (λ (r : TagRead). scene.startRead (s ++ t) at os r (r .answer))
+      ext-bind (λ (r : TagRead). LateTagged (s ++ t) (length s) (r .answer)) N (λ (r : TagRead). scene.startRead s at os r (r .answer)) (λ (r : TagRead). scene.startRead (s ++ t) at os r (r .answer))
       (λ r. same r (r .answer))
       (λ r h. tagged-late at os r (r .answer) h)
       (tagAt s (at + 1))
@@ -143,7 +143,7 @@ module _ (s t : List ℕ) (z : scene.ReaderState) where
   begun-ext : (inside : Bool) → Ext N (scene.begun s z (beginAt s (z .place) inside (z .closed))) (scene.begun (s ++ t) z (beginAt (s ++ t) (z .place) inside (z .closed)))
   unfolding N
   begun-ext inside =
-      ext-bind (LateBegin (length s)) N (scene.begun s z) (scene.begun (s ++ t) z) same late (beginAt s (z .place) inside (z .closed)) (beginAt (s ++ t) (z .place) inside (z .closed)) (begin-ext s t (z .place) inside (z .closed))
+      ext-bind (LateBegin (s ++ t) (length s)) N (scene.begun s z) (scene.begun (s ++ t) z) same late (beginAt s (z .place) inside (z .closed)) (beginAt (s ++ t) (z .place) inside (z .closed)) (begin-ext s t (z .place) inside (z .closed))
     where
       same : (b : Begin) → Ext N (scene.begun s z b) (scene.begun (s ++ t) z b)
       same (begin.Stopped x) = stopped-ext x
@@ -152,7 +152,7 @@ module _ (s t : List ℕ) (z : scene.ReaderState) where
       same (begin.End at) = end-ext at (z .opened)
       same (begin.Start at) = start-ext at (z .opened)
 
-      late : (b : Begin) → LateBegin (length s) b → N (scene.begun (s ++ t) z b)
+      late : (b : Begin) → LateBegin (s ++ t) (length s) b → N (scene.begun (s ++ t) z b)
       late (begin.Stopped x) h = stopped-late x h
       late begin.Finished h = tt
       late (begin.Text at) h = text-late at (textEnd (s ++ t) at) (value-late s t at 0x3C h)
@@ -160,7 +160,7 @@ module _ (s t : List ℕ) (z : scene.ReaderState) where
       late (begin.Start at) h = tagged-late at (z .opened) (tagAt (s ++ t) (at + 1)) (tagAt (s ++ t) (at + 1) .answer) (tag-late s t (at + 1) h)
 
   -- with more bytes the reader says the same, or no 2 and no 3 more than three bytes before the scene's end
-  pub next-ext : Ext (LateNext (length s)) (scene.next s z) (scene.next (s ++ t) z)
+  pub next-ext : Ext (LateNext (s ++ t) (length s)) (scene.next s z) (scene.next (s ++ t) z)
   unfolding scene.next N
   next-ext = by (z .awaited) (z .opened)
     where

@@ -411,7 +411,7 @@ module _ (s : List ℕ) (at : ℕ) where
                 rw (append-assoc (p .more) closing u) (instruction-closes S at j (p .done 0x3F (0x3E ∷ u) refl) no ends ∙ ap read.End last);
           }
       by true x =
-          let three : j ≡ at + 3 = xml-three (l ++ (0x3F ∷ [])) [] at j x in
+          let three : j ≡ at + 3 = xml-three (l ++ (0x3F ∷ [])) at j x in
           let letters : Letters l at = letters-before l (0x3F ∷ []) at (omega (arith, long)) (xml-letters (l ++ (0x3F ∷ [])) at j x) in
           let w : List ℕ = 0x61 ∷ 0x3F ∷ 0x3E ∷ [] in
           record {
@@ -435,7 +435,7 @@ module _ (s : List ℕ) (at : ℕ) where
   target-whole : (j : ℕ) → partEnd s at ≡ read.End j → PartTo s at j → (x : Bool) → isXml s at j ≡ x → (d : Bool) → isDeclared s at ≡ d → cond x (cond d (declarationEnd s j) (read.Stopped (Bad at))) (behindTarget s j) ≡ read.Stopped Cut → Rest instructionEnd s at 16
   unfolding instructionEnd
   target-whole j p to true x true d e =
-      let three = xml-three s s at j x in
+      let three = xml-three s at j x in
       let r = declaration-goes s j (to .1) e in
       record {
         more = r .more;

@@ -1,7 +1,7 @@
--- A refused byte and at most three behind it settle the refusal: before it the scene ends too soon, and what stands behind changes nothing. A scene that
--- ends too soon can go on.
+-- A refused byte settles its refusal, that of a target xml or of ]]> with a few behind it: before it the scene ends too soon, and what stands behind
+-- changes nothing. A scene that ends too soon can go on.
 --     refused-before, refused-closed     the bytes before the place of a refusal by the reader: 1, behind the root 1 or 9
---     refused-after, refused-until       the bytes up to three behind the place of a 2 or a 3: the same, whatever stands behind; until then the same or 1
+--     refused-after, refused-until       the bytes up to the place of a 2 or a 3, and those that settle it: the same, whatever stands behind; until then the same or 1
 --     cut-completed                      1: a few bytes more, and the event is read to its end, or the scene finishes
 use Prim.Native.Nat.{ℕ, _+_, _≤_, _<_}
 use mathlib.Core.Path.{_≡_, refl, sym, subst, _∙_}
@@ -24,7 +24,7 @@ use Rattle.dispatcher.specs.declared.Session.{Session}
 use Rattle.demands.proofs.CoherentHeld.{coherent-held, coherent-more}
 use Rattle.demands.proofs.CompletedNext.{Whole, next-completed}
 use Rattle.demands.proofs.LateNext.{LateNext, next-ext, next-stays, next-until}
-use Rattle.demands.specs.Answers.{Ready, Answered, bad-table, long-scene, bad-session, unread, all-read, limited, no-room, wrote, Through, Completes}
+use Rattle.demands.specs.Answers.{Ready, Answered, bad-table, long-scene, bad-session, unread, all-read, limited, no-room, wrote, settled, Through, Completes}
 use Rattle.demands.proofs.Refusals.{answered-by, answered-so, exactly-read}
 
 -- n at the place p, by the reader
@@ -53,23 +53,27 @@ module _ (table s : List ℕ) (z : Session) (out : List ℕ) (n p : ℕ) (lo : 2
   reads : Ready table s z × (next s (readerOf z) ≡ refusal n p)
   reads = told table s z out n p (omega arith) (omega arith) q at
 
-  up-to : next (take (p + 4) s) (readerOf z) ≡ refusal n p
-  up-to = ⊎-elim (λ e. sym e ∙ whole) (λ l. ⊎-elim short (λ lt. absurd (omega (arith, late l, length-take-le (p + 4) s (omega arith)))) (le-or-lt (length s) (p + 4))) (next-ext (take (p + 4) s) (drop (p + 4) s) (readerOf z))
+  -- the refused byte, and those behind it that settle it
+  abbrev size : ℕ
+  size = p + 1 + settled s p
+
+  up-to : next (take size s) (readerOf z) ≡ refusal n p
+  up-to = ⊎-elim (λ e. sym e ∙ whole) (λ l. ⊎-elim short (λ lt. absurd (omega (arith, late l, length-take-le size s (omega arith)))) (le-or-lt (length s) size)) (next-ext (take size s) (drop size s) (readerOf z))
     where
-      whole : next (take (p + 4) s ++ drop (p + 4) s) (readerOf z) ≡ refusal n p
-      whole = rw (take-append-drop (p + 4) s) (reads .1)
+      whole : next (take size s ++ drop size s) (readerOf z) ≡ refusal n p
+      whole = rw (take-append-drop size s) (reads .1)
 
-      short : length s ≤ p + 4 → next (take (p + 4) s) (readerOf z) ≡ refusal n p
-      short le = rw (take-all (p + 4) s le) (reads .1)
+      short : length s ≤ size → next (take size s) (readerOf z) ≡ refusal n p
+      short le = rw (take-all size s le) (reads .1)
 
-      late : LateNext (length (take (p + 4) s)) (next (take (p + 4) s ++ drop (p + 4) s) (readerOf z)) → length (take (p + 4) s) ≤ p + 3
-      late l = subst (LateNext (length (take (p + 4) s))) whole l lo hi
+      late : LateNext (take size s ++ drop size s) (length (take size s)) (next (take size s ++ drop size s) (readerOf z)) → length (take size s) ≤ p + settled s p
+      late l = subst (λ (S : List ℕ). length (take size s) ≤ p + settled S p) (take-append-drop size s) (subst (LateNext (take size s ++ drop size s) (length (take size s))) whole l lo hi)
 
-  -- the byte at p and three more settle it, whatever stands behind
-  pub refused-after : (rest : List ℕ) → length (take (p + 4) s ++ rest) ≤ longest → coherent (decode table) (take (p + 4) s ++ rest) z ≡ true → stepOf table (take (p + 4) s ++ rest) z out ≡ refusedStep n p z out
+  -- they settle it, whatever stands behind
+  pub refused-after : (rest : List ℕ) → length (take (p + 1 + settled s p) s ++ rest) ≤ longest → coherent (decode table) (take (p + 1 + settled s p) s ++ rest) z ≡ true → stepOf table (take (p + 1 + settled s p) s ++ rest) z out ≡ refusedStep n p z out
   refused-after rest l c =
-      answered-so table (take (p + 4) s ++ rest) z out
-      (unread (record { accepted = reads .0 .accepted; short = l; fits = c }) n p (next-stays (take (p + 4) s) rest (readerOf z) n p lo hi up-to) (omega arith) (omega arith))
+      answered-so table (take size s ++ rest) z out
+      (unread (record { accepted = reads .0 .accepted; short = l; fits = c }) n p (next-stays (take size s) rest (readerOf z) n p lo hi up-to) (omega arith) (omega arith))
 
   -- "until then the answer is 1"
   pub refused-until : (k : ℕ) → p < k → k ≤ length s → coherent (decode table) (take k s) z ≡ true → (stepOf table (take k s) z out ≡ refusedStep n p z out) ⊎ (stepOf table (take k s) z out ≡ refusedStep 1 k z out)

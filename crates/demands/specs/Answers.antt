@@ -2,13 +2,15 @@
 use Prim.Native.Nat.{ℕ, _+_, _*_, _≤_, _<_}
 use mathlib.Core.Path.{_≡_}
 use mathlib.Core.List.{List, _∷_, _++_}
-use mathlib.Core.Bool.{true, false}
+use mathlib.Core.Bool.{true, false, cond}
 use mathlib.Core.Logic.{_⊎_}
-use lib.ListN.{length, drop}
+use lib.ListN.{length, drop, getD}
 use Rattle.laws.specs.Over.{overwrite}
 use Rattle.laws.specs.Gather.{gather}
 use Rattle.table.specs.Table.{Table, decode}
 use Rattle.table.specs.Judge.{judged}
+use Rattle.lexer.specs.Values.{closes}
+use Rattle.lexer.specs.Misc.{isXml}
 use Rattle.reader.specs.Events as scene
 use Rattle.model.specs.Theory.{Record}
 use Rattle.model.specs.Tree.{start}
@@ -112,6 +114,10 @@ abbrev pub NoRoom : List ℕ → List ℕ → Session → List ℕ → ℕ → T
 NoRoom table s z out p =
     Ready table s z
     × ((rs : List (Record Body ℕ)) × (z″ : Session) × (planOf (decode table) s z ≡ event p rs z″) × (length out < 16 * length rs))
+
+-- "A target xml is decided at p + 3, a ]]> at p + 2": how many bytes behind a refused one settle its refusal, at most
+unfoldable pub settled : List ℕ → ℕ → ℕ
+settled s p = cond (isXml s p (p + 3)) 3 (cond (closes s p 0x3C (getD s (p + 2) 0) (p + 2)) 2 0)
 
 -- an event was read to its end: 0, or a number that is said of a whole event
 abbrev pub Through : ℕ → Type 0

@@ -9,6 +9,7 @@ use Rattle.model.specs.Rows.{row}
 use Rattle.dispatcher.specs.Sessions.{freshOf}
 use Rattle.dispatcher.specs.Stepping.{Step, answered, runOf}
 use Rattle.table.specs.declared.Answer.{Answer}
+use Rattle.demands.specs.Answers.{settled}
 use Rattle.demands.specs.Calls.{Call, stepsFrom}
 use Rattle.demands.specs.Samples.{sampleOutput, sampleRun}
 use Rattle.demands.specs.Computing.{computing}
@@ -25,6 +26,11 @@ text-apart = refl
 space-apart : runOf K (bytes "<r> <!----> </r>") sampleOutput ≡ sampleRun 9 16 4 (row 0 0 0 0 0 0 0 ∷ row 0 1 0 1 1 0 0 ∷ row 0 4 0 3 1 0 0 ∷ row 0 4 0 11 1 0 0 ∷ row 0 5 0 14 1 0 0 ∷ row 0 6 0 0 0 0 0 ∷ [])
 unfolding computing
 space-apart = refl
+
+-- how many bytes behind a refused one settle its refusal: of a target xml, of ]]>, of others
+settles : (settled (bytes "<r><?xml?") 5 ≡ 3) × (settled (bytes "<r>a]]>") 4 ≡ 2) × (settled (bytes "<r/x") 3 ≡ 0) × (settled (bytes "<r>]]<") 3 ≡ 0)
+unfolding computing
+settles = (refl, refl, refl, refl)
 
 -- the answer of a run with so much output
 abbrev run-of : List ℕ → ℕ → List ℕ → Answer

@@ -220,6 +220,15 @@ module _ (s : List ℕ) where
       holds-cond (ReadOnward s at) (isSpace (getD s at 0)) (λ e. onward-later at (at + 1) (omega arith) (contentEnd s (at + 1)) (content-inside (at + 1))) (λ e.
       holds-cond (ReadOnward s at) (eqb (getD s at 0) 0x3F) (λ e. onward-later at (at + 1) (omega arith) (wanted s (at + 1) 0x3E) (byte-inside (at + 1) 0x3E)) (λ e. omega arith)))
 
+  pub xml-three : (at end : ℕ) → isXml s at end ≡ true → end ≡ at + 3
+  unfolding isXml
+  xml-three at end e =
+      let a = eqb end (at + 3) in
+      let x = eqb (getD s at 0) 0x58 || eqb (getD s at 0) 0x78 in
+      let m = eqb (getD s (at + 1) 0) 0x4D || eqb (getD s (at + 1) 0) 0x6D in
+      let l = eqb (getD s (at + 2) 0) 0x4C || eqb (getD s (at + 2) 0) 0x6C in
+      eqb-true end (at + 3) (and-left a x (and-left (a && x) m (and-left (a && x && m) l e)))
+
   pub instruction-inside : (at : ℕ) → ReadInside (Onward s at) s at (instructionEnd s at)
   unfolding instructionEnd
   instruction-inside at =
@@ -387,17 +396,8 @@ module _ (s t : List ℕ) where
       by-length false k = refl
 
   -- a target xml has three bytes
-  pub xml-three : (at end : ℕ) → isXml s at end ≡ true → end ≡ at + 3
-  unfolding isXml
-  xml-three at end e =
-      let a = eqb end (at + 3) in
-      let x = eqb (getD s at 0) 0x58 || eqb (getD s at 0) 0x78 in
-      let m = eqb (getD s (at + 1) 0) 0x4D || eqb (getD s (at + 1) 0) 0x6D in
-      let l = eqb (getD s (at + 2) 0) 0x4C || eqb (getD s (at + 2) 0) 0x6C in
-      eqb-true end (at + 3) (and-left a x (and-left (a && x) m (and-left (a && x && m) l e)))
-
   chosen-stable : (at end : ℕ) → end < length s → Stable (read.Stopped Cut) (chosen s at end) (chosen (s ++ t) at end)
-  chosen-stable at end h = rw (xml-kept at end h) (by-test (isXml s at end) (λ e. omega (arith, xml-three at end e)))
+  chosen-stable at end h = rw (xml-kept at end h) (by-test (isXml s at end) (λ e. omega (arith, xml-three s at end e)))
     where
       by-test : (xml : Bool) → (xml ≡ true → at + 2 < length s) → Stable (read.Stopped Cut) (choose s at end xml) (choose (s ++ t) at end xml)
       by-test true k = rw (declared-kept at (k refl)) (stable-cond (read.Stopped Cut) (isDeclared s at) (declaration-stable end) (stable-same (read.Stopped Cut) (read.Stopped (Bad at))))
