@@ -1,4 +1,4 @@
-/* A host in C: sample A by one run, then event by event, then as it comes in, five bytes at a time. */
+/* A host in C: sample A by one run, in an output of the size that the forecast gives, then event by event, then as it comes in, five bytes at a time. */
 #include <stdio.h>
 #include <stdlib.h>
 #include "calcivorne.h"
@@ -27,14 +27,24 @@ static void print_record(const unsigned char *r)
            field(r, 2), field(r + 2, 1), field(r + 3, 1), field(r + 4, 3), field(r + 7, 3), field(r + 10, 3), field(r + 13, 3));
 }
 
-static void whole(const unsigned char *scene, size_t len)
+/* The output is set aside by the forecast; a byte more, so that there is a pointer where no record is written. */
+static int whole(const unsigned char *scene, size_t len)
 {
+    calcivorne_number figures[6];
     calcivorne_number answer[4];
     calcivorne_number i;
-    calcivorne_run(table, sizeof table, scene, len, out, sizeof out, answer);
+    unsigned char *records;
+    calcivorne_forecast(table, sizeof table, scene, len, figures);
+    printf("forecast: %lu, %lu records, %lu units, %lu strands, depth %lu\n", figures[0], figures[2], figures[3], figures[4], figures[5]);
+    records = malloc(16 * figures[2] + 1);
+    if (records == NULL)
+        return 1;
+    calcivorne_run(table, sizeof table, scene, len, records, 16 * figures[2], answer);
     for (i = 0; i < answer[3]; i++)
-        print_record(out + 16 * i);
+        print_record(records + 16 * i);
     printf("%lu %lu %lu %lu\n", answer[0], answer[1], answer[2], answer[3]);
+    free(records);
+    return 0;
 }
 
 /* For a host that does something at each event: where it ends, and its records alone. */
@@ -77,9 +87,8 @@ int main(void)
     size_t len = sizeof text - 1;
     size_t size = (size_t)calcivorne_session_size();
     unsigned char *session = malloc(size);
-    if (session == NULL)
+    if (session == NULL || whole(scene, len) != 0)
         return 1;
-    whole(scene, len);
     event_by_event(scene, len, session, size);
     in_chunks(scene, len, session, size);
     free(session);

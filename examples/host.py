@@ -1,4 +1,4 @@
-"""A host in Python: sample A by one run, then event by event, then as it comes in, five bytes at a time.
+"""A host in Python: sample A by one run, in an output of the size that the forecast gives, then event by event, then as it comes in, five bytes at a time.
 
     python3 host.py SHARED_LIBRARY
 """
@@ -13,6 +13,7 @@ NO_BOUND = 2**64 - 1
 
 Bytes, Size, Number = ctypes.c_char_p, ctypes.c_size_t, ctypes.c_uint64
 Answer = Number * 4
+Figures = Number * 6
 
 
 def load(path):
@@ -20,6 +21,8 @@ def load(path):
     read, write = [Bytes, Size], [ctypes.POINTER(ctypes.c_char), Size]
     lib.calcivorne_run.argtypes = read + read + write + [ctypes.POINTER(Number)]
     lib.calcivorne_run.restype = ctypes.c_uint8
+    lib.calcivorne_forecast.argtypes = read + read + [ctypes.POINTER(Number)]
+    lib.calcivorne_forecast.restype = ctypes.c_uint8
     lib.calcivorne_session_size.argtypes = []
     lib.calcivorne_session_size.restype = Number
     lib.calcivorne_fresh.argtypes = write
@@ -37,8 +40,13 @@ def fields(record):
     return [int.from_bytes(record[a:e], "big") for a, e in zip(ends, ends[1:])]
 
 
-def whole(lib, out):
-    answer = Answer()
+def whole(lib):
+    """The output is set aside by the forecast."""
+    figures, answer = Figures(), Answer()
+    lib.calcivorne_forecast(TABLE, len(TABLE), SCENE, len(SCENE), figures)
+    number, _, records, units, strands, depth = figures
+    print(f"forecast: {number}, {records} records, {units} units, {strands} strands, depth {depth}")
+    out = ctypes.create_string_buffer(16 * records)
     lib.calcivorne_run(TABLE, len(TABLE), SCENE, len(SCENE), out, len(out), answer)
     for i in range(answer[3]):
         print(*fields(out[16 * i:16 * i + 16]))
@@ -80,7 +88,7 @@ def in_chunks(lib, out):
 
 if __name__ == "__main__":
     library = load(sys.argv[1])
+    whole(library)
     output = ctypes.create_string_buffer(65536)
-    whole(library, output)
     event_by_event(library, output)
     in_chunks(library, output)

@@ -1,4 +1,4 @@
-// A host in Rust: sample A by one run, then event by event, then as it comes in, five bytes at a time.
+// A host in Rust: sample A by one run, in an output of the size that the forecast gives, then event by event, then as it comes in, five bytes at a time.
 #[link(name = "capi", kind = "static")]
 extern "C" {
     fn calcivorne_run(
@@ -37,6 +37,17 @@ extern "C" {
     ) -> u8;
 }
 
+#[link(name = "forecast", kind = "static")]
+extern "C" {
+    fn calcivorne_forecast(
+        table: *const u8,
+        table_len: usize,
+        scene: *const u8,
+        scene_len: usize,
+        figures: *mut [u64; 6],
+    ) -> u8;
+}
+
 const TABLE: [u8; 10] = [0x01, 0x02, 0x01, 0x01, 0x00, 0x06, 0x00, 0x08, 0x01, 0x75];
 const SCENE: &[u8] = b"<r xmlns=\"u\">a<x/></r>";
 const CHUNK: usize = 5;
@@ -56,6 +67,20 @@ fn run(table: &[u8], scene: &[u8], out: &mut [u8]) -> [u64; 4] {
         );
     }
     answer
+}
+
+fn forecast(table: &[u8], scene: &[u8]) -> [u64; 6] {
+    let mut figures = [0; 6];
+    unsafe {
+        calcivorne_forecast(
+            table.as_ptr(),
+            table.len(),
+            scene.as_ptr(),
+            scene.len(),
+            &mut figures,
+        );
+    }
+    figures
 }
 
 fn fresh() -> Vec<u8> {
@@ -112,6 +137,18 @@ fn print_record(r: &[u8]) {
     println!("{}", words.join(" "));
 }
 
+// The output is set aside by the forecast.
+fn whole(scene: &[u8]) {
+    let [number, _, records, units, strands, depth] = forecast(&TABLE, scene);
+    println!("forecast: {number}, {records} records, {units} units, {strands} strands, depth {depth}");
+    let mut out = vec![0; 16 * records as usize];
+    let answer = run(&TABLE, scene, &mut out);
+    for r in out.chunks(16).take(answer[3] as usize) {
+        print_record(r);
+    }
+    println!("{} {} {} {}", answer[0], answer[1], answer[2], answer[3]);
+}
+
 // For a host that does something at each event: where it ends, and its records alone.
 fn event_by_event(scene: &[u8], out: &mut [u8]) {
     let mut session = fresh();
@@ -144,12 +181,8 @@ fn in_chunks(scene: &[u8], out: &mut [u8]) {
 }
 
 fn main() {
+    whole(SCENE);
     let mut out = vec![0; 65536];
-    let answer = run(&TABLE, SCENE, &mut out);
-    for r in out.chunks(16).take(answer[3] as usize) {
-        print_record(r);
-    }
-    println!("{} {} {} {}", answer[0], answer[1], answer[2], answer[3]);
     event_by_event(SCENE, &mut out);
     in_chunks(SCENE, &mut out);
 }

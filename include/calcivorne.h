@@ -1,7 +1,8 @@
 /*
  * calcivorne.h: the dispatcher for hosts in C and C++. This file is the manual of the interface.
  *
- * The library is libcalcivorne.a, for Linux on x86-64; `./install PREFIX` puts it and this file under a prefix. examples/ has hosts in C, Rust and Python.
+ * The library is libcalcivorne.a, and libcalcivorne_forecast.a for calcivorne_forecast, for Linux on x86-64; `./install PREFIX` puts them and this file
+ * under a prefix. examples/ has hosts in C, Rust and Python.
  *
  * SLICES. A run of bytes is passed as a pointer and a length. A length may be 0; the pointer must then not be NULL all the same. All the bytes of
  * a slice must be there to be read and, where the parameter is not const, to be written, and no two of a call's slices and arrays may overlap.
@@ -43,8 +44,8 @@
  *     255  the session's slice is shorter than calcivorne_session_size()                  the answer is not written
  *
  * 8 and 13 to 19 are not used. Where several hold, the first of this order is given: 255; 10 under 4 bytes, 11 of the first four, 10, 11, 12; 7; 20;
- * 1, 2, 3 or 9; 4; 5, 6, 21, 22, 23, 24; 25. run never gives 0, 20 or 255, judge only 0 and 10 to 12. With another number than 0 run and advance tell
- * of their last step, behind the events that they count.
+ * 1, 2, 3 or 9; 4; 5, 6, 21, 22, 23, 24; 25. run and forecast never give 0, 20 or 255, forecast never 25, judge only 0 and 10 to 12. With another number
+ * than 0 run and advance tell of their last step, behind the events that they count.
  *
  * A RECORD. 16 bytes, the most significant byte of a field first; a field that a kind does not use is zero:
  *
@@ -114,6 +115,31 @@ unsigned char calcivorne_run(
     const unsigned char *scene, size_t scene_len,
     unsigned char *out, size_t out_len,
     calcivorne_number answer[4]);
+
+/*
+ * How much a run will need: what calcivorne_run would give with an output that suffices. No output is lent and no record is written; the memory that
+ * the call takes does not grow with the scene. Returns the run's number. Writes six numbers:
+ *
+ *     figures[0]  number    the run's; never 0, 20 or 25
+ *     figures[1]  place     the run's
+ *     figures[2]  records   how many the run writes
+ *     figures[3]  units     how many it opens, attribute units counted; at most 65,536
+ *     figures[4]  strands   the most of one level that was open at any time, those that write nothing counted; at most 16
+ *     figures[5]  depth     the most elements open at once, at most 64; a /> opens one too
+ *
+ * In an out of 16 * figures[2] bytes, or more, calcivorne_run gives this very number, place and count of records; in fewer bytes it gives 25.
+ *
+ * The figures tell of the events up to where the run stops: the one that is refused counts for nothing. With 7 and 10 to 12 place and all four
+ * behind it are 0; where no element was opened strands and depth are 0.
+ *
+ * For every table and scene figures[2] is at most 34 times the strands of each event, summed, plus 4 for each attribute unit and 2 for each attribute
+ * in one; an attribute in two units counts twice. The strands of a start are those of the level that it opens, of a text or an end those of the
+ * innermost level open before it; a /> is a start and an end.
+ */
+unsigned char calcivorne_forecast(
+    const unsigned char *table, size_t table_len,
+    const unsigned char *scene, size_t scene_len,
+    calcivorne_number figures[6]);
 
 /*
  * How many bytes a session takes. This is the only size that a host may use.

@@ -1,4 +1,4 @@
-//! Links the static library from the repository's target/staticlib, or from the folder that CALCIVORNE_LIB names.
+//! Links the static libraries from the repository's target/staticlib, or from the folder that CALCIVORNE_LIB names.
 
 use std::env;
 use std::path::{Path, PathBuf};
@@ -7,15 +7,17 @@ use std::process::exit;
 fn main() {
     println!("cargo:rerun-if-env-changed=CALCIVORNE_LIB");
     let folder = folder();
-    let library = folder.join("libcapi.a");
-    println!("cargo:rerun-if-changed={}", library.display());
-    if !library.is_file() {
-        eprintln!("There is no {}.", library.display());
-        eprintln!("Make it with `rt staticlib capi` in the repository, or name the folder that has it in CALCIVORNE_LIB.");
-        exit(1);
-    }
     println!("cargo:rustc-link-search=native={}", folder.display());
-    println!("cargo:rustc-link-lib=static=capi");
+    for name in ["capi", "forecast"] {
+        let library = folder.join(format!("lib{name}.a"));
+        println!("cargo:rerun-if-changed={}", library.display());
+        if !library.is_file() {
+            eprintln!("There is no {}.", library.display());
+            eprintln!("Make it with `rt staticlib {name}` in the repository, or name the folder that has both libraries in CALCIVORNE_LIB.");
+            exit(1);
+        }
+        println!("cargo:rustc-link-lib=static={name}");
+    }
 }
 
 fn folder() -> PathBuf {

@@ -40,7 +40,7 @@ use Rattle.dispatcher.specs.Stepping.{eventPlace, Plan, refused, event, startPl
 use Rattle.dispatcher.specs.declared.Session.{Session}
 use Rattle.dispatcher.proofs.SoundCoherent.{sound-coherent}
 use Rattle.demands.specs.Scenes.{readerAfter}
-use Rattle.demands.specs.Limits.{depthAt, boundAt, strandsAt, unitsAt, passed, WithinFirst, firstPast}
+use Rattle.demands.specs.Limits.{depthAt, boundAt, strandsAt, unitsAt, passed, WithinFirst, firstPast, eventsWithin}
 use Rattle.demands.proofs.Goes.{goes-on, event-goes}
 use Rattle.demands.specs.Answers as step
 use Rattle.demands.specs.Answers.{Ready}
@@ -242,3 +242,12 @@ module _ (t : Table) (s : List ℕ) where
       by : (o : Option ℕ) → First (length (events s)) 0 o → FirstPast o
       by none f = λ i l. f i (omega arith) (omega arith)
       by (some k) f = (omega (arith, f .1), f .2, λ i l. f .3 i (omega arith) l)
+
+-- how many events come before it
+pub within-all : (t : Table) (s : List ℕ) → eventsWithin t s ≤ length (events s)
+unfolding eventsWithin
+within-all t s = by (firstPast t s (length (events s)) 0) (first-past t s)
+  where
+    by : (o : Option ℕ) → FirstPast t s o → elim o [ none ↦ length (events s) | some k ↦ k ] ≤ length (events s)
+    by none f = omega arith
+    by (some k) f = omega (arith, f .0)

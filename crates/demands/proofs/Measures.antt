@@ -120,7 +120,7 @@ take-told f (suc n) [] = refl
 take-told f (suc n) (x ∷ l) = ap (λ r. f x ∷ r) (take-told f n l)
 
 module _ (t : Table) (s : List ℕ) where
-  whole-prefix : IsPrefix (dispatch t) (toldAll t s)
+  pub whole-prefix : IsPrefix (dispatch t) (toldAll t s)
   whole-prefix =
       let w = events-end s in
       subst (λ (es : List scene.Event). IsPrefix (dispatch t) (map (told t s) es)) (take-all (length (events s)) (events s) (omega arith)) (told-prefix t s (length (events s)) (w .0) (w .1) .prefix)

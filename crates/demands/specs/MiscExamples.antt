@@ -15,7 +15,7 @@ use Rattle.demands.specs.Samples.{sampleOutput, sampleRun}
 use Rattle.demands.specs.Computing.{computing}
 
 -- a table that keeps all in unit 0: mode 0 any element validate 0, next 1; mode 1 any element attach, next 1; mode 1 any attribute attach
-abbrev K : List ℕ
+abbrev pub K : List ℕ
 K = 0x00 ∷ 0x02 ∷ 0x01 ∷ 0x03 ∷ 0x03 ∷ 0xFE ∷ 0x00 ∷ 0x08 ∷ 0x0B ∷ 0xFC ∷ 0x00 ∷ 0x08 ∷ 0x0F ∷ 0xFC ∷ 0x00 ∷ 0x08 ∷ []
 
 -- N1-1, N1-3: in every position; the records are as if none were there, texts apart

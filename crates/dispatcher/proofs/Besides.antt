@@ -1,10 +1,11 @@
 -- What the loop holds beside a session: laid at its start, and kept by each event.
 --     classed-beside, classed-own, classed-keys          classes of a tag's own bindings laid
---     beside-fewer, event-turn, refused-turn             where no binding was added
+--     beside-fewer                                       where no binding was added
 --     text-fewer, end-fewer, awaited-fewer               a text, an end: no binding is added
+--     text-beside, end-beside, awaited-beside            so what is held stays true behind it
 --     beside-start                                       a start: its own bindings behind those that were open
 use Prim.Native.Nat.{ℕ, _+_, _-_, _*_, _≤_, _<_}
-use mathlib.Core.Path.{_≡_, sym, ap, subst, _∙_}
+use mathlib.Core.Path.{_≡_, refl, sym, ap, subst, _∙_}
 use mathlib.Core.Logic.{inl, inr, ⊎-elim}
 use mathlib.Core.List.{List, [], _∷_}
 use mathlib.Core.Bool.{true}
@@ -33,18 +34,16 @@ use Rattle.reader.specs.Scope.{closedOf, opensOf}
 use Rattle.reader.specs.Known.{keyOf, KeysAt}
 use Rattle.reader.specs.Events.{Start, Open, Next, endRead, textRead}
 use Rattle.reader.specs.Events as reads
-use Rattle.model.specs.Stream.{entriesAt, written, after}
+use Rattle.model.specs.Stream.{entriesAt, after}
 use Rattle.model.specs.Tree.{start}
 use Rattle.model.specs.Elements.{Element, elementOf}
 use Rattle.model.specs.Dispatch.{dispatch}
 use Rattle.attributes.specs.Known.{classesIn, ClassesAt}
 use Rattle.attributes.proofs.Known.{classes-long, classes-laid, classes-kept}
-use Rattle.dispatcher.specs.Sessions.{sessionOf, stateOf, readerOf}
-use Rattle.dispatcher.specs.Stepping.{Plan, finished, event, Step, planBy, planOf, planned, startPlan}
-use Rattle.dispatcher.specs.Turns.{Beside, stopTurn, stepBy}
+use Rattle.dispatcher.specs.Sessions.{stateOf, readerOf}
+use Rattle.dispatcher.specs.Stepping.{Plan, planBy, planOf, startPlan}
+use Rattle.dispatcher.specs.Turns.{Beside, sessionBy}
 use Rattle.dispatcher.specs.declared.Session.{Session}
-use Rattle.dispatcher.specs.declared.Head.{Head}
-use Rattle.dispatcher.specs.declared.Turn.{Turn}
 use Rattle.reader.proofs.Known.{keys-kept}
 use Rattle.dispatcher.proofs.EventTurns.{awaited-plan}
 use Rattle.dispatcher.proofs.Own.{opened, opened-before, opened-own, opened-long}
@@ -76,10 +75,14 @@ module _ (table s known known′ own : List ℕ) (header : Header) (z : Session)
   classed-keys = keys-kept s own n (z .scope .bound) known known′ (80 + z .scope .bound) new (omega (arith, inside)) (inl (omega arith)) e
 
 -- ---- no binding more
-pub beside-fewer : (table s known bindings : List ℕ) (head head′ : Head) (levels spaces strands levels′ spaces′ strands′ : List ℕ)
-    → Beside table s known (sessionOf head levels bindings spaces strands) → head′ .bound ≤ head .bound → Beside table s known (sessionOf head′ levels′ bindings spaces′ strands′)
-beside-fewer table s known bindings head head′ levels spaces strands levels′ spaces′ strands′ b l =
-    record { known-long = b .known-long; bindings-long = b .bindings-long; keys = λ k m. b .keys k (omega arith); classes = λ k m. b .classes k (omega arith) }
+pub beside-fewer : (table s known : List ℕ) (z z′ : Session) → Beside table s known z → z′ .scope .bindings ≡ z .scope .bindings → z′ .scope .bound ≤ z .scope .bound → Beside table s known z′
+beside-fewer table s known z z′ b e l =
+    record {
+      known-long = b .known-long;
+      bindings-long = ap length e ∙ b .bindings-long;
+      keys = subst (λ (bs : List ℕ). KeysAt s bs (z′ .scope .bound) 0 known) (sym e) (λ k m. b .keys k (omega arith));
+      classes = subst (λ (bs : List ℕ). ClassesAt (decode table) s bs (z′ .scope .bound) 0 known) (sym e) (λ k m. b .classes k (omega arith));
+    }
 
 -- what is read is no start
 abbrev NoStart : Next → Type 0
@@ -95,49 +98,61 @@ closed-fewer z =
     holds-cond (λ (x : Scope). x .bound ≤ z .scope .bound) (eqb (z .scope .depth) 0) (λ e. omega arith) (λ e.
     holds-cond (λ (x : Scope). x .bound ≤ z .scope .bound) (ltb 64 (z .scope .depth)) (λ f. omega arith) (λ f. omega arith))
 
-module _ (t : Table) (s : List ℕ) (z : Session) (out : List ℕ) where
-  abbrev Fewer : Step → Type 0
-  Fewer r = r .session .scope .bound ≤ z .scope .bound
+closed-bindings : (z : Session) → closedOf (z .scope) .bindings ≡ z .scope .bindings
+unfolding closedOf
+closed-bindings z =
+    holds-cond (λ (x : Scope). x .bindings ≡ z .scope .bindings) (eqb (z .scope .depth) 0) (λ e. refl) (λ e.
+    holds-cond (λ (x : Scope). x .bindings ≡ z .scope .bindings) (ltb 64 (z .scope .depth)) (λ f. refl) (λ f. refl))
 
-  next-fewer : (n : Next) → NoStart n → Fewer (planned (planBy t s z n) z out)
+text-none : (s : List ℕ) (z : Session) (at : ℕ) (x : Read) → NoStart (textRead s (readerOf z) at x)
+text-none s z at (read.Stopped y) = tt
+text-none s z at (read.End j) = tt
+
+end-none : (s : List ℕ) (at : ℕ) (os : List Open) (x : Ended) → NoStart (endRead s at os x)
+end-none s at [] x = tt
+end-none s at (o ∷ os) (ended.Stopped y) = tt
+end-none s at (o ∷ os) (ended.Got tag) = holds-cond NoStart (sameList (bytesOf s (wholeSpan (tag .name))) (bytesOf s (o .name))) (λ e. tt) (λ e. tt)
+
+module _ (t : Table) (s : List ℕ) (z : Session) where
+  abbrev Fewer : Plan → Type 0
+  Fewer p = sessionBy p z .scope .bound ≤ z .scope .bound
+
+  abbrev Same : Plan → Type 0
+  Same p = sessionBy p z .scope .bindings ≡ z .scope .bindings
+
+  next-fewer : (n : Next) → NoStart n → Fewer (planBy t s z n)
   next-fewer (reads.event (reads.start e) z′) h = absurd h
-  next-fewer (reads.event (reads.text w) z′) h = holds-cond Fewer (ltb (length out) (16 * length (written (dispatch t) (stateOf t s z) _))) (λ e. omega arith) (λ e. omega arith)
-  next-fewer (reads.event (reads.end part at) z′) h = holds-cond Fewer (ltb (length out) (16 * length (written (dispatch t) (stateOf t s z) _))) (λ e. omega arith) (λ e. closed-fewer z)
+  next-fewer (reads.event (reads.text w) z′) h = omega arith
+  next-fewer (reads.event (reads.end part at) z′) h = closed-fewer z
   next-fewer (reads.refusal n p) h = omega arith
   next-fewer (reads.finished p) h = omega arith
 
-  pub text-fewer : (at : ℕ) (x : Read) → Fewer (planned (planBy t s z (textRead s (readerOf z) at x)) z out)
-  text-fewer at x = next-fewer (textRead s (readerOf z) at x) (by x)
-    where
-      by : (x : Read) → NoStart (textRead s (readerOf z) at x)
-      by (read.Stopped y) = tt
-      by (read.End j) = tt
+  next-same : (n : Next) → NoStart n → Same (planBy t s z n)
+  next-same (reads.event (reads.start e) z′) h = absurd h
+  next-same (reads.event (reads.text w) z′) h = refl
+  next-same (reads.event (reads.end part at) z′) h = closed-bindings z
+  next-same (reads.refusal n p) h = refl
+  next-same (reads.finished p) h = refl
 
-  pub end-fewer : (at : ℕ) (x : Ended) → Fewer (planned (planBy t s z (endRead s at (opensOf (z .scope)) x)) z out)
-  end-fewer at x = next-fewer (endRead s at (opensOf (z .scope)) x) (by (opensOf (z .scope)) x)
-    where
-      by : (os : List Open) (x : Ended) → NoStart (endRead s at os x)
-      by [] x = tt
-      by (o ∷ os) (ended.Stopped y) = tt
-      by (o ∷ os) (ended.Got tag) = holds-cond NoStart (sameList (bytesOf s (wholeSpan (tag .name))) (bytesOf s (o .name))) (λ e. tt) (λ e. tt)
+  pub text-fewer : (at : ℕ) (x : Read) → Fewer (planBy t s z (textRead s (readerOf z) at x))
+  text-fewer at x = next-fewer (textRead s (readerOf z) at x) (text-none s z at x)
 
-  pub awaited-fewer : 1 ≤ z .scope .depth → z .awaited ≡ true → Fewer (planned (planOf t s z) z out)
-  awaited-fewer l a =
-      subst (λ (p : Plan). Fewer (planned p z out)) (sym (awaited-plan t s z l a))
-      (holds-cond Fewer (ltb (length out) (16 * length (written (dispatch t) (stateOf t s z) _))) (λ e. omega arith) (λ e. closed-fewer z))
+  pub end-fewer : (at : ℕ) (x : Ended) → Fewer (planBy t s z (endRead s at (opensOf (z .scope)) x))
+  end-fewer at x = next-fewer (endRead s at (opensOf (z .scope)) x) (end-none s at (opensOf (z .scope)) x)
 
--- what a text or an end hands back
-pub event-turn : (table s known : List ℕ) (head : Head) (levels bindings spaces strands out : List ℕ) (r : Turn) (x : Step) → Beside table s known (sessionOf head levels bindings spaces strands)
-    → stepBy r levels bindings spaces strands out ≡ x → x .session .scope .bound ≤ head .bound → Beside table s known (sessionOf (r .head) levels bindings spaces strands)
-event-turn table s known head levels bindings spaces strands out r x b e l =
-    beside-fewer table s known bindings head (r .head) levels spaces strands levels spaces strands b (subst (λ (n : ℕ). n ≤ head .bound) (sym (ap (λ (y : Step). y .session .scope .bound) e)) l)
+  pub awaited-fewer : 1 ≤ z .scope .depth → z .awaited ≡ true → Fewer (planOf t s z)
+  awaited-fewer l a = subst Fewer (sym (awaited-plan t s z l a)) (closed-fewer z)
 
--- a refusal leaves the session, and what is held beside it
-pub refused-turn : (table s known : List ℕ) (head : Head) (levels bindings spaces strands out : List ℕ) (n p : ℕ) {x : Step} → Beside table s known (sessionOf head levels bindings spaces strands)
-    → (r : Turn) → r ≡ stopTurn n p head → stepBy (stopTurn n p head) levels bindings spaces strands out ≡ x
-    → (stepBy r levels bindings spaces strands out ≡ x) × Beside table s known (sessionOf (r .head) levels bindings spaces strands)
-refused-turn table s known head levels bindings spaces strands out n p b r q e =
-    (ap (λ (y : Turn). stepBy y levels bindings spaces strands out) q ∙ e, subst (λ (y : Turn). Beside table s known (sessionOf (y .head) levels bindings spaces strands)) (sym q) b)
+-- what is held beside it
+module _ (t : Table) (table s known : List ℕ) (z : Session) (b : Beside table s known z) where
+  pub text-beside : (at : ℕ) (x : Read) → Beside table s known (sessionBy (planBy t s z (textRead s (readerOf z) at x)) z)
+  text-beside at x = beside-fewer table s known z _ b (next-same t s z (textRead s (readerOf z) at x) (text-none s z at x)) (text-fewer t s z at x)
+
+  pub end-beside : (at : ℕ) (x : Ended) → Beside table s known (sessionBy (planBy t s z (endRead s at (opensOf (z .scope)) x)) z)
+  end-beside at x = beside-fewer table s known z _ b (next-same t s z (endRead s at (opensOf (z .scope)) x) (end-none s at (opensOf (z .scope)) x)) (end-fewer t s z at x)
+
+  pub awaited-beside : 1 ≤ z .scope .depth → z .awaited ≡ true → Beside table s known (sessionBy (planOf t s z) z)
+  awaited-beside l a = beside-fewer table s known z _ b (subst (Same t s z) (sym (awaited-plan t s z l a)) (closed-bindings z)) (awaited-fewer t s z l a)
 
 -- ---- a start
 module _ (table s known own : List ℕ) (z : Session) (ds : List Binding) (beside : Beside table s known z) (few : length ds ≤ 16) (own-laid : take (4 * length ds) own ≡ gather bindingNumbers ds)
@@ -173,23 +188,22 @@ module _ (table s known own : List ℕ) (z : Session) (ds : List Binding) (besid
         let e : 80 + 0 + (z .scope .bound + k) ≡ 80 + z .scope .bound + k = omega arith in
         ap (λ (i : ℕ). getD known i 0) e ∙ own-classes k l)
 
-  pub beside-start : (e : Start) (place : ℕ) (out : List ℕ) → Beside table s known (planned (startPlan (decode table) s z e ds place) z out .session)
+  pub beside-start : (e : Start) (place : ℕ) → Beside table s known (sessionBy (startPlan (decode table) s z e ds place) z)
   unfolding startPlan
-  beside-start e place out =
+  beside-start e place =
       holds-cond Kept (leb 64 (z .scope .depth)) (λ a. beside) (λ a.
       holds-cond Kept (ltb 64 (z .scope .bound + length ds)) (λ b. beside) (λ b.
       holds-cond Kept (ltb 16 (length (entriesAt (dispatch (decode table)) (stateOf (decode table) s z .levels) σ))) (λ c. beside) (λ c.
       holds-cond Kept (ltb 65536 (after (dispatch (decode table)) (stateOf (decode table) s z) (start σ) .units)) (λ d. beside) (λ d.
-      holds-cond (λ (r : Step). Beside table s known (r .session)) (ltb (length out) (16 * length (written (dispatch (decode table)) (stateOf (decode table) s z) (start σ)))) (λ f. beside) (λ f.
       record {
         known-long = beside .known-long;
         bindings-long = opened-long (z .scope) (e .name) ds few (beside .bindings-long) (ltb-false 64 (z .scope .bound + length ds) b);
         keys = keys-opened (ltb-false 64 (z .scope .bound + length ds) b) (e .name);
         classes = classes-opened (ltb-false 64 (z .scope .bound + length ds) b) (e .name);
-      })))))
+      }))))
     where
       σ : Element
       σ = elementOf (decode table) s e
 
       Kept : Plan → Type 0
-      Kept p = Beside table s known (planned p z out .session)
+      Kept p = Beside table s known (sessionBy p z)

@@ -1,7 +1,10 @@
--- A start whose tag was read, behind 21 and 22: what the loop holds with the classes of its own bindings; and its ways out.
---     found-few, names-few        what was found, and the table's namespaces, are few
---     classed                     behind `put_classes`
---     opened-turn                 what `open_level` hands back
+-- A start whose tag was read, behind 21 and 22: what the loop holds with the classes of its own bindings; and what is answered.
+--     found-few, names-few                    what was found, and the table's namespaces, are few
+--     classed, unclassed                      behind `put_classes`, and where the tag has no declarations
+--     refused-planned                         a refusal
+--     decided-refused, decided-start          by what was decided
+--     start-met, start-read, refused-read     by what reading the tag came to
+--     from-loop                               at the start of step, advance and run
 use Prim.Native.Nat.{ℕ, _+_, _≤_, _<_}
 use mathlib.Core.Path.{_≡_, refl, sym, ap, subst, _∙_}
 use mathlib.Core.List.{List}
@@ -19,29 +22,35 @@ use Rattle.table.proofs.Accepted.{header-in}
 use Rattle.lexer.specs.Attrs.{attrsIn}
 use Rattle.lexer.specs.Tags.{tagAt}
 use Rattle.lexer.specs.declared.Tagged.{Tagged}
-use Rattle.reader.specs.declared.Binding.{Binding}
 use Rattle.reader.specs.declared.Found.{Found}
 use Rattle.reader.specs.declared.Found.the-variants as found
 use Rattle.reader.specs.Namespaces.{declarationsOf}
-use Rattle.reader.specs.Events.{Start, startRead}
-use Rattle.reader.specs.Scope.{opensIn, opensOf}
+use Rattle.reader.specs.Events.{Start, Open, startRead}
+use Rattle.reader.specs.Spans.{wholeSpan}
+use Rattle.reader.specs.Stored.{storedSpace}
+use Rattle.reader.specs.Scope.{opensOf}
 use Rattle.reader.specs.Known.{keysIn, KeysAt, Within}
+use Rattle.model.specs.Elements.{elementOf, spaceOf}
+use Rattle.attributes.specs.declared.Placing.{Placing}
+use Rattle.attributes.specs.Attributes.{placingOf, attributesIn, sectionsIn}
 use Rattle.attributes.specs.Known.{classesIn, ClassesAt}
 use Rattle.attributes.proofs.Known.{classes-long, classes-laid}
 use Rattle.strands.specs.Levels.{levelNames, levelSpaces, levelStrands}
 use Rattle.dispatcher.specs.Sessions.{sessionAt, sessionOf}
-use Rattle.dispatcher.specs.Stepping.{Plan, Step, planBy, planned, startPlan}
-use Rattle.dispatcher.specs.Turns.{TurnReady, LoopReady, Beside, Met, startOf, readPlan, ReadMet, ReadAs, stopTurn, stepBy}
+use Rattle.dispatcher.specs.Stepping.{Plan, refused, planBy, startPlan}
+use Rattle.dispatcher.specs.Turns.{TurnReady, LoopReady, Beside, Met, DecidedAs, decidedNumber, Fits, PlannedAs, startOf, readPlan, ReadMet, ReadAs, sessionBy}
 use Rattle.dispatcher.specs.declared.Session.{Session}
 use Rattle.dispatcher.specs.declared.Head.{Head}
-use Rattle.dispatcher.specs.declared.Turn.{Turn}
 use Rattle.dispatcher.specs.declared.Started.{Started}
 use Rattle.dispatcher.specs.declared.Reading.{Reading}
 use Rattle.dispatcher.specs.declared.Reading.the-variants as reading
+use Rattle.dispatcher.specs.declared.Planned.{Planned}
+use Rattle.dispatcher.specs.declared.Planned.the-variants as planned
+use Rattle.openings.specs.declared.Decided.{Decided}
 use Rattle.reader.proofs.Known.{keys-many, keys-laid, keys-kept}
-use Rattle.dispatcher.proofs.EventTurns.{stop-step}
-use Rattle.dispatcher.proofs.StartTurns.{few-bound}
-use Rattle.dispatcher.proofs.Besides.{classed-beside, classed-own, classed-keys, refused-turn, beside-start}
+use Rattle.dispatcher.proofs.StartTurns.{few-bound, made-openable}
+use Rattle.dispatcher.proofs.OpeningTurns.{plan-refused}
+use Rattle.dispatcher.proofs.Besides.{classed-beside, classed-own, classed-keys, beside-start}
 
 pub names-few : (table : List ℕ) → Accepted table ≡ true → headerOf table .namespaces < 256
 names-few table a = omega (arith, header-in table a .few-namespaces)
@@ -54,11 +63,23 @@ within-more m n m′ n′ h k (found.Open i) w = omega arith
 within-more m n m′ n′ h k found.Unbound w = tt
 
 -- what is known behind `put_classes`
-pub record Classed (table s outer own attrs codes known : List ℕ) (z : Session) (o : Started) : Type 0 where
+pub record Classed (table s own attrs codes known : List ℕ) (z : Session) (o : Started) : Type 0 where
   pub beside : Beside table s known z
   pub own-classes : ClassesAt (decode table) s own (o .owned) (z .scope .bound) known
-  pub met : Met s outer own attrs codes known (z .scope .bound) o
-  pub kept : (e : Start) (place : ℕ) (out : List ℕ) → Beside table s known (planned (startPlan (decode table) s z e (declarationsOf s (attrsIn attrs (o .tag .count))) place) z out .session)
+  pub met : Met s (z .scope .bindings) own attrs codes known (z .scope .bound) o
+  pub kept : (e : Start) (place : ℕ) → Beside table s known (sessionBy (startPlan (decode table) s z e (declarationsOf s (attrsIn attrs (o .tag .count))) place) z)
+
+with-classes : (table s own attrs codes known : List ℕ) (z : Session) (o : Started) → Beside table s known z → ClassesAt (decode table) s own (o .owned) (z .scope .bound) known
+    → Met s (z .scope .bindings) own attrs codes known (z .scope .bound) o → Classed table s own attrs codes known z o
+with-classes table s own attrs codes known z o b c m =
+    record {
+      beside = b;
+      own-classes = c;
+      met = m;
+      kept =
+          beside-start table s known own z (declarationsOf s (attrsIn attrs (o .tag .count))) b (m .told .few-own) (m .told .own-laid)
+          (subst (λ (i : ℕ). KeysAt s own i (z .scope .bound) known) (m .told .owned-is) (m .own-keys)) (subst (λ (i : ℕ). ClassesAt (decode table) s own i (z .scope .bound) known) (m .told .owned-is) c);
+    }
 
 module _ (table index s known : List ℕ) where
   module _ (own attrs codes : List ℕ) (head : Head) (levels bindings spaces strands : List ℕ) (o : Started) (r : LoopReady table index s known (sessionOf head levels bindings spaces strands)) (m : Met s bindings own attrs codes known (head .bound) o) where
@@ -73,50 +94,87 @@ module _ (table index s known : List ℕ) where
 
 pub classed : (table index s known known′ own attrs codes : List ℕ) (header : Header) (head : Head) (levels bindings spaces strands : List ℕ) (o : Started)
     → LoopReady table index s known (sessionOf head levels bindings spaces strands) → Met s bindings own attrs codes known (head .bound) o → header ≡ headerOf table
-    → known′ ≡ overwrite known (80 + head .bound) (classesIn (tableOf table header) s own (o .owned)) → Classed table s bindings own attrs codes known′ (sessionOf head levels bindings spaces strands) o
+    → known′ ≡ overwrite known (80 + head .bound) (classesIn (tableOf table header) s own (o .owned)) → Classed table s own attrs codes known′ (sessionOf head levels bindings spaces strands) o
 classed table index s known known′ own attrs codes header head levels bindings spaces strands o r m h e =
     let z = sessionOf head levels bindings spaces strands in
     let f = found-few table index s known own attrs codes head levels bindings spaces strands o r m .0 in
     let n = owned-few table index s known own attrs codes head levels bindings spaces strands o r m in
-    let q = m .told .owned-is in
-    let b = classed-beside table s known known′ own header z (o .owned) (r .beside) f n h e in
-    let c = classed-own table s known known′ own header z (o .owned) (r .beside) f n h e in
     let k = classed-keys table s known known′ own header z (o .owned) (r .beside) f n h e (m .own-keys) in
-    record {
-      beside = b;
-      own-classes = c;
-      met = record { told = m .told; own-keys = k; found-within = m .found-within; codes-within = m .codes-within; plain-names = m .plain-names; plain-codes = m .plain-codes };
-      kept =
-          beside-start table s known′ own z (declarationsOf s (attrsIn attrs (o .tag .count))) b (m .told .few-own) (m .told .own-laid)
-          (subst (λ (i : ℕ). KeysAt s own i (head .bound) known′) q k) (subst (λ (i : ℕ). ClassesAt (decode table) s own i (head .bound) known′) q c);
-    }
+    with-classes table s own attrs codes known′ z o
+    (classed-beside table s known known′ own header z (o .owned) (r .beside) f n h e)
+    (classed-own table s known known′ own header z (o .owned) (r .beside) f n h e)
+    (record { told = m .told; own-keys = k; found-within = m .found-within; codes-within = m .codes-within; plain-names = m .plain-names; plain-codes = m .plain-codes })
 
--- a start
-pub opened-turn : (table s known own : List ℕ) (z : Session) (ds : List Binding)
-    → ((e : Start) (place : ℕ) (out : List ℕ) → Beside table s known (planned (startPlan (decode table) s z e ds place) z out .session))
-    → (e : Start) (place : ℕ) (out : List ℕ) (step : Step) → step ≡ planned (startPlan (decode table) s z e ds place) z out
-    → (step ≡ planned (startPlan (decode table) s z e ds place) z out) × Beside table s known (step .session)
-opened-turn table s known own z ds k e place out step q = (q, subst (λ (x : Step). Beside table s known (x .session)) (sym q) (k e place out))
+-- where the tag has no declarations
+pub unclassed : (table index s known known′ own attrs codes : List ℕ) (z : Session) (o : Started) → LoopReady table index s known z → Met s (z .scope .bindings) own attrs codes known (z .scope .bound) o
+    → o .owned ≡ 0 → known′ ≡ known → Classed table s own attrs codes known′ z o
+unclassed table index s known known′ own attrs codes z o r m n e =
+    subst (λ (x : List ℕ). Classed table s own attrs codes x z o) (sym e)
+    (with-classes table s own attrs codes known z o (r .beside) (λ k l. absurd (omega (arith, n))) m)
+
+-- ---- what is answered
+abbrev pub Answered : List ℕ → List ℕ → List ℕ → Session → List ℕ → List ℕ → List ℕ → List ℕ → List ℕ → Planned → Plan → Type 0
+Answered table index s z own words schemas attributes known r p =
+    PlannedAs table index s z own words schemas attributes r p × Beside table s known z × Beside table s known (sessionBy p z)
+
+pub refused-planned : (table s known : List ℕ) (z : Session) (n at : ℕ) (p : Plan) → Beside table s known z → p ≡ refused n at → (n ≡ 0 → ⊥)
+    → Fits (decode table) s z (planned.Refused n at) p × Beside table s known z × Beside table s known (sessionBy p z)
+refused-planned table s known z n at p b e h = ((e, h), b, subst (λ (x : Plan). Beside table s known (sessionBy x z)) (sym e) b)
+
+-- by what was decided
+module _ (table s own attrs codes known : List ℕ) (z : Session) (o : Started) (k : Classed table s own attrs codes known z o) (shallow : z .scope .depth < 64) (few : z .scope .bound + o .owned ≤ 64) where
+  abbrev e : Start
+  e = startOf s (z .scope .bindings) own attrs codes (o .at) (o .tag) (o .found)
+
+  abbrev opens : Open
+  opens = record { name = wholeSpan (o .tag .name); declarations = declarationsOf s (attrsIn attrs (o .tag .count)) }
+
+  abbrev plan : Plan
+  plan = startPlan (decode table) s z e (opens .declarations) (o .tag .next)
+
+  pub decided-refused : (n : ℕ) → n ≡ decidedNumber (decode table) s z (elementOf (decode table) s e) → (n ≡ 0 → ⊥)
+      → Fits (decode table) s z (planned.Refused n (o .at)) plan × Beside table s known z × Beside table s known (sessionBy plan z)
+  decided-refused n d h =
+      refused-planned table s known z n (o .at) plan (k .beside) (plan-refused (decode table) s z e opens (o .tag .next) shallow (omega (arith, few, k .met .told .owned-is)) n d h) h
+
+  pub decided-start : (index words schemas attributes : List ℕ) (placing : Placing) (decided : Decided) → TurnReady table (headerOf table) index s z
+      → placing ≡ placingOf (spaceOf (decode table) s (storedSpace own (z .scope .bindings) (o .found)))
+      → DecidedAs (decode table) s z (elementOf (decode table) s e) decided words schemas (attributesIn attributes) (sectionsIn attributes) → decided .number ≡ 0
+      → Answered table index s z own words schemas attributes known (planned.Start o placing decided) plan
+  decided-start index words schemas attributes placing decided ready w d h = (
+    record {
+      attrs = attrs;
+      codes = codes;
+      ds = opens .declarations;
+      plan-is = refl;
+      told = k .met .told;
+      placing-is = w;
+      as-decided = d;
+      passed = h;
+      shallow = shallow;
+      few-bound = few;
+      openable = made-openable table (headerOf table) index s z ready e decided words schemas (attributesIn attributes) (sectionsIn attributes) (d .made h) (o .at) refl (k .met .told .at-inside);
+    },
+    k .beside,
+    k .kept e (o .tag .next),
+  )
 
 -- by what reading the tag came to
-module _ (table s : List ℕ) (z : Session) (at : ℕ) (x : Tagged) (own attrs codes known : List ℕ) (r : Reading) where
-  pub start-turned : ReadAs table s z at x own attrs codes known r → (o : Started) → r ≡ reading.Start o → (out : List ℕ) (step : Step)
-      → step ≡ planned (startPlan (decode table) s z (startOf s (z .scope .bindings) own attrs codes (o .at) (o .tag) (o .found)) (declarationsOf s (attrsIn attrs (o .tag .count))) (o .tag .next)) z out
-      → step ≡ planned (planBy (decode table) s z (startRead s at (opensOf (z .scope)) (tagAt s (at + 1)) x)) z out
-  start-turned h o q out step e = e ∙ ap (λ (p : Plan). planned p z out) (sym (h .plan-is ∙ ap (readPlan (decode table) s z own attrs codes) q))
-
 pub start-met : (table index s : List ℕ) (z : Session) (at : ℕ) (x : Tagged) (own attrs codes known : List ℕ) (r : Reading) → TurnReady table (headerOf table) index s z → ReadAs table s z at x own attrs codes known r
     → (o : Started) → r ≡ reading.Start o → LoopReady table index s known z × Met s (z .scope .bindings) own attrs codes known (z .scope .bound) o
 start-met table index s z at x own attrs codes known r t h o q = (record { ready = t; beside = h .beside }, subst (ReadMet s z own attrs codes known) q (h .met))
 
-pub refused-start-turned : (table s : List ℕ) (head : Head) (levels bindings spaces strands : List ℕ) (at : ℕ) (x : Tagged) (own attrs codes known : List ℕ) (r : Reading)
-    → ReadAs table s (sessionOf head levels bindings spaces strands) at x own attrs codes known r → (n p : ℕ) → r ≡ reading.Refused n p → (out : List ℕ) (turn : Turn) → turn ≡ stopTurn n p head
-    → (stepBy turn levels bindings spaces strands out ≡ planned (planBy (decode table) s (sessionOf head levels bindings spaces strands) (startRead s at (opensIn levels bindings (head .depth) (head .bound)) (tagAt s (at + 1)) x)) (sessionOf head levels bindings spaces strands) out)
-    × Beside table s known (sessionOf (turn .head) levels bindings spaces strands)
-refused-start-turned table s head levels bindings spaces strands at x own attrs codes known r h n p q out turn e =
-    let z = sessionOf head levels bindings spaces strands in
-    refused-turn table s known head levels bindings spaces strands out n p (h .beside) turn e
-    (stop-step n p head levels bindings spaces strands out (subst (ReadMet s z own attrs codes known) q (h .met)) ∙ ap (λ (y : Plan). planned y z out) (sym (h .plan-is ∙ ap (readPlan (decode table) s z own attrs codes) q)))
+module _ (table s : List ℕ) (z : Session) (at : ℕ) (x : Tagged) (own attrs codes known : List ℕ) (r : Reading) (h : ReadAs table s z at x own attrs codes known r) where
+  abbrev readBy : Plan
+  readBy = planBy (decode table) s z (startRead s at (opensOf (z .scope)) (tagAt s (at + 1)) x)
+
+  pub start-read : (index words schemas attributes known′ : List ℕ) (o : Started) → r ≡ reading.Start o → (a : Planned)
+      → Answered table index s z own words schemas attributes known′ a (readPlan (decode table) s z own attrs codes (reading.Start o)) → Answered table index s z own words schemas attributes known′ a readBy
+  start-read index words schemas attributes known′ o q a w =
+      subst (Answered table index s z own words schemas attributes known′ a) (sym (h .plan-is ∙ ap (readPlan (decode table) s z own attrs codes) q)) w
+
+  pub refused-read : (n p : ℕ) → r ≡ reading.Refused n p → Fits (decode table) s z (planned.Refused n p) readBy × Beside table s known z × Beside table s known (sessionBy readBy z)
+  refused-read n p q = refused-planned table s known z n p readBy (h .beside) (h .plan-is ∙ ap (readPlan (decode table) s z own attrs codes) q) (subst (ReadMet s z own attrs codes known) q (h .met))
 
 -- ---- the start of step, advance and run
 pub from-loop : (table : List ℕ) (header : Header) (index s : List ℕ) (head : Head) (levels bindings : List ℕ) → TurnReady table header index s (sessionAt head levels bindings) → length bindings ≡ 256

@@ -1,9 +1,12 @@
--- A text, an end and a refusal, as the code's parts make them: the records of the innermost level, 25 or the output with them, the session behind.
+-- A text, an end and a refusal, as the code's parts plan and make them: what comes next, the records of the innermost level, 25 or the output with them,
+-- the session behind.
 --     inner-level, written-text, written-end     what the innermost level writes
 --     full-turn, room-turn, not-full             25, and the records laid; room for two of each strand
 --     stop-step, closed-session                  a refusal; the numbers behind an end
 --     opens-inner, awaited-plan, ..              what the reader's rules plan
+--     text-inside, .., span-small                places inside the scene
 --     closes-past, .., tag-here                  the open name and a > where an end tag's name begins
+--     stopped-fits, .., alike-named              what is planned, by what the code's parts gave
 use Prim.Native.Nat.{ℕ, zero, suc, _+_, _*_, _-_, _/_, _%_, _^_, _≤_, _<_}
 use mathlib.Core.Path.{_≡_, refl, sym, ap, ap₂, subst, _∙_}
 use mathlib.Core.Logic.{⊎-elim}
@@ -60,10 +63,12 @@ use Rattle.strands.specs.Packed.{wordsAt}
 use Rattle.strands.specs.Writing.{rowFor, rowOf, eventRecords, eventCount}
 use Rattle.strands.proofs.Delivered.{events-length, events-most, texts-records, ends-records, rows-bytes, rows-length}
 use Rattle.dispatcher.specs.Sessions.{classIn, uriIn, strandCount, strandsIn, levelIn, levelsIn, sessionOf, readerOf, stateOf, withEnd}
-use Rattle.dispatcher.specs.Stepping.{Plan, event, refused, planBy, planOf, planned, Step, answered, refusedStep, eventStep}
-use Rattle.dispatcher.specs.Turns.{closesAt, stopTurn, stepBy, closedHead, endRow}
+use Rattle.dispatcher.specs.Stepping.{Plan, event, refused, planBy, planOf, Step, answered, refusedStep, eventStep}
+use Rattle.dispatcher.specs.Turns.{closesAt, stopTurn, stepBy, closedHead, endRow, Fits}
 use Rattle.dispatcher.specs.declared.Session.{Session}
 use Rattle.dispatcher.specs.declared.Head.{Head}
+use Rattle.dispatcher.specs.declared.Planned.{Planned}
+use Rattle.dispatcher.specs.declared.Planned.the-variants as planned
 
 -- ---- what the innermost level writes
 module _ (t : Table) (s : List ℕ) (z : Session) (h : 1 ≤ z .scope .depth) where
@@ -158,12 +163,6 @@ text-row-is at end′ a b x y p q =
 pub stop-step : (n p : ℕ) (head : Head) (levels bindings spaces strands out : List ℕ) → (n ≡ 0 → ⊥)
     → stepBy (stopTurn n p head) levels bindings spaces strands out ≡ refusedStep n p (sessionOf head levels bindings spaces strands) out
 stop-step n p head levels bindings spaces strands out h = rw (ne-eqb n 0 h)
-
-pub stopped-step : (s : List ℕ) (x : Stop) (head : Head) (levels bindings spaces strands out : List ℕ)
-    → stepBy (stopTurn (numberOf x) (stopPlace s x) head) levels bindings spaces strands out ≡ refusedStep (numberOf x) (stopPlace s x) (sessionOf head levels bindings spaces strands) out
-stopped-step s (Bad p) head levels bindings spaces strands out = refl
-stopped-step s (Long p) head levels bindings spaces strands out = refl
-stopped-step s Cut head levels bindings spaces strands out = refl
 
 -- only the root's end leaves nothing open
 pub last-open : (d : ℕ) → 1 ≤ d → eqb (d - 1) 0 ≡ eqb d 1
@@ -304,56 +303,55 @@ module _ (s : List ℕ) (at : ℕ) (name : Span) where
       unfolding tagHere
       part-here = ap (partOf s) (sym span-here) ∙ part-again s at (tagHere .name) (name-here s at (name .len) closes-inside whole-here closes-byte .1)
 
--- ---- the turns, by what the code's parts gave
-module _ (t : Table) (s : List ℕ) (z : Session) (out : List ℕ) (r : Step) where
-  pub text-step : (at : ℕ) (v m : Read) → v ≡ textEnd s at → v ≡ m → r ≡ planned (planBy t s z (textRead s (readerOf z) at m)) z out → r ≡ planned (planBy t s z (textRead s (readerOf z) at (textEnd s at))) z out
-  text-step at v m p q e = e ∙ ap (λ (x : Read). planned (planBy t s z (textRead s (readerOf z) at x)) z out) (sym q ∙ p)
+-- ---- what is planned, by what the code's parts gave
+-- a stop has a number
+pub stop-nonzero : (x : Stop) → numberOf x ≡ 0 → ⊥
+stop-nonzero (Bad p) e = omega arith
+stop-nonzero (Long p) e = omega arith
+stop-nonzero Cut e = omega arith
 
-  pub end-read-step : (at : ℕ) (v m : Ended) → v ≡ endTagAt s (at + 2) → v ≡ m → r ≡ planned (planBy t s z (endRead s at (opensOf (z .scope)) m)) z out
-      → r ≡ planned (planBy t s z (endRead s at (opensOf (z .scope)) (endTagAt s (at + 2)))) z out
-  end-read-step at v m p q e = e ∙ ap (λ (x : Ended). planned (planBy t s z (endRead s at (opensOf (z .scope)) x)) z out) (sym q ∙ p)
+module _ (t : Table) (s : List ℕ) (z : Session) (r : Planned) where
+  pub stopped-fits : (p : Plan) (x : Stop) → r ≡ planned.Refused (numberOf x) (stopPlace s x) → p ≡ refused (numberOf x) (stopPlace s x) → Fits t s z r p
+  stopped-fits p x e q = subst (λ (y : Planned). Fits t s z y p) (sym e) (q, stop-nonzero x)
 
-  module _ (h : 1 ≤ z .scope .depth) where
-    abbrev endStep : Span → ℕ → ℕ → Step
-    endStep part at place = planned (endPlan t s z h part at place) z out
+  pub text-fits : (at : ℕ) (v m : Read) → v ≡ textEnd s at → v ≡ m → Fits t s z r (planBy t s z (textRead s (readerOf z) at m)) → Fits t s z r (planBy t s z (textRead s (readerOf z) at (textEnd s at)))
+  text-fits at v m p q = subst (λ (x : Read). Fits t s z r (planBy t s z (textRead s (readerOf z) at x))) (sym q ∙ p)
 
-    pub awaited-step : z .awaited ≡ true → (name part : Span) (at : ℕ) → name ≡ nameIn (z .scope .levels) (z .scope .depth - 1) → part ≡ partOf s name → at ≡ name .at - 1
-        → r ≡ eventStep at (written (dispatch t) (stateOf t s z) (end part)) (withEnd z (z .place) (eqb (z .scope .depth) 1)) z out → r ≡ planned (planOf t s z) z out
-    awaited-step a name part at n p k e =
-        e
-        ∙ ap₂ (λ (w : Span) (i : ℕ). endStep w i (z .place)) (p ∙ ap (partOf s) n) (k ∙ ap (λ (w : Span). w .at - 1) n)
-        ∙ sym (ap (λ (x : Plan). planned x z out) (awaited-plan t s z h a))
+  pub end-fits : (at : ℕ) (v m : Ended) → v ≡ endTagAt s (at + 2) → v ≡ m → Fits t s z r (planBy t s z (endRead s at (opensOf (z .scope)) m))
+      → Fits t s z r (planBy t s z (endRead s at (opensOf (z .scope)) (endTagAt s (at + 2))))
+  end-fits at v m p q = subst (λ (x : Ended). Fits t s z r (planBy t s z (endRead s at (opensOf (z .scope)) x))) (sym q ∙ p)
 
-    -- the open name and a > stand there
-    pub closing-step : (at : ℕ) (name part : Span) (closing : Bool) → name ≡ nameIn (z .scope .levels) (z .scope .depth - 1) → isWholeName (bytesOf s (nameIn (z .scope .levels) (z .scope .depth - 1))) ≡ true
-        → closing ≡ closesAt s (at + 2) name → closing ≡ true → part ≡ partOf s (span (at + 2) (name .len))
-        → r ≡ eventStep at (written (dispatch t) (stateOf t s z) (end part)) (withEnd z (at + 3 + name .len) (eqb (z .scope .depth) 1)) z out
-        → r ≡ planned (planBy t s z (endRead s at (opensOf (z .scope)) (endTagAt s (at + 2)))) z out
-    closing-step at name part closing n w c q p e =
-        let k : closesAt s (at + 2) name ≡ true = sym c ∙ q in
-        let v : isWholeName (bytesOf s name) ≡ true = rw n w in
-        let tag = tagHere s (at + 2) name k v in
-        let alike : sameList (bytesOf s (wholeSpan (tag .name))) (bytesOf s (nameIn (z .scope .levels) (z .scope .depth - 1))) ≡ true =
-        ap₂ (λ (x y : Span). sameList (bytesOf s x) (bytesOf s y)) (span-here s (at + 2) name k v) (sym n) ∙ closes-bytes s (at + 2) name k in
-        e
-        ∙ ap₂ (λ (x : Span) (i : ℕ). endStep x at i) (p ∙ part-here s (at + 2) name k v) (omega (arith, next-here s (at + 2) name k v))
-        ∙ sym (ap (λ (y : Plan). planned y z out) (ap (λ (x : Ended). planBy t s z (endRead s at (opensOf (z .scope)) x)) (tag-here s (at + 2) name k v) ∙ end-plan t s z h at tag alike))
+module _ (t : Table) (s : List ℕ) (z : Session) (h : 1 ≤ z .scope .depth) where
+  -- the end of a />
+  pub awaited-part : z .awaited ≡ true → (name part : Span) (at : ℕ) → name ≡ nameIn (z .scope .levels) (z .scope .depth - 1) → part ≡ partOf s name → at ≡ name .at - 1
+      → planOf t s z ≡ event at (written (dispatch t) (stateOf t s z) (end part)) (withEnd z (z .place) (eqb (z .scope .depth) 1))
+  awaited-part a name part at n p k =
+      awaited-plan t s z h a ∙ sym (ap₂ (λ (w : Span) (i : ℕ). endPlan t s z h w i (z .place)) (p ∙ ap (partOf s) n) (k ∙ ap (λ (w : Span). w .at - 1) n))
 
-    pub stopped-end : (at : ℕ) (x : Stop) → r ≡ refusedStep (numberOf x) (stopPlace s x) z out → r ≡ planned (planBy t s z (endRead s at (opensOf (z .scope)) (ended.Stopped x))) z out
-    stopped-end at x e = e ∙ sym (ap (λ (y : Plan). planned y z out) (stopped-plan t s z h at x))
+  -- the open name and a > stand there
+  pub closing-plan : (at : ℕ) (name part : Span) (closing : Bool) → name ≡ nameIn (z .scope .levels) (z .scope .depth - 1) → isWholeName (bytesOf s (nameIn (z .scope .levels) (z .scope .depth - 1))) ≡ true
+      → closing ≡ closesAt s (at + 2) name → closing ≡ true → part ≡ partOf s (span (at + 2) (name .len))
+      → planBy t s z (endRead s at (opensOf (z .scope)) (endTagAt s (at + 2))) ≡ event at (written (dispatch t) (stateOf t s z) (end part)) (withEnd z (at + 3 + name .len) (eqb (z .scope .depth) 1))
+  closing-plan at name part closing n w c q p =
+      let k : closesAt s (at + 2) name ≡ true = sym c ∙ q in
+      let v : isWholeName (bytesOf s name) ≡ true = rw n w in
+      let tag = tagHere s (at + 2) name k v in
+      let alike : sameList (bytesOf s (wholeSpan (tag .name))) (bytesOf s (nameIn (z .scope .levels) (z .scope .depth - 1))) ≡ true =
+      ap₂ (λ (x y : Span). sameList (bytesOf s x) (bytesOf s y)) (span-here s (at + 2) name k v) (sym n) ∙ closes-bytes s (at + 2) name k in
+      ap (λ (x : Ended). planBy t s z (endRead s at (opensOf (z .scope)) x)) (tag-here s (at + 2) name k v)
+      ∙ end-plan t s z h at tag alike
+      ∙ sym (ap₂ (λ (x : Span) (i : ℕ). endPlan t s z h x at i) (p ∙ part-here s (at + 2) name k v) (omega (arith, next-here s (at + 2) name k v)))
 
-    module _ (at : ℕ) (tag : EndTag) (whole name : Span) (same : Bool) (w : whole ≡ wholeSpan (tag .name)) (n : name ≡ nameIn (z .scope .levels) (z .scope .depth - 1)) (q : same ≡ sameList (bytesOf s whole) (bytesOf s name)) where
-      same-is : same ≡ sameList (bytesOf s (wholeSpan (tag .name))) (bytesOf s (nameIn (z .scope .levels) (z .scope .depth - 1)))
-      same-is = q ∙ ap₂ (λ (v x : Span). sameList (bytesOf s v) (bytesOf s x)) w n
+  module _ (at : ℕ) (tag : EndTag) (whole name : Span) (same : Bool) (w : whole ≡ wholeSpan (tag .name)) (n : name ≡ nameIn (z .scope .levels) (z .scope .depth - 1)) (q : same ≡ sameList (bytesOf s whole) (bytesOf s name)) where
+    same-is : same ≡ sameList (bytesOf s (wholeSpan (tag .name))) (bytesOf s (nameIn (z .scope .levels) (z .scope .depth - 1)))
+    same-is = q ∙ ap₂ (λ (v x : Span). sameList (bytesOf s v) (bytesOf s x)) w n
 
-      pub unlike-step : not same ≡ true → r ≡ refusedStep 4 at z out → r ≡ planned (planBy t s z (endRead s at (opensOf (z .scope)) (ended.Got tag))) z out
-      unlike-step u e =
-          e ∙ sym (ap (λ (y : Plan). planned y z out) (unlike-plan t s z h at tag (untold same (sameList (bytesOf s (wholeSpan (tag .name))) (bytesOf s (nameIn (z .scope .levels) (z .scope .depth - 1)))) same-is u)))
+    -- an end tag that was read
+    pub unlike-named : not same ≡ true → planBy t s z (endRead s at (opensOf (z .scope)) (ended.Got tag)) ≡ refused 4 at
+    unlike-named u = unlike-plan t s z h at tag (untold same (sameList (bytesOf s (wholeSpan (tag .name))) (bytesOf s (nameIn (z .scope .levels) (z .scope .depth - 1)))) same-is u)
 
-      pub end-step : not same ≡ false → (part : Span) → part ≡ partSpan (tag .name)
-          → r ≡ eventStep at (written (dispatch t) (stateOf t s z) (end part)) (withEnd z (tag .next) (eqb (z .scope .depth) 1)) z out
-          → r ≡ planned (planBy t s z (endRead s at (opensOf (z .scope)) (ended.Got tag))) z out
-      end-step u part p e =
-          e
-          ∙ ap (λ (v : Span). endStep v at (tag .next)) p
-          ∙ sym (ap (λ (y : Plan). planned y z out) (end-plan t s z h at tag (untold′ same (sameList (bytesOf s (wholeSpan (tag .name))) (bytesOf s (nameIn (z .scope .levels) (z .scope .depth - 1)))) same-is u)))
+    pub alike-named : not same ≡ false → (part : Span) → part ≡ partSpan (tag .name)
+        → planBy t s z (endRead s at (opensOf (z .scope)) (ended.Got tag)) ≡ event at (written (dispatch t) (stateOf t s z) (end part)) (withEnd z (tag .next) (eqb (z .scope .depth) 1))
+    alike-named u part p =
+        end-plan t s z h at tag (untold′ same (sameList (bytesOf s (wholeSpan (tag .name))) (bytesOf s (nameIn (z .scope .levels) (z .scope .depth - 1)))) same-is u)
+        ∙ sym (ap (λ (v : Span). endPlan t s z h v at (tag .next)) p)

@@ -1,7 +1,8 @@
--- A start that was decided, as the code's parts make it: 23 or 24, 25, or its records and what it opens.
---     start-plan               what is left where 21 and 22 are passed
---     begun-body, begun-at     what the starts along the strands have in common
---     refused-start, full-start, room-start
+-- A start that was decided, as the code's parts make it: 23 or 24; 25, or its records and what it opens.
+--     start-plan                           what is left where 21 and 22 are passed
+--     plan-refused, plan-passed            23 and 24, or the event
+--     begun-body, begun-at                 what the starts along the strands have in common
+--     laid-start, full-start, room-start   the level laid down; 25; the records with it
 use Prim.Native.Nat.{ℕ, _+_, _*_, _-_, _/_, _≤_, _<_}
 use mathlib.Core.Path.{_≡_, refl, sym, ap, subst, _∙_}
 use mathlib.Core.List.{List, [], _∷_, _++_, map, map-map}
@@ -13,15 +14,12 @@ use lib.ListN.{length, take}
 use lib.Dec.{eqb, ltb}
 use Rattle.laws.specs.Over.{overwrite}
 use Rattle.laws.proofs.Holds.{holds-cond}
-use Rattle.table.specs.Table.{Table, decode, classOf}
+use Rattle.table.specs.Table.{Table, decode, headerOf, classOf}
 use Rattle.table.specs.Index.{indexOf}
-use Rattle.table.specs.declared.Header.{Header}
 use Rattle.lexer.specs.declared.Tag.{Tag}
 use Rattle.reader.specs.declared.Binding.{Binding}
-use Rattle.reader.specs.declared.Found.{Found}
 use Rattle.reader.specs.Spans.{wholeSpan, partSpan}
 use Rattle.reader.specs.Namespaces.{Namespace, uriOf}
-use Rattle.reader.specs.Stored as stored
 use Rattle.reader.specs.Stored.{narrowed}
 use Rattle.reader.specs.Scope.{levelNumbers}
 use Rattle.reader.specs.Events.{Start, Open}
@@ -36,14 +34,16 @@ use Rattle.records.specs.Rows.{laid, laidRows}
 use Rattle.attributes.specs.declared.Placing.{Placing}
 use Rattle.strands.specs.declared.Begun.{Begun}
 use Rattle.strands.specs.Packed.{packed}
-use Rattle.attributes.specs.Attributes.{placingOf}
+use Rattle.attributes.specs.Attributes.{placingOf, attributesIn, sectionsIn}
 use Rattle.strands.specs.Writing.{rowOf, begunBody}
 use Rattle.dispatcher.specs.Sessions.{sessionOf, stateOf, withStart}
-use Rattle.dispatcher.specs.Stepping.{Plan, refused, event, startPlan, planned, Step, answered, eventStep}
+use Rattle.dispatcher.specs.Stepping.{Plan, refused, event, startPlan, planned, weighed, Step, answered}
 use Rattle.openings.specs.Openings.{begunOf}
-use Rattle.dispatcher.specs.Turns.{TurnReady, Told, Made, DecidedAs, Roomy, startOf, stopTurn, stepBy, openedHead, decidedNumber}
+use Rattle.dispatcher.specs.Turns.{TurnReady, Made, StartAs, startOf, stopTurn, stepBy, openedHead, decidedNumber}
 use Rattle.dispatcher.specs.declared.Session.{Session}
 use Rattle.dispatcher.specs.declared.Head.{Head}
+use Rattle.dispatcher.specs.declared.Started.{Started}
+use Rattle.dispatcher.specs.declared.Turn.{Turn}
 use Rattle.openings.specs.declared.Decided.{Decided}
 use Rattle.dispatcher.proofs.Spaces.{class-few}
 use Rattle.dispatcher.proofs.CoherentSound.{coherent-levels}
@@ -85,7 +85,7 @@ module _ (t : Table) (s : List ℕ) (z : Session) (e : Start) (o : Open) (place 
     unfolding startPlan
     start-plan = rw (lt-leb 64 (z .scope .depth) shallow, le-ltb 64 (z .scope .bound + length (o .declarations)) few)
 
-    plan-refused : (n ≡ 0 → ⊥) → startPlan t s z e (o .declarations) place ≡ refused n (e .at)
+    pub plan-refused : (n ≡ 0 → ⊥) → startPlan t s z e (o .declarations) place ≡ refused n (e .at)
     plan-refused h = start-plan ∙ number-plan many far n (e .at) eventOf number-is h
 
     plan-passed : n ≡ 0 → startPlan t s z e (o .declarations) place ≡ eventOf
@@ -115,87 +115,91 @@ element-space : (t : Table) (s : List ℕ) (e : Start) → elementOf t s e .spac
 unfolding elementOf
 element-space t s e = refl
 
--- ---- the three ways out
+-- ---- a start that is planned
 abbrev openOf : Tag → List Binding → Open
 openOf tag ds = record { name = wholeSpan (tag .name); declarations = ds }
 
-module _ (table s attrs codes : List ℕ) (header : Header) (found : Found) (ds : List Binding) (index own words schemas attributes sections : List ℕ) (at : ℕ) (tag : Tag) (placing : Placing) (owned : ℕ) (decided : Decided) (head : Head) (levels bindings spaces strands out : List ℕ) where
+module _ (table index s own words schemas attributes : List ℕ) (o : Started) (placing : Placing) (decided : Decided) (head : Head) (levels bindings spaces strands : List ℕ) (p : Plan) where
   abbrev z : Session
   z = sessionOf head levels bindings spaces strands
 
-  abbrev e : Start
-  e = startOf s bindings own attrs codes at tag found
+  module _ (ready : TurnReady table (headerOf table) index s z) (as-planned : StartAs table index s z own words schemas attributes o placing decided p) where
+    abbrev e : Start
+    e = startOf s bindings own (as-planned .attrs) (as-planned .codes) (o .at) (o .tag) (o .found)
 
-  abbrev element : Element
-  element = elementOf (decode table) s e
+    abbrev element : Element
+    element = elementOf (decode table) s e
 
-  abbrev wanted : Step
-  wanted = planned (startPlan (decode table) s z e ds (tag .next)) z out
+    abbrev next : Session
+    next = nextOf (decode table) s z e (openOf (o .tag) (as-planned .ds)) (o .tag .next)
 
-  module _ (roomy : Roomy head owned) (ready : TurnReady table header index s z) (told : Told s bindings own attrs codes at tag found owned ds) (placing-is : placing ≡ placingOf (spaceOf (decode table) s (stored.storedSpace own bindings found))) (as-decided : DecidedAs (decode table) s z element decided words schemas attributes sections) where
-    few : head .bound + length ds ≤ 64
-    few = omega (arith, roomy .few-bound, told .owned-is)
+    abbrev es : List Entry
+    es = entered (dispatch (decode table)) (stateOf (decode table) s z) element
 
-    pub refused-start : (decided .number ≡ 0 → ⊥) → stepBy (stopTurn (decided .number) at head) levels bindings spaces strands out ≡ wanted
-    refused-start h =
-        stop-step (decided .number) at head levels bindings spaces strands out h
-        ∙ sym (ap (λ (p : Plan). planned p z out) (plan-refused (decode table) s z e (openOf tag ds) (tag .next) (roomy .shallow) few (decided .number) (as-decided .number-is) h))
+    abbrev rs : List (Record Body ℕ)
+    rs = written (dispatch (decode table)) (stateOf (decode table) s z) (start element)
 
-    module _ (h : decided .number ≡ 0) where
-      abbrev next : Session
-      next = nextOf (decode table) s z e (openOf tag ds) (tag .next)
+    made : Made (decode table) s z element decided words schemas (attributesIn attributes) (sectionsIn attributes)
+    made = as-planned .as-decided .made (as-planned .passed)
 
-      abbrev es : List Entry
-      es = entered (dispatch (decode table)) (stateOf (decode table) s z) element
+    event-planned : p ≡ event (o .at) rs next
+    event-planned =
+        as-planned .plan-is
+        ∙ plan-passed (decode table) s z e (openOf (o .tag) (as-planned .ds)) (o .tag .next) (as-planned .shallow)
+        (omega (arith, as-planned .few-bound, as-planned .told .owned-is)) (decided .number) (as-planned .as-decided .number-is) (as-planned .passed)
 
-      abbrev rs : List (Record Body ℕ)
-      rs = written (dispatch (decode table)) (stateOf (decode table) s z) (start element)
+    session-is : (levels′ bindings′ spaces′ strands′ : List ℕ)
+        → levels′ ≡ overwrite levels (3 * head .depth) (levelNumbers (wholeSpan (o .tag .name)) (o .owned))
+        → bindings′ ≡ overwrite bindings (4 * head .bound) (take (4 * o .owned) own)
+        → spaces′ ≡ overwrite spaces (4 * head .depth) (placing .class ∷ narrowed (placing .at) ∷ narrowed (placing .len) ∷ decided .strands ∷ [])
+        → strands′ ≡ overwrite strands (16 * head .depth) (take (decided .strands) words)
+        → sessionOf (openedHead head (o .tag .next) (o .tag .empty) (decided .units) (o .owned)) levels′ bindings′ spaces′ strands′ ≡ next
+    session-is levels′ bindings′ spaces′ strands′ l b c q =
+        let space-is : element .space ≡ spaceOf (decode table) s (e .namespace) = element-space (decode table) s e in
+        opened-session head levels bindings spaces strands (o .tag .next) (o .tag .empty) (wholeSpan (o .tag .name)) (as-planned .ds) (element .space) (map (λ (x : Entry). x .strand) es)
+        levels′ bindings′ spaces′ strands′ own words (decided .units) (after (dispatch (decode table)) (stateOf (decode table) s z) (start element) .units) (o .owned) (decided .strands) placing
+        l b c q (made .units-are) (as-planned .told .owned-is) (as-planned .told .own-laid) (as-planned .placing-is ∙ ap placingOf (sym space-is))
+        (subst (λ (w : Space). w .class ≤ 255) (sym space-is) (class-few table (ready .accepted) s (e .namespace)))
+        (new-count words schemas (decided .strands) es (made .entries-are))
+        (made .strands-are ∙ sym (map-map packed (λ (x : Entry). x .strand) es))
 
-      made : Made (decode table) s z element decided words schemas attributes sections
-      made = as-decided .made h
+    pub laid-start : (head′ : Head) (levels′ bindings′ spaces′ strands′ : List ℕ)
+        → head′ ≡ openedHead head (o .tag .next) (o .tag .empty) (decided .units) (o .owned)
+        → levels′ ≡ overwrite levels (3 * head .depth) (levelNumbers (wholeSpan (o .tag .name)) (o .owned))
+        → bindings′ ≡ overwrite bindings (4 * head .bound) (take (4 * o .owned) own)
+        → spaces′ ≡ overwrite spaces (4 * head .depth) (placing .class ∷ narrowed (placing .at) ∷ narrowed (placing .len) ∷ decided .strands ∷ [])
+        → strands′ ≡ overwrite strands (16 * head .depth) (take (decided .strands) words)
+        → stepBy (record { number = 0; place = o .tag .next; records = decided .records; head = head′ }) levels′ bindings′ spaces′ strands′ [] ≡ weighed p z
+    laid-start head′ levels′ bindings′ spaces′ strands′ h l b c q =
+        ap (λ (x : Session). record { answer = answered 0 (o .tag .next) 1 (decided .records); session = x; output = [] })
+        (ap (λ (x : Head). sessionOf x levels′ bindings′ spaces′ strands′) h ∙ session-is levels′ bindings′ spaces′ strands′ l b c q)
+        ∙ ap (λ (n : ℕ). record { answer = answered 0 (o .tag .next) 1 n; session = next; output = [] }) (made .records-are)
+        ∙ sym (ap (λ (x : Plan). weighed x z) event-planned)
 
-      passed : eventStep at rs next z out ≡ wanted
-      passed = sym (ap (λ (p : Plan). planned p z out) (plan-passed (decode table) s z e (openOf tag ds) (tag .next) (roomy .shallow) few (decided .number) (as-decided .number-is) h))
-
-      pub full-start : length out / 16 < decided .records → stepBy (stopTurn 25 at head) levels bindings spaces strands out ≡ wanted
+    module _ (out : List ℕ) where
+      pub full-start : length out / 16 < decided .records → stepBy (stopTurn 25 (o .at) head) levels bindings spaces strands out ≡ planned p z out
       full-start l =
-          stop-step 25 at head levels bindings spaces strands out (λ q. omega arith)
-          ∙ full-turn at (decided .records) rs next z out (made .records-are) (omega arith)
-          ∙ passed
+          stop-step 25 (o .at) head levels bindings spaces strands out (λ q. omega arith)
+          ∙ full-turn (o .at) (decided .records) rs next z out (made .records-are) (omega arith)
+          ∙ sym (ap (λ (x : Plan). planned x z out) event-planned)
 
-      session-is : (levels′ bindings′ spaces′ strands′ : List ℕ)
-          → levels′ ≡ overwrite levels (3 * head .depth) (levelNumbers (wholeSpan (tag .name)) owned)
-          → bindings′ ≡ overwrite bindings (4 * head .bound) (take (4 * owned) own)
-          → spaces′ ≡ overwrite spaces (4 * head .depth) (placing .class ∷ narrowed (placing .at) ∷ narrowed (placing .len) ∷ decided .strands ∷ [])
-          → strands′ ≡ overwrite strands (16 * head .depth) (take (decided .strands) words)
-          → sessionOf (openedHead head (tag .next) (tag .empty) (decided .units) owned) levels′ bindings′ spaces′ strands′ ≡ next
-      session-is levels′ bindings′ spaces′ strands′ l b p q =
-          let space-is : element .space ≡ spaceOf (decode table) s (e .namespace) = element-space (decode table) s e in
-          opened-session head levels bindings spaces strands (tag .next) (tag .empty) (wholeSpan (tag .name)) ds (element .space) (map (λ (x : Entry). x .strand) es)
-          levels′ bindings′ spaces′ strands′ own words (decided .units) (after (dispatch (decode table)) (stateOf (decode table) s z) (start element) .units) owned (decided .strands) placing
-          l b p q (made .units-are) (told .owned-is) (told .own-laid) (placing-is ∙ ap placingOf (sym space-is))
-          (subst (λ (w : Space). w .class ≤ 255) (sym space-is) (class-few table (ready .accepted) s (e .namespace)))
-          (new-count words schemas (decided .strands) es (made .entries-are))
-          (made .strands-are ∙ sym (map-map packed (λ (x : Entry). x .strand) es))
+      module _ (b : Begun) (b-is : b ≡ begunOf (o .at) (o .tag) placing) where
+        abbrev rows : List (Record Body ℕ)
+        rows = unitRecords index (attributesIn attributes) (sectionsIn attributes) words (b .tag) (head .units) decided ++ strandRecords index (attributesIn attributes) (sectionsIn attributes) words schemas b decided
 
-      module _ (b : Begun) (b-is : b ≡ begunOf at tag placing) where
-        records-are : unitRecords index attributes sections words (b .tag) (head .units) decided ++ strandRecords index attributes sections words schemas b decided ≡ rs
+        records-are : rows ≡ rs
         records-are =
-            written-is table s z e (ready .accepted) (coherent-levels (decode table) s z (ready .coherent′)) index attributes sections words schemas b decided made
+            let told = as-planned .told in
+            written-is table s z e (ready .accepted) (coherent-levels (decode table) s z (ready .coherent′)) index (attributesIn attributes) (sectionsIn attributes) words schemas b decided made
             (ready .index-is ∙ ap (indexOf table) (ready .header-is))
-            (ap (λ (x : Begun). x .tag) b-is ∙ begun-at (decode table) s at tag placing e (ready .short) (told .at-inside) refl)
-            (ap begunBody b-is ∙ begun-body (decode table) s at tag placing e (ready .short) (told .at-inside) refl refl (told .part-inside) placing-is (told .uri-inside))
+            (ap (λ (x : Begun). x .tag) b-is ∙ begun-at (decode table) s (o .at) (o .tag) placing e (ready .short) (told .at-inside) refl)
+            (ap begunBody b-is ∙ begun-body (decode table) s (o .at) (o .tag) placing e (ready .short) (told .at-inside) refl refl (told .part-inside) (as-planned .placing-is) (told .uri-inside))
 
-        pub room-start : (head′ : Head) (levels′ bindings′ spaces′ strands′ out′ : List ℕ) (used : ℕ) → decided .records ≤ length out / 16
-            → laid out′ used ≡ laidRows (laid out 0) (map rowOf (unitRecords index attributes sections words (b .tag) (head .units) decided ++ strandRecords index attributes sections words schemas b decided))
-            → head′ ≡ openedHead head (tag .next) (tag .empty) (decided .units) owned
-            → levels′ ≡ overwrite levels (3 * head .depth) (levelNumbers (wholeSpan (tag .name)) owned)
-            → bindings′ ≡ overwrite bindings (4 * head .bound) (take (4 * owned) own)
-            → spaces′ ≡ overwrite spaces (4 * head .depth) (placing .class ∷ narrowed (placing .at) ∷ narrowed (placing .len) ∷ decided .strands ∷ [])
-            → strands′ ≡ overwrite strands (16 * head .depth) (take (decided .strands) words)
-            → stepBy (record { number = 0; place = tag .next; records = decided .records; head = head′ }) levels′ bindings′ spaces′ strands′ out′ ≡ wanted
-        room-start head′ levels′ bindings′ spaces′ strands′ out′ used r l hd lv bi sp st =
-            ap (λ (x : Session). record { answer = answered 0 (tag .next) 1 (decided .records); session = x; output = out′ })
-            (ap (λ (x : Head). sessionOf x levels′ bindings′ spaces′ strands′) hd ∙ session-is levels′ bindings′ spaces′ strands′ lv bi sp st)
-            ∙ room-turn at (decided .records) rs next z out (made .records-are) used out′ (omega arith) (l ∙ ap (λ (xs : List (Record Body ℕ)). laidRows (laid out 0) (map rowOf xs)) records-are)
-            ∙ passed
+        pub room-start : (r : Turn) (levels′ bindings′ spaces′ strands′ out′ : List ℕ) (used : ℕ) → decided .records ≤ length out / 16
+            → laid out′ used ≡ laidRows (laid out 0) (map rowOf rows)
+            → stepBy r levels′ bindings′ spaces′ strands′ [] ≡ weighed p z
+            → stepBy r levels′ bindings′ spaces′ strands′ out′ ≡ planned p z out
+        room-start r levels′ bindings′ spaces′ strands′ out′ used h l w =
+            ap (λ (x : Step). record { answer = x .answer; session = x .session; output = out′ }) (w ∙ ap (λ (x : Plan). weighed x z) event-planned)
+            ∙ room-turn (o .at) (length rs) rs next z out refl used out′ (omega (arith, made .records-are)) (l ∙ ap (λ (xs : List (Record Body ℕ)). laidRows (laid out 0) (map rowOf xs)) records-are)
+            ∙ sym (ap (λ (x : Plan). planned x z out) event-planned)

@@ -1,9 +1,9 @@
 -- A start and one event, as the code's parts make them: what each part asks of the session and the arrays, and what the answers say together.
 --     innermost, awaited-innermost, decidable, few-bound     of a session that number 20 accepts
---     deep-turn, bound-turn                                  21 and 22
+--     deep-plan, bound-plan                                  21 and 22
 --     made-openable                                          what is decided can be written
 --     roomy                                                  what 21 and 22 leave
---     begun-step, start-begins, end-begins, text-begins      one event, by how it begins
+--     begin-plan, start-begins, end-begins, text-begins      one event, by how it begins
 use Prim.Native.Nat.{ℕ, zero, suc, _+_, _-_, _*_, _%_, _^_, _≤_, _<_}
 use mathlib.Core.Path.{_≡_, refl, sym, ap, ap₂, subst, _∙_}
 use mathlib.Core.List.{List, [], _∷_, _++_, map}
@@ -50,10 +50,9 @@ use Rattle.strands.specs.Writing.{strandUnits, tagUnits}
 use Rattle.strands.proofs.Numbered.{allOf, element-classed}
 use Rattle.strands.proofs.StartRecords.{tag-units-are}
 use Rattle.dispatcher.specs.Sessions.{classIn, strandCount, levelIn, sessionOf, readerOf, stateOf}
-use Rattle.dispatcher.specs.Stepping as plan
-use Rattle.dispatcher.specs.Stepping.{Step, planBy, planOf, planned, startPlan}
+use Rattle.dispatcher.specs.Stepping.{refused, planBy, planOf, startPlan}
 use Rattle.openings.specs.Openings.{arrayUnits, Openable}
-use Rattle.dispatcher.specs.Turns.{Innermost, TurnReady, Told, Made, Roomy, stopTurn, stepBy}
+use Rattle.dispatcher.specs.Turns.{Innermost, TurnReady, Told, Made, Roomy}
 use Rattle.dispatcher.specs.declared.Session.{Session}
 use Rattle.dispatcher.specs.declared.Head.{Head}
 use Rattle.openings.specs.declared.Decided.{Decided}
@@ -124,17 +123,14 @@ module _ (table : List ℕ) (header : Header) (index s : List ℕ) (head : Head)
   few-bound = bound-few (decode table) s z clear
 
 -- ---- 21 and 22
-module _ (t : Table) (s : List ℕ) (head : Head) (levels bindings spaces strands : List ℕ) (e : Start) (own : List Binding) (place : ℕ) (out : List ℕ) where
-  abbrev z₁ : Session
-  z₁ = sessionOf head levels bindings spaces strands
-
-  pub deep-turn : 64 ≤ head .depth → stepBy (stopTurn 21 (e .at) head) levels bindings spaces strands out ≡ planned (startPlan t s z₁ e own place) z₁ out
+module _ (t : Table) (s : List ℕ) (z₁ : Session) (e : Start) (own : List Binding) (place : ℕ) where
+  pub deep-plan : 64 ≤ z₁ .scope .depth → startPlan t s z₁ e own place ≡ refused 21 (e .at)
   unfolding startPlan
-  deep-turn h = rw (le-leb 64 (head .depth) h)
+  deep-plan h = rw (le-leb 64 (z₁ .scope .depth) h)
 
-  pub bound-turn : head .depth < 64 → 64 < head .bound + length own → stepBy (stopTurn 22 (e .at) head) levels bindings spaces strands out ≡ planned (startPlan t s z₁ e own place) z₁ out
+  pub bound-plan : z₁ .scope .depth < 64 → 64 < z₁ .scope .bound + length own → startPlan t s z₁ e own place ≡ refused 22 (e .at)
   unfolding startPlan
-  bound-turn h k = rw (lt-leb 64 (head .depth) h, lt-ltb 64 (head .bound + length own) k)
+  bound-plan h k = rw (lt-leb 64 (z₁ .scope .depth) h, lt-ltb 64 (z₁ .scope .bound + length own) k)
 
 -- ---- what is decided can be written
 map-each : {A B : Type 0} (P : B → Type 0) (f : A → B) (l : List A) → All P (map f l) → All (λ (x : A). P (f x)) l
@@ -217,16 +213,13 @@ module _ (t : Table) (s : List ℕ) (head : Head) (levels bindings spaces strand
   abbrev z₃ : Session
   z₃ = sessionOf head levels bindings spaces strands
 
-  begin-plan : planOf t s z₃ ≡ planBy t s z₃ (begun s (readerOf z₃) b)
+  pub begin-plan : planOf t s z₃ ≡ planBy t s z₃ (begun s (readerOf z₃) b)
   unfolding planOf
   begin-plan =
       ap (planBy t s z₃)
       (next-begun s (readerOf z₃) a
       ∙ ap (λ (o : Bool). begun s (readerOf z₃) (beginAt s (head .place) (not o) (head .closed))) (opens-nil (z₃ .scope))
       ∙ ap (begun s (readerOf z₃)) (sym p ∙ q))
-
-  pub begun-step : (step : Step) (out : List ℕ) → step ≡ planned (planBy t s z₃ (begun s (readerOf z₃) b)) z₃ out → step ≡ planned (planOf t s z₃) z₃ out
-  begun-step step out e = e ∙ ap (λ (x : plan.Plan). planned x z₃ out) (sym begin-plan)
 
 begins : (s : List ℕ) (head : Head) (b r : Begin) → r ≡ beginAt s (head .place) (not (eqb (head .depth) 0)) (head .closed) → r ≡ b → BeginInside s (head .place) (not (eqb (head .depth) 0)) (head .closed) b
 begins s head b r p q =

@@ -21,16 +21,16 @@ use Rattle.lexer.specs.declared.Tagged.{Tagged}
 use Rattle.lexer.specs.Whole.{isWholeName}
 use Rattle.reader.specs.declared.Binding.{Binding}
 use Rattle.reader.specs.declared.Found.{Found}
-use Rattle.reader.specs.Spans.{span, bytesOf, wholeSpan, partSpan}
+use Rattle.reader.specs.Spans.{span, between, bytesOf, wholeSpan, partSpan}
 use Rattle.reader.specs.Namespaces.{ReadAttribute, attribute, declarationsOf}
 use Rattle.reader.specs.Events.{Start, startRead}
 use Rattle.reader.specs.Stored.{narrowed, bindingNumbers, Coded, coded, foundIn, storedSpace}
 use Rattle.reader.specs.Known.{KeysAt, Within, plainAttr}
 use Rattle.reader.specs.Scope.{nameIn, opensOf}
 use Rattle.reader.specs.Held.{SpanHeld}
-use Rattle.model.specs.Tree.{start}
+use Rattle.model.specs.Tree.{start, text, end}
 use Rattle.model.specs.Stream.{Entry, entriesAt, entered, written, after}
-use Rattle.model.specs.Elements.{Element, uriSpan}
+use Rattle.model.specs.Elements.{Element, elementOf, spaceOf, uriSpan}
 use Rattle.model.specs.Groups.{groupsOf}
 use Rattle.model.specs.Dispatch.{dispatch}
 use Rattle.records.specs.declared.Row.{Row}
@@ -38,17 +38,21 @@ use Rattle.attributes.specs.Known.{ClassesAt}
 use Rattle.strands.specs.Packed.{packed}
 use Rattle.strands.specs.Levels.{levelNames, levelSpaces, levelStrands}
 use Rattle.strands.specs.Entries.{entriesIn}
-use Rattle.attributes.specs.Attributes.{namespaceOf, delivered, allSorted, sortedOf}
-use Rattle.dispatcher.specs.Sessions.{sessionOf, sessionAt, stateOf}
+use Rattle.attributes.specs.Attributes.{placingOf, namespaceOf, delivered, allSorted, sortedOf, attributesIn, sectionsIn}
+use Rattle.attributes.specs.declared.Placing.{Placing}
+use Rattle.openings.specs.Openings.{Openable}
+use Rattle.dispatcher.specs.Sessions.{sessionOf, sessionAt, stateOf, withPlace, withEnd}
 use Rattle.dispatcher.specs.Coherence.{coherent}
 use Rattle.table.specs.declared.Answer.{Answer}
-use Rattle.dispatcher.specs.Stepping.{Plan, refused, startPlan, planBy, Step, answered}
+use Rattle.dispatcher.specs.Stepping.{Plan, refused, finished, event, startPlan, planBy, Step, answered}
 use Rattle.dispatcher.specs.declared.Session.{Session}
 use Rattle.dispatcher.specs.declared.Head.{Head}
 use Rattle.dispatcher.specs.declared.Started.{Started}
 use Rattle.dispatcher.specs.declared.Reading.{Reading}
 use Rattle.dispatcher.specs.declared.Reading.the-variants as reading
 use Rattle.dispatcher.specs.declared.Turn.{Turn}
+use Rattle.dispatcher.specs.declared.Planned.{Planned}
+use Rattle.dispatcher.specs.declared.Planned.the-variants as planned
 use Rattle.dispatcher.specs.declared.Advanced.{Advanced}
 use Rattle.openings.specs.declared.Decided.{Decided}
 
@@ -107,6 +111,11 @@ endRow part spaces level =
       «uri_at» = getD spaces (4 * level + 1) 0;
       «uri_len» = getD spaces (4 * level + 2) 0;
     }
+
+-- the numbers behind a text
+abbrev pub textHead : Head → ℕ → Head
+textHead head place =
+    record { place = place; units = head .units; closed = head .closed; awaited = head .awaited; depth = head .depth; bound = head .bound }
 
 -- the numbers behind the end of the innermost level
 abbrev pub closedHead : Head → ℕ → List ℕ → Head
@@ -227,3 +236,47 @@ pub record Roomy (head : Head) (owned : ℕ) : Type 0 where
 abbrev pub openedHead : Head → ℕ → Bool → ℕ → ℕ → Head
 openedHead head place empty units owned =
     record { place = place; units = units; closed = false; awaited = empty; depth = head .depth + 1; bound = head .bound + owned }
+
+-- ---- what comes next
+-- what a text, an end, the scene's end and a refusal are planned as
+abbrev pub Fits : Table → List ℕ → Session → Planned → Plan → Type 0
+Fits t s z (planned.Start o placing decided) p = ⊥
+Fits t s z (planned.Text at place) p =
+    (p ≡ event at (written (dispatch t) (stateOf t s z) (text (between at place))) (withPlace z place))
+    × (1 ≤ z .scope .depth) × (at < 4294967296) × (place < 4294967296)
+Fits t s z (planned.End part at place) p =
+    (p ≡ event at (written (dispatch t) (stateOf t s z) (end part)) (withEnd z place (eqb (z .scope .depth) 1)))
+    × (1 ≤ z .scope .depth) × (part .at < 4294967296) × (part .len < 4294967296)
+Fits t s z (planned.Awaited part at) p =
+    (p ≡ event at (written (dispatch t) (stateOf t s z) (end part)) (withEnd z (z .place) (eqb (z .scope .depth) 1)))
+    × (1 ≤ z .scope .depth) × (part .at < 4294967296) × (part .len < 4294967296)
+Fits t s z planned.Finished p = p ≡ finished (length s)
+Fits t s z (planned.Refused n place) p = (p ≡ refused n place) × (n ≡ 0 → ⊥)
+
+-- what a start is planned as, and what the arrays hold of it
+pub record StartAs (table index s : List ℕ) (z : Session) (own words schemas attributes : List ℕ) (o : Started) (placing : Placing) (decided : Decided) (p : Plan) : Type 0 where
+  pub attrs : List ℕ
+  pub codes : List ℕ
+  pub ds : List Binding
+  pub plan-is : p ≡ startPlan (decode table) s z (startOf s (z .scope .bindings) own attrs codes (o .at) (o .tag) (o .found)) ds (o .tag .next)
+  pub told : Told s (z .scope .bindings) own attrs codes (o .at) (o .tag) (o .found) (o .owned) ds
+  pub placing-is : placing ≡ placingOf (spaceOf (decode table) s (storedSpace own (z .scope .bindings) (o .found)))
+  pub as-decided : DecidedAs (decode table) s z (elementOf (decode table) s (startOf s (z .scope .bindings) own attrs codes (o .at) (o .tag) (o .found))) decided words schemas (attributesIn attributes) (sectionsIn attributes)
+  pub passed : decided .number ≡ 0
+  pub shallow : z .scope .depth < 64
+  pub few-bound : z .scope .bound + o .owned ≤ 64
+  pub openable : Openable index (attributesIn attributes) (sectionsIn attributes) words schemas (narrowed (o .at)) (z .units) decided
+
+abbrev pub PlannedAs : List ℕ → List ℕ → List ℕ → Session → List ℕ → List ℕ → List ℕ → List ℕ → Planned → Plan → Type 0
+PlannedAs table index s z own words schemas attributes (planned.Start o placing decided) p = StartAs table index s z own words schemas attributes o placing decided p
+PlannedAs table index s z own words schemas attributes (planned.Text at place) p = Fits (decode table) s z (planned.Text at place) p
+PlannedAs table index s z own words schemas attributes (planned.End part at place) p = Fits (decode table) s z (planned.End part at place) p
+PlannedAs table index s z own words schemas attributes (planned.Awaited part at) p = Fits (decode table) s z (planned.Awaited part at) p
+PlannedAs table index s z own words schemas attributes planned.Finished p = Fits (decode table) s z planned.Finished p
+PlannedAs table index s z own words schemas attributes (planned.Refused n place) p = Fits (decode table) s z (planned.Refused n place) p
+
+-- the session behind a plan
+abbrev pub sessionBy : Plan → Session → Session
+sessionBy (refused n p) z = z
+sessionBy (finished p) z = z
+sessionBy (event at records next) z = next

@@ -3,16 +3,20 @@ mod checks;
 mod decisions;
 mod ends;
 mod opening;
+mod planning;
 mod readings;
 mod starts;
-mod steps;
+pub mod steps;
 
 use crate::steps::steps_from;
+use attributes::Placing;
 use lexer::Tag;
+use openings::Decided;
 use openings::arrays::join_levels;
 use openings::arrays::part_levels;
 use reader::Found;
 use reader::Scope;
+use reader::Span;
 use strands::LEVELS;
 use table::Answer;
 use table::judge;
@@ -52,8 +56,8 @@ pub struct Head {
     pub bound: usize,
 }
 
-// What one event's work gives: a number and its place, how many records were written, and the session's numbers behind it.
-pub(crate) struct Turn {
+// What one event's work gives: a number and its place, how many records it has, and the session's numbers behind it.
+pub struct Turn {
     pub number: u8,
     pub place: usize,
     pub records: usize,
@@ -81,6 +85,16 @@ pub(crate) struct Started {
 // What reading a start tag comes to: a start, or a number and its place.
 pub(crate) enum Reading {
     Start(Started),
+    Refused(u8, usize),
+}
+
+// What comes next, decided without an output: a start, its namespace and what it makes; a text, its first byte and the place behind it; an end, its name's part, its tag's < and the place behind it; the end of a />; the scene's end; or a number and its place.
+pub(crate) enum Planned {
+    Start(Started, Placing, Decided),
+    Text(usize, usize),
+    End(Span, usize, usize),
+    Awaited(Span, usize),
+    Finished,
     Refused(u8, usize),
 }
 

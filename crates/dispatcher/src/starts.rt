@@ -1,13 +1,11 @@
-// A start: its tag read, 21 and 22, what it makes decided, written and laid down.
+// A start as it comes next: its tag read, 21 and 22, what it makes decided.
 use crate::Head;
+use crate::Planned;
 use crate::Reading;
 use crate::Session;
 use crate::Started;
-use crate::Turn;
 use crate::decisions::decide;
-use crate::opening::open_level;
 use crate::readings::read_start;
-use crate::steps::stop;
 use attributes::HELD;
 use attributes::held::put_classes;
 use attributes::held::space_of;
@@ -23,59 +21,60 @@ ghost use Rattle.lexer.specs.Tags.{tagAt};
 ghost use Rattle.reader.specs.Namespaces.{declarationsOf};
 ghost use Rattle.reader.specs.Scope.{opensOf};
 ghost use Rattle.reader.specs.Events.{startRead};
-ghost use Rattle.strands.specs.Levels.{levelFree};
 ghost use Rattle.dispatcher.specs.Sessions.{sessionAt};
-ghost use Rattle.dispatcher.specs.Stepping.{startPlan, planBy, planned};
-ghost use Rattle.dispatcher.specs.Turns.{LoopReady, Beside, Met, startOf, stepIn};
+ghost use Rattle.dispatcher.specs.Stepping.{startPlan, planBy};
+ghost use Rattle.dispatcher.specs.Turns.{LoopReady, Beside, Met, PlannedAs, startOf, sessionBy};
 
-// A start with its namespaces: 21, 22, and what follows.
-fn element_turn(
+// A start with its namespaces: 21, 22, and what it makes.
+fn plan_element(
     table: &[u8],
     index: &[u32; 256],
     scene: &[u8],
     started: Started,
     head: Head,
-    levels: &mut [u32; LEVELS],
-    bindings: &mut [u32; 4 * Session::BINDINGS],
+    levels: &[u32; LEVELS],
+    bindings: &[u32; 4 * Session::BINDINGS],
     known: &mut [u64; 2 * Scope::KNOWN],
     attrs: &[usize; 80],
     codes: &[usize; 16],
     own: &[u32; 64],
     attributes: &mut [u32; HELD],
-    rows: &mut [u64; 82],
-    out: &mut [u8],
-) -> Turn
+    words: &mut [u32; Session::STRANDS],
+    schemas: &mut [u32; Session::STRANDS],
+) -> Planned
     requires { ⌜ LoopReady (now table) (now index) (now scene) (now known) (sessionAt head (now levels) (now bindings)) × Met (now scene) (now bindings) (now own) (now attrs) (now codes) (now known) (head .bound) started ⌝ }
     ensures { λ r. ⌜ (
         let s = now (scene .entry) in
         let z = sessionAt head (now (levels .entry)) (now (bindings .entry)) in
         let e = startOf s (now (bindings .entry)) (now (own .entry)) (now (attrs .entry)) (now (codes .entry)) (started .at) (started .tag) (started .found) in
         let ds = declarationsOf s (attrsIn (now (attrs .entry)) (started .tag .count)) in
-        (stepIn r (now (levels .exit)) (now (bindings .exit)) (now (out .exit)) ≡ planned (startPlan (decode (now (table .entry))) s z e ds (started .tag .next)) z (now (out .entry)))
-        × Beside (now (table .entry)) s (now (known .exit)) (sessionAt (r .head) (now (levels .exit)) (now (bindings .exit)))
+        let p = startPlan (decode (now (table .entry))) s z e ds (started .tag .next) in
+        PlannedAs (now (table .entry)) (now (index .entry)) s z (now (own .entry)) (now (words .exit)) (now (schemas .exit)) (now (attributes .exit)) r p
+        × Beside (now (table .entry)) s (now (known .exit)) z
+        × Beside (now (table .entry)) s (now (known .exit)) (sessionBy p z)
         ) ⌝ }
-    ensures { λ _. ⌜ levelFree (now (levels .exit)) ≡ levelFree (now (levels .entry)) ⌝ }
 {
+    let at = started.at;
     let owned = started.owned;
     if Session::DEPTH <= head.depth {
-        return stop(21, started.at, head);
+        return Planned::Refused(21, at);
     }
     if Session::BINDINGS < head.bound + owned {
-        return stop(22, started.at, head);
+        return Planned::Refused(22, at);
     }
-    put_classes(
-        table,
-        header_of(table),
-        scene,
-        own,
-        owned,
-        head.bound,
-        known,
-    );
+    if owned != 0 {
+        put_classes(
+            table,
+            header_of(table),
+            scene,
+            own,
+            owned,
+            head.bound,
+            known,
+        );
+    }
     let found = started.found;
     let placing = space_of(own, bindings, head.bound, known, found);
-    let mut words: [u32; Session::STRANDS] = [0; Session::STRANDS];
-    let mut schemas: [u32; Session::STRANDS] = [0; Session::STRANDS];
     let decided = decide(
         index,
         scene,
@@ -88,55 +87,45 @@ fn element_turn(
         bindings,
         known,
         levels,
-        &mut words,
-        &mut schemas,
+        words,
+        schemas,
         attributes,
     );
-    open_level(
-        index,
-        started,
-        placing,
-        decided,
-        own,
-        &words,
-        &schemas,
-        attributes,
-        head,
-        levels,
-        bindings,
-        rows,
-        out,
-    )
+    if decided.number != 0 {
+        return Planned::Refused(decided.number, at);
+    }
+    Planned::Start(started, placing, decided)
 }
 
 // The start whose < stands at a place.
-pub fn start_turn(
+pub fn plan_start(
     table: &[u8],
     index: &[u32; 256],
     scene: &[u8],
     at: usize,
     head: Head,
-    levels: &mut [u32; LEVELS],
-    bindings: &mut [u32; 4 * Session::BINDINGS],
+    levels: &[u32; LEVELS],
+    bindings: &[u32; 4 * Session::BINDINGS],
     known: &mut [u64; 2 * Scope::KNOWN],
     attrs: &mut [usize; 80],
     own: &mut [u32; 64],
     attributes: &mut [u32; HELD],
-    rows: &mut [u64; 82],
-    out: &mut [u8],
-) -> Turn
+    words: &mut [u32; Session::STRANDS],
+    schemas: &mut [u32; Session::STRANDS],
+) -> Planned
     requires { ⌜ LoopReady (now table) (now index) (now scene) (now known) (sessionAt head (now levels) (now bindings)) × (at + 1 ≤ length (now scene)) ⌝ }
     ensures { λ r. ⌜ (
         let s = now (scene .entry) in
         let z = sessionAt head (now (levels .entry)) (now (bindings .entry)) in
-        (stepIn r (now (levels .exit)) (now (bindings .exit)) (now (out .exit)) ≡ planned (planBy (decode (now (table .entry))) s z (startRead s at (opensOf (z .scope)) (tagAt s (at + 1)) (tagAt s (at + 1) .answer))) z (now (out .entry)))
-        × Beside (now (table .entry)) s (now (known .exit)) (sessionAt (r .head) (now (levels .exit)) (now (bindings .exit)))
+        let p = planBy (decode (now (table .entry))) s z (startRead s at (opensOf (z .scope)) (tagAt s (at + 1)) (tagAt s (at + 1) .answer)) in
+        PlannedAs (now (table .entry)) (now (index .entry)) s z (now (own .exit)) (now (words .exit)) (now (schemas .exit)) (now (attributes .exit)) r p
+        × Beside (now (table .entry)) s (now (known .exit)) z
+        × Beside (now (table .entry)) s (now (known .exit)) (sessionBy p z)
         ) ⌝ }
-    ensures { λ _. ⌜ levelFree (now (levels .exit)) ≡ levelFree (now (levels .entry)) ⌝ }
 {
     let mut codes: [usize; 16] = [0; 16];
     match read_start(scene, at, head, bindings, known, attrs, own, &mut codes) {
-        Reading::Start(started) => element_turn(
+        Reading::Start(started) => plan_element(
             table,
             index,
             scene,
@@ -149,9 +138,9 @@ pub fn start_turn(
             &codes,
             own,
             attributes,
-            rows,
-            out,
+            words,
+            schemas,
         ),
-        Reading::Refused(number, place) => stop(number, place, head),
+        Reading::Refused(number, place) => Planned::Refused(number, place),
     }
 }

@@ -1,19 +1,24 @@
 // Steps under an accepted table: one, so many, and those of any session.
 use crate::Advanced;
 use crate::Head;
+use crate::Planned;
 use crate::Session;
 use crate::Turn;
 use crate::checks::coherent;
-use crate::ends::awaited_turn;
-use crate::ends::end_turn;
-use crate::ends::text_turn;
-use crate::starts::start_turn;
+use crate::ends::end_event;
+use crate::ends::text_event;
+use crate::ends::weigh_end;
+use crate::ends::weigh_text;
+use crate::opening::lay_level;
+use crate::opening::open_level;
+use crate::planning::plan_awaited;
+use crate::planning::plan_end;
+use crate::planning::plan_text;
+use crate::planning::stopped;
+use crate::starts::plan_start;
 use attributes::HELD;
 use attributes::held::put_classes;
 use lexer::Begin;
-use lexer::Stop;
-use lexer::stops::number_of;
-use lexer::stops::place_of;
 use misc::begins::begin_at;
 use reader::Scope;
 use reader::bindings::put_keys;
@@ -21,16 +26,16 @@ use strands::LEVELS;
 use table::Header;
 use table::index::load;
 ghost use mathlib.Core.Path.{_≡_};
+ghost use mathlib.Core.List.{[]};
 ghost use mathlib.Core.Bool.{true};
 ghost use Prim.Native.Nat.{_≤_};
 ghost use lib.ListN.{length};
 ghost use Rattle.table.specs.Table.{decode, headerOf};
 ghost use Rattle.table.specs.Judge.{Accepted};
-ghost use Rattle.lexer.specs.Stops.{numberOf, stopPlace};
 ghost use Rattle.strands.specs.Levels.{levelFree};
 ghost use Rattle.dispatcher.specs.Sessions.{sessionAt};
-ghost use Rattle.dispatcher.specs.Stepping.{planOf, planned, advanceOf};
-ghost use Rattle.dispatcher.specs.Turns.{LoopReady, Beside, stopTurn, stepIn, advancedIn};
+ghost use Rattle.dispatcher.specs.Stepping.{planOf, planned, weighed, advanceOf};
+ghost use Rattle.dispatcher.specs.Turns.{LoopReady, Beside, PlannedAs, stopTurn, stepIn, sessionBy, advancedIn};
 
 // A refusal: the session's numbers stay.
 pub fn stop(number: u8, place: usize, head: Head) -> Turn
@@ -44,11 +49,55 @@ pub fn stop(number: u8, place: usize, head: Head) -> Turn
     }
 }
 
-// Reading stopped.
-pub fn stopped(scene: &[u8], x: Stop, head: Head) -> Turn
-    ensures { λ r. ⌜ r ≡ stopTurn (numberOf x) (stopPlace (now (scene .entry)) x) head ⌝ }
+// What a coherent session does next: the first half of a step. Nothing of the session is changed.
+fn plan_event(
+    table: &[u8],
+    index: &[u32; 256],
+    scene: &[u8],
+    head: Head,
+    levels: &[u32; LEVELS],
+    bindings: &[u32; 4 * Session::BINDINGS],
+    known: &mut [u64; 2 * Scope::KNOWN],
+    attrs: &mut [usize; 80],
+    own: &mut [u32; 64],
+    attributes: &mut [u32; HELD],
+    words: &mut [u32; Session::STRANDS],
+    schemas: &mut [u32; Session::STRANDS],
+) -> Planned
+    requires { ⌜ LoopReady (now table) (now index) (now scene) (now known) (sessionAt head (now levels) (now bindings)) ⌝ }
+    ensures { λ r. ⌜ (
+        let s = now (scene .entry) in
+        let z = sessionAt head (now (levels .entry)) (now (bindings .entry)) in
+        let p = planOf (decode (now (table .entry))) s z in
+        PlannedAs (now (table .entry)) (now (index .entry)) s z (now (own .exit)) (now (words .exit)) (now (schemas .exit)) (now (attributes .exit)) r p
+        × Beside (now (table .entry)) s (now (known .exit)) z
+        × Beside (now (table .entry)) s (now (known .exit)) (sessionBy p z)
+        ) ⌝ }
 {
-    stop(number_of(x), place_of(scene, x), head)
+    if head.awaited {
+        return plan_awaited(scene, head, levels);
+    }
+    match begin_at(scene, head.place, head.depth != 0, head.closed) {
+        Begin::Start(at) => plan_start(
+            table,
+            index,
+            scene,
+            at,
+            head,
+            levels,
+            bindings,
+            known,
+            attrs,
+            own,
+            attributes,
+            words,
+            schemas,
+        ),
+        Begin::End(at) => plan_end(scene, at, head, levels),
+        Begin::Text(at) => plan_text(scene, at),
+        Begin::Finished => Planned::Finished,
+        Begin::Stopped(x) => stopped(scene, x),
+    }
 }
 
 // One step of a coherent session: its records go to the output from its first byte on.
@@ -63,6 +112,8 @@ fn judged_step(
     attrs: &mut [usize; 80],
     own: &mut [u32; 64],
     attributes: &mut [u32; HELD],
+    words: &mut [u32; Session::STRANDS],
+    schemas: &mut [u32; Session::STRANDS],
     rows: &mut [u64; 82],
     out: &mut [u8],
 ) -> Turn
@@ -74,29 +125,94 @@ fn judged_step(
         ) ⌝ }
     ensures { λ _. ⌜ levelFree (now (levels .exit)) ≡ levelFree (now (levels .entry)) ⌝ }
 {
-    if head.awaited {
-        return awaited_turn(scene, head, levels, out);
-    }
-    match begin_at(scene, head.place, head.depth != 0, head.closed) {
-        Begin::Start(at) => start_turn(
-            table,
+    match plan_event(
+        table,
+        index,
+        scene,
+        head,
+        levels,
+        bindings,
+        known,
+        attrs,
+        own,
+        attributes,
+        words,
+        schemas,
+    ) {
+        Planned::Start(started, placing, decided) => open_level(
             index,
-            scene,
-            at,
+            started,
+            placing,
+            decided,
+            own,
+            words,
+            schemas,
+            attributes,
             head,
             levels,
             bindings,
-            known,
-            attrs,
-            own,
-            attributes,
             rows,
             out,
         ),
-        Begin::End(at) => end_turn(scene, at, head, levels, out),
-        Begin::Text(at) => text_turn(scene, at, head, levels, out),
-        Begin::Finished => stop(9, scene.len(), head),
-        Begin::Stopped(x) => stopped(scene, x, head),
+        Planned::Text(at, end) => text_event(at, end, head, levels, out),
+        Planned::End(part, at, place) => end_event(part, at, place, head, levels, out),
+        Planned::Awaited(part, at) => end_event(part, at, head.place, head, levels, out),
+        Planned::Finished => stop(9, scene.len(), head),
+        Planned::Refused(number, place) => stop(number, place, head),
+    }
+}
+
+// One event of a coherent session without an output: its records counted.
+pub fn weighed_step(
+    table: &[u8],
+    index: &[u32; 256],
+    scene: &[u8],
+    head: Head,
+    levels: &mut [u32; LEVELS],
+    bindings: &mut [u32; 4 * Session::BINDINGS],
+    known: &mut [u64; 2 * Scope::KNOWN],
+    attrs: &mut [usize; 80],
+    own: &mut [u32; 64],
+    attributes: &mut [u32; HELD],
+    words: &mut [u32; Session::STRANDS],
+    schemas: &mut [u32; Session::STRANDS],
+) -> Turn
+    requires { ⌜ LoopReady (now table) (now index) (now scene) (now known) (sessionAt head (now levels) (now bindings)) ⌝ }
+    ensures { λ r. ⌜ (
+        let z = sessionAt head (now (levels .entry)) (now (bindings .entry)) in
+        (stepIn r (now (levels .exit)) (now (bindings .exit)) [] ≡ weighed (planOf (decode (now (table .entry))) (now (scene .entry)) z) z)
+        × Beside (now (table .entry)) (now (scene .entry)) (now (known .exit)) (sessionAt (r .head) (now (levels .exit)) (now (bindings .exit)))
+        ) ⌝ }
+{
+    match plan_event(
+        table,
+        index,
+        scene,
+        head,
+        levels,
+        bindings,
+        known,
+        attrs,
+        own,
+        attributes,
+        words,
+        schemas,
+    ) {
+        Planned::Start(started, placing, decided) => lay_level(
+            started,
+            placing,
+            decided,
+            own,
+            words,
+            head,
+            levels,
+            bindings,
+        ),
+        Planned::Text(_, end) => weigh_text(end, head, levels),
+        Planned::End(_, _, place) => weigh_end(place, head, levels),
+        Planned::Awaited(_, _) => weigh_end(head.place, head, levels),
+        Planned::Finished => stop(9, scene.len(), head),
+        Planned::Refused(number, place) => stop(number, place, head),
     }
 }
 
@@ -123,6 +239,8 @@ fn judged_steps(
     let mut attrs: [usize; 80] = [0; 80];
     let mut own: [u32; 64] = [0; 64];
     let mut attributes: [u32; HELD] = [0; HELD];
+    let mut words: [u32; Session::STRANDS] = [0; Session::STRANDS];
+    let mut schemas: [u32; Session::STRANDS] = [0; Session::STRANDS];
     let mut rows: [u64; 82] = [0; 82];
     let mut head = from;
     let mut used = 0;
@@ -140,6 +258,8 @@ fn judged_steps(
             &mut attrs,
             &mut own,
             &mut attributes,
+            &mut words,
+            &mut schemas,
             &mut rows,
             &mut out[used..],
         );

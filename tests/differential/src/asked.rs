@@ -2,7 +2,7 @@
 
 use crate::calls::{self, Four, Lent};
 use crate::layout;
-use reference::{Answer, Record, Session};
+use reference::{Answer, Forecast, Record, Session};
 
 /// An output for the records of any event of the vectors.
 const LARGE: usize = 1 << 20;
@@ -68,6 +68,20 @@ pub fn uri(table: &[u8], scene: &[u8], class: u8, at: u64, len: u64) -> (u8, u64
     let (number, [slice, offset, length]) = calls::uri(table, scene, class, at, len);
     assert_eq!(number, 0, "what calcivorne_uri returns");
     (u8::try_from(slice).expect("0 or 1"), offset, length)
+}
+
+/// The six figures; the first is the number that the call returned.
+pub fn forecast(table: &[u8], scene: &[u8]) -> Forecast {
+    let (number, [first, place, records, units, strands, depth]) = calls::forecast(table, scene);
+    assert_eq!(first, number as u64, "figures[0] and what the call returned");
+    Forecast {
+        number,
+        place,
+        records,
+        units,
+        strands,
+        depth,
+    }
 }
 
 /// A fresh session's bytes.

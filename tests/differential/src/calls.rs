@@ -3,6 +3,9 @@
 /// Number, place, events, records.
 pub type Four = [u64; 4];
 
+/// Number, place, records, units, strands, depth.
+pub type Six = [u64; 6];
+
 /// What stands in an answer before a call; no call writes it.
 pub const UNWRITTEN: u64 = 0xDEAD_BEEF_5A5A_5A5A;
 pub const NO_ANSWER: Four = [UNWRITTEN; 4];
@@ -47,6 +50,7 @@ extern "C" {
         uri_len: u64,
         span: *mut u64,
     ) -> u8;
+    fn calcivorne_forecast(table: *const u8, table_len: usize, scene: *const u8, scene_len: usize, figures: *mut u64) -> u8;
 }
 
 /// A buffer to lend, with borders.
@@ -192,4 +196,14 @@ pub fn uri(table: &[u8], scene: &[u8], class: u8, at: u64, len: u64) -> (u8, [u6
         )
     };
     (number, span)
+}
+
+/// What the call returns, and the six figures; a panic where a number beside them was written.
+pub fn forecast(table: &[u8], scene: &[u8]) -> (u8, Six) {
+    let mut lent = [UNWRITTEN; 8];
+    let figures = lent[1..].as_mut_ptr();
+    let number = unsafe { calcivorne_forecast(table.as_ptr(), table.len(), scene.as_ptr(), scene.len(), figures) };
+    let [before, figures @ .., behind] = lent;
+    assert_eq!([before, behind], [UNWRITTEN; 2], "a number beside the figures was written");
+    (number, figures)
 }

@@ -5,7 +5,7 @@ use crate::calls::{self, Lent};
 use crate::case::{session_text, Case};
 use crate::layout;
 use reference::limits;
-use reference::{Answer, Session};
+use reference::{Answer, EventCounts, Forecast, Session};
 
 pub fn judge(case: &Case) -> Answer {
     let answer = asked::judge(case.table);
@@ -109,6 +109,36 @@ fn refused(case: &Case) -> Answer {
         0 if case.scene.len() > limits::SCENE => Answer::bare(limits::TOO_LONG, 0),
         0 => Answer::bare(20, 0),
         _ => Answer::bare(judged, 0),
+    }
+}
+
+/// The forecast: what the reference says, within the bound, and what the dispatcher's own runs give.
+pub fn forecast(case: &Case) -> Forecast {
+    let (expected, counts) = reference::forecast_by_event(case.table, case.scene);
+    let told = asked::forecast(case.table, case.scene);
+    case.same("forecast", &expected, &told, String::new);
+    case.same("forecast of 0, 20 or 25", &false, &[0, 20, 25].contains(&told.number), String::new);
+    let bound: u64 = counts.iter().map(EventCounts::bound).sum();
+    case.same("records within the bound", &true, &(told.records <= bound), || {
+        format!("{told:?}, {bound}")
+    });
+    let past = counts.iter().position(|event| event.records > event.bound());
+    case.same("event past its bound", &None, &past, || format!("{counts:?}"));
+    runs_as_forecast(case, &told);
+    told
+}
+
+/// In an output of just the forecast's size the run gives its number, place and records; in one byte less 25.
+fn runs_as_forecast(case: &Case, told: &Forecast) {
+    let needed = 16 * told.records as usize;
+    let answer = asked::run(case.table, case.scene, needed).0;
+    let ends = (answer.number, answer.place, answer.records);
+    let more = || format!("forecast against run, {told:?}");
+    case.same("run in an output of that size", &(told.number, told.place, told.records), &ends, more);
+    if needed > 0 {
+        let short = asked::run(case.table, case.scene, needed - 1).0;
+        case.same("run in one byte less", &25, &short.number, more);
+        case.same("fewer records then", &true, &(short.records < told.records), more);
     }
 }
 

@@ -12,10 +12,10 @@ pub mod layout;
 pub mod pace;
 pub mod shapes;
 
-pub use asked::{coherent, judge, program, run, session_after, step, uri};
+pub use asked::{coherent, forecast, judge, program, run, session_after, step, uri};
 pub use case::Case;
 pub use pace::Pace;
 
 // The rest of a vector's words are the reference's: tests/rulings.rs asks the dispatcher the reference's own vectors.
-pub use reference::{accepted_events, events, prefix_records, records_by_event, records_of_event};
-pub use reference::{generate, table, Action, Answer, Binding, Event, Level, Reading, Record, Session, Span, Strand, What};
+pub use reference::{accepted_events, events, forecast_by_event, prefix_records, record_bound, records_by_event, records_of_event};
+pub use reference::{generate, table, Action, Answer, Binding, Event, EventCounts, Forecast, Level, Reading, Record, Session, Span, Strand, What};

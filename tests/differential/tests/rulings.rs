@@ -1,4 +1,4 @@
-//! The reference's own vectors, unchanged, asked of the dispatcher: judge, run, step, uri, coherent, session_after and program are those of
+//! The reference's own vectors, unchanged, asked of the dispatcher: judge, run, step, uri, forecast, coherent, session_after and program are those of
 //! `differential` here.
 //! rustfmt must leave the reference's files alone.
 
@@ -19,6 +19,9 @@ mod limits;
 #[path = "../../reference/tests/rulings/n01.rs"]
 #[rustfmt::skip]
 mod n01;
+#[path = "../../reference/tests/rulings/n02.rs"]
+#[rustfmt::skip]
+mod n02;
 #[path = "../../reference/tests/rulings/names.rs"]
 #[rustfmt::skip]
 mod names;

@@ -10,6 +10,7 @@ fn judge(pace: &mut Pace, case: &Case) {
     pace.met(judged);
     if judged != 0 {
         pace.met(checked::run(case, 16).number);
+        pace.met(checked::forecast(case).number);
         let mut session = differential::asked::fresh();
         pace.met(checked::step(case, &mut session, 16).0.number);
         checked::uri(case, 1, 0, 1);

@@ -1,7 +1,7 @@
 //! A tree-building implementation of document 01, the Rig scene section dispatcher.
 //!
-//! It was written from document 01, request N1 of document 02 and their rulings alone, to be
-//! matched byte for byte with the dispatcher. The way a scene goes:
+//! It was written from document 01, requests N1 and N2 of document 02 and their rulings alone, to
+//! be matched byte for byte with the dispatcher. The way a scene goes:
 //!
 //! 1. `lexical`, `misc` and `reader`: the whole scene becomes a list of events;
 //! 2. `tree`: the events become a tree, closed at the cut;
@@ -9,13 +9,15 @@
 //! 4. `strands`: rules are assigned along the strands of every section;
 //! 5. `model`: slots are filled along each unit's strand, units are validated;
 //! 6. `records`: the units' records are listed by event, numbered and packed;
-//! 7. `limits`: numbers 21 to 25, found on the tree and on the list.
+//! 7. `limits`: numbers 21 to 25, found on the tree and on the list;
+//! 8. `forecast`: the figures of request N2, counted on both.
 //!
 //! No session and no step takes part in that. `session` derives the session after some accepted
 //! steps from the tree's open path; `step` stands apart from the model and is there only for
 //! sessions that no scene leads to.
 
 pub mod answer;
+pub mod forecast;
 pub mod generate;
 pub mod lexical;
 pub mod limits;
@@ -37,6 +39,7 @@ pub mod tree;
 pub mod uri;
 
 pub use answer::Answer;
+pub use forecast::{forecast, forecast_by_event, record_bound, EventCounts, Forecast};
 pub use prefixes::{accepted_events, prefix_records, records_by_event, records_of_event};
 pub use program::program;
 pub use reader::{events, Event, Reading, What};

@@ -9,8 +9,8 @@ use reference::generate::{
 };
 use reference::table::ANY;
 use reference::{
-    accepted_events, coherent, events, judge, prefix_records, records_by_event, records_of_event,
-    run, session_after, step, Action, Record, Session,
+    accepted_events, coherent, events, forecast_by_event, judge, prefix_records, records_by_event,
+    records_of_event, run, session_after, step, Action, EventCounts, Forecast, Record, Session,
 };
 use std::collections::BTreeMap;
 
@@ -169,6 +169,65 @@ fn steps_agree_with_the_model() {
         };
         let got = answer(last.number, last.place, count, joined.len() as u64 / 16);
         assert_eq!((got, joined), (whole, bytes));
+    }
+}
+
+/// What a step from one session to the next says of its event.
+fn counts_of_step(before: &Session, after: &Session, written: &[u8]) -> EventCounts {
+    let records: Vec<Record> = written.chunks(16).map(Record::read).collect();
+    let of_attributes = |open: &&Record| open.kind == 0 && open.span.len == 1;
+    let units: Vec<u64> = records
+        .iter()
+        .filter(of_attributes)
+        .map(|open| open.unit)
+        .collect();
+    let in_unit = |record: &&Record| record.kind == 2 && units.contains(&record.unit);
+    let opened = after.levels.len() > before.levels.len();
+    let levels = if opened { after } else { before };
+    EventCounts {
+        records: records.len() as u64,
+        strands: levels.levels.last().map_or(0, |l| l.strands.len()) as u64,
+        attribute_units: units.len() as u64,
+        unit_attributes: records.iter().filter(in_unit).count() as u64,
+    }
+}
+
+/// The forecast by steps alone: their records, and what their sessions hold.
+fn forecast_by_steps(table: &[u8], scene: &[u8]) -> (Forecast, Vec<EventCounts>) {
+    let (mut session, mut counts) = (Session::fresh(), Vec::new());
+    let (mut strands, mut depth) = (0, 0);
+    loop {
+        let (answer, next, written) = step(table, scene, &session, AMPLE);
+        if answer.number != 0 {
+            let told = Forecast {
+                number: answer.number,
+                place: answer.place,
+                records: counts.iter().map(|event: &EventCounts| event.records).sum(),
+                units: session.units,
+                strands: strands as u64,
+                depth: depth as u64,
+            };
+            return (told, counts);
+        }
+        let held = next.levels.iter().map(|level| level.strands.len());
+        strands = strands.max(held.max().unwrap_or(0));
+        depth = depth.max(next.levels.len());
+        counts.push(counts_of_step(&session, &next, &written));
+        session = next;
+    }
+}
+
+#[test]
+fn forecasts_agree_with_steps() {
+    let mut met = BTreeMap::new();
+    for (_, table, scene) in cases(CASES) {
+        let (told, counts) = forecast_by_event(&table, &scene);
+        assert_eq!((told, counts.clone()), forecast_by_steps(&table, &scene));
+        assert!(counts.iter().all(|event| event.records <= event.bound()));
+        *met.entry(told.number).or_insert(0) += 1;
+    }
+    for never in [0, 20, 25] {
+        assert!(!met.contains_key(&never), "{met:?}");
     }
 }
 

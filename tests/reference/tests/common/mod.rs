@@ -30,6 +30,24 @@ pub fn t2() -> Vec<u8> {
     )
 }
 
+/// The page N1's K: all is kept in unit 0.
+pub fn k() -> Vec<u8> {
+    vec![
+        0x00, 0x02, 0x01, 0x03, 0x03, 0xFE, 0x00, 0x08, 0x0B, 0xFC, 0x00, 0x08, 0x0F, 0xFC, 0x00,
+        0x08,
+    ]
+}
+
+/// A table by the name that the pages give it.
+pub fn named(table: &str) -> Vec<u8> {
+    match table.trim() {
+        "K" => k(),
+        "T" => t(),
+        "T2" => t2(),
+        other => panic!("no table {other}"),
+    }
+}
+
 pub fn table(uris: &[&str], modes: u8, schemas: u8, rules: Vec<Rule>) -> Vec<u8> {
     pack(&Plan {
         namespaces: uris.iter().map(|uri| uri.as_bytes().to_vec()).collect(),
@@ -95,4 +113,32 @@ pub fn alternating(vs: usize) -> String {
     scene.push_str(&"</w></x>".repeat(vs));
     scene.push_str("</r>");
     scene
+}
+
+/// The bytes of a scene as the pages write it: \xNN is a byte, {k:s} is s written k times.
+pub fn bytes(written: &str) -> Vec<u8> {
+    let mut list = Vec::new();
+    let mut rest = written;
+    while let Some(first) = rest.chars().next() {
+        if let Some(hex) = rest.strip_prefix("\\x") {
+            list.push(u8::from_str_radix(&hex[..2], 16).expect("two digits"));
+            rest = &hex[2..];
+        } else if let Some((inner, behind)) = rest.strip_prefix('{').and_then(|r| r.split_once('}'))
+        {
+            let (count, repeated) = inner.split_once(':').expect("{k:s}");
+            list.extend(repeated.repeat(count.parse().expect("a count")).bytes());
+            rest = behind;
+        } else {
+            list.push(first as u8);
+            rest = &rest[1..];
+        }
+    }
+    list
+}
+
+/// The numbers of a field, up to a remark.
+pub fn numbers(field: &str) -> Vec<u64> {
+    let written = field.split('#').next().unwrap_or_default();
+    let words = written.split_whitespace();
+    words.map(|word| word.parse().expect(field)).collect()
 }

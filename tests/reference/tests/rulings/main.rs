@@ -7,6 +7,7 @@ mod answers;
 mod calls;
 mod limits;
 mod n01;
+mod n02;
 mod names;
 mod odd;
 mod reader;

@@ -219,49 +219,6 @@ K |<r/>| 0@4 0@4 9@4  |<r/><!--| 1@8  |<r/><!---->| 9@11  |<r/><!----><?p?>x| 2@
 K |<r><?xml| 0@3 1@8  |<r><?xml-| 1@9  |<r><?xml-?></r>| 0@15 9@15
 "#;
 
-fn k() -> Vec<u8> {
-    vec![
-        0x00, 0x02, 0x01, 0x03, 0x03, 0xFE, 0x00, 0x08, 0x0B, 0xFC, 0x00, 0x08, 0x0F, 0xFC, 0x00,
-        0x08,
-    ]
-}
-
-fn named(table: &str) -> Vec<u8> {
-    match table.trim() {
-        "K" => k(),
-        "T" => t(),
-        "T2" => t2(),
-        other => panic!("no table {other}"),
-    }
-}
-
-/// The bytes of a scene as the page writes it: \xNN is a byte, {k:s} is s written k times.
-fn bytes(written: &str) -> Vec<u8> {
-    let mut list = Vec::new();
-    let mut rest = written;
-    while let Some(first) = rest.chars().next() {
-        if let Some(hex) = rest.strip_prefix("\\x") {
-            list.push(u8::from_str_radix(&hex[..2], 16).expect("two digits"));
-            rest = &hex[2..];
-        } else if let Some((inner, behind)) = rest.strip_prefix('{').and_then(|r| r.split_once('}'))
-        {
-            let (count, repeated) = inner.split_once(':').expect("{k:s}");
-            list.extend(repeated.repeat(count.parse().expect("a count")).bytes());
-            rest = behind;
-        } else {
-            list.push(first as u8);
-            rest = &rest[1..];
-        }
-    }
-    list
-}
-
-fn numbers(field: &str) -> Vec<u64> {
-    let written = field.split('#').next().unwrap_or_default();
-    let words = written.split_whitespace();
-    words.map(|word| word.parse().expect(field)).collect()
-}
-
 /// number@place.
 fn ending(word: &str) -> (u8, u64) {
     let (number, place) = word.split_once('@').expect(word);

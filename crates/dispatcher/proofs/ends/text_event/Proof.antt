@@ -1,5 +1,5 @@
 -- `ends::text_event` meets its contract: 25, or the text's records.
-use Prim.Native.Nat.{ℕ, _+_, _*_, _-_}
+use Prim.Native.Nat.{ℕ, _+_, _*_, _-_, _/_}
 use mathlib.Core.Path.{ap, _∙_}
 use mathlib.Core.Bool.{false}
 use mathlib.Core.List.{List}
@@ -15,7 +15,9 @@ use Rattle.model.specs.Dispatch.{dispatch}
 use Rattle.records.specs.Rows.{bodyOf}
 use Rattle.strands.specs.Levels.{levelSpaces, levelStrands}
 use Rattle.dispatcher.specs.Sessions.{sessionAt, stateOf, withPlace}
+use Rattle.dispatcher.specs.Stepping.{answered}
 use Rattle.dispatcher.specs.Turns.{stepIn}
+use Rattle.dispatcher.specs.declared.Head.{Head}
 use Rattle.dispatcher.specs.declared.Turn.{Turn}
 use Rattle.dispatcher.proofs.EventTurns.{written-text, event-full, event-room}
 use Rattle.dispatcher.proofs.ends.text_event.Statement.{statement}
@@ -52,21 +54,26 @@ text-row-requires c κs = search needs
 write-event-requires : tie.Need-write-event-requires
 write-event-requires c κs = (omega arith, omega (arith, c .before .before .before .before .count-at .ensures))
 
+text-head-requires : tie.Need-text-head-requires
+text-head-requires c κs = search needs
+
 same-length : tie.Need-same-length
 same-length c = search needs
 
 returns-2 : tie.Need-returns-2
 returns-2 c = λ (t : Table) (s bindings : List ℕ).
-    let b = c .before .before .before .before .before .before .before .before .before .before in
+    let b = c .before .before .before .before .before .before .before .before .before .before .before in
     let a = b .args in
     let z = sessionAt (a .head) (a .levels .now) bindings in
     let level = a .head .depth - 1 in
-    event-room (textBody (between (a .at) (a .end))) false (levelStrands (a .levels .now)) level _ (getD (levelSpaces (a .levels .now)) (4 * level + 3) 0)
+    let out = c .before .before .before .write-event .last .1 .1 .1 .1 .1 .0 in
+    ap (λ (h : Head). record { answer = answered 0 (a .end) 1 (c .before .before .before .write-event .result / 16); session = sessionAt h (a .levels .now) bindings; output = out }) (c .text-head .ensures)
+    ∙ event-room (textBody (between (a .at) (a .end))) false (levelStrands (a .levels .now)) level _ (getD (levelSpaces (a .levels .now)) (4 * level + 3) 0)
     (written (dispatch t) (stateOf t s z) (text (between (a .at) (a .end))))
     (written-text t s z (b .pre .0) (between (a .at) (a .end)))
-    (c .before .before .before .before .before .before .before .count-at .ensures)
-    (a .at) (withPlace z (a .end)) z (a .out .now) (c .before .before .before .before .before .before .is-full .result) (c .before .before .before .before .before .before .is-full .ensures)
-    (c .before .before .before .before .text-row .result) _ _ (c .before .before .before .before .before .if1 .left) (ap bodyOf (c .before .before .before .before .text-row .ensures)) (c .before .before .write-event .ensures)
+    (c .before .before .before .before .before .before .before .before .count-at .ensures)
+    (a .at) (withPlace z (a .end)) z (a .out .now) (c .before .before .before .before .before .before .before .is-full .result) (c .before .before .before .before .before .before .before .is-full .ensures)
+    (c .before .before .before .before .before .text-row .result) _ _ (c .before .before .before .before .before .before .if1 .left) (ap bodyOf (c .before .before .before .before .before .text-row .ensures)) (c .before .before .before .write-event .ensures)
 
 pub text-event-spec : {M : Type 1} → statement M
 text-event-spec =
@@ -79,5 +86,6 @@ text-event-spec =
     returns
     text-row-requires
     write-event-requires
+    text-head-requires
     same-length
     returns-2)

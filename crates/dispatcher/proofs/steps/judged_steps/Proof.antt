@@ -16,13 +16,13 @@ use Rattle.dispatcher.proofs.steps.judged_steps.Statement.{statement}
 use Rattle.dispatcher.proofs.steps.judged_steps.Tie as tie
 
 abbrev Inv-loop : tie.InvT-loop
-Inv-loop table index scene levels₀ bindings₀ known₀ most out₀ attrs₀ own₀ attributes₀ rows₀ head₀ used₀ events₀ records₀ levels bindings known out attrs own attributes rows head used events records =
+Inv-loop table index scene levels₀ bindings₀ known₀ most out₀ attrs₀ own₀ attributes₀ words₀ schemas₀ rows₀ head₀ used₀ events₀ records₀ levels bindings known out attrs own attributes words schemas rows head used events records =
     Going table scene (sessionAt head₀ levels₀ bindings₀) out₀ most (sessionAt head levels bindings) out used events records
     × Beside table scene known (sessionAt head levels bindings)
     × (levelFree levels ≡ levelFree levels₀)
 
 abbrev μ-loop : tie.MeasureT-loop
-μ-loop table index scene levels₀ bindings₀ known₀ most out₀ attrs₀ own₀ attributes₀ rows₀ head₀ used₀ events₀ records₀ levels bindings known out attrs own attributes rows head used events records =
+μ-loop table index scene levels₀ bindings₀ known₀ most out₀ attrs₀ own₀ attributes₀ words₀ schemas₀ rows₀ head₀ used₀ events₀ records₀ levels bindings known out attrs own attributes words schemas rows head used events records =
     most - events
 
 loop-holds : tie.Need-loop-holds Inv-loop μ-loop
@@ -43,9 +43,9 @@ part-judged-step-end c = search needs
 
 judged-step-requires : tie.Need-judged-step-requires Inv-loop μ-loop
 judged-step-requires c κs =
-    let a = c .before .before .before .before .before .before .before .before .before .before .before .before .before .args in
-    let l = c .before .before .before .before .before .before .before .before .before .loop in
-    let p = c .before .before .before .before .before .before .before .before .before .before .before .before .before .pre .ready in
+    let a = c .before .before .before .before .before .before .before .before .before .before .before .before .before .before .before .args in
+    let l = c .before .before .before .before .before .before .before .before .before .before .before .loop in
+    let p = c .before .before .before .before .before .before .before .before .before .before .before .before .before .before .before .pre .ready in
     record {
       ready =
           record {
@@ -62,19 +62,19 @@ judged-step-requires c κs =
 abbrev stepped : tie.After-judged-step Inv-loop μ-loop → Step
 stepped c =
     let after = c .judged-step .last .1 .1 .1 .1 in
-    stepIn (c .judged-step .result) (after .0) (after .1 .0) (after .1 .1 .1 .1 .1 .1 .1 .0)
+    stepIn (c .judged-step .result) (after .0) (after .1 .0) (after .1 .1 .1 .1 .1 .1 .1 .1 .1 .0)
 
 turned : (c : tie.After-judged-step Inv-loop μ-loop) → (
-    let a = c .before .before .before .before .before .before .before .before .before .before .before .before .before .before .args in
-    let l = c .before .before .before .before .before .before .before .before .before .before .loop in
+    let a = c .before .before .before .before .before .before .before .before .before .before .before .before .before .before .before .before .args in
+    let l = c .before .before .before .before .before .before .before .before .before .before .before .before .loop in
     Turned (a .table .now) (a .scene .now) (sessionAt (a .from) (a .levels .now) (a .bindings .now)) (a .out .now) (a .most) (l .out) (l .used) (l .events) (l .records) (stepped c))
 turned c =
-    let a = c .before .before .before .before .before .before .before .before .before .before .before .before .before .before .args in
-    let l = c .before .before .before .before .before .before .before .before .before .before .loop in
-    let p = c .before .before .before .before .before .before .before .before .before .before .before .before .before .before .pre .ready in
+    let a = c .before .before .before .before .before .before .before .before .before .before .before .before .before .before .before .before .args in
+    let l = c .before .before .before .before .before .before .before .before .before .before .before .before .loop in
+    let p = c .before .before .before .before .before .before .before .before .before .before .before .before .before .before .before .before .pre .ready in
     let z₀ = sessionAt (a .from) (a .levels .now) (a .bindings .now) in
     let z = sessionAt (l .head) (l .levels) (l .bindings) in
-    going-turned (a .table .now) (a .scene .now) z₀ (a .out .now) (a .most) z (l .out) (l .used) (l .events) (l .records) (l .inv .0) (c .before .before .before .before .before .before .before .before .before .loop-test .taken) (p .accepted) (p .short)
+    going-turned (a .table .now) (a .scene .now) z₀ (a .out .now) (a .most) z (l .out) (l .used) (l .events) (l .records) (l .inv .0) (c .before .before .before .before .before .before .before .before .before .before .before .loop-test .taken) (p .accepted) (p .short)
     (take (length (l .out) - l .used) (drop (l .used) (l .out))) (part-whole (l .out) (l .used)) (stepped c) (c .judged-step .ensures .0 .0)
 
 same-length : tie.Need-same-length Inv-loop μ-loop
@@ -82,27 +82,27 @@ same-length c = search needs
 
 returns : tie.Need-returns Inv-loop μ-loop
 returns c =
-    let l = c .before .before .before .before .before .before .before .before .before .before .before .before .before .before .loop in
+    let l = c .before .before .before .before .before .before .before .before .before .before .before .before .before .before .before .before .loop in
     (turned (c .before .before .before .before) .stops _ (part-back (l .out) (l .used) (stepped (c .before .before .before .before) .output)) (c .if1 .taken), c .before .before .before .before .judged-step .ensures .1 ∙ l .inv .2)
 
 mul-used : tie.Need-mul-used Inv-loop μ-loop
-mul-used c = omega (arith, turned (c .before .before .before .before .before) .room, c .before .before .before .before .before .before .before .before .before .before .before .before .before .before .before .loop .inv .0 .same-length, c .before .before .before .before .before .before .before .before .before .before .before .before .before .before .before .before .before .before .before .good)
+mul-used c = omega (arith, turned (c .before .before .before .before .before) .room, c .before .before .before .before .before .before .before .before .before .before .before .before .before .before .before .before .before .loop .inv .0 .same-length, c .before .before .before .before .before .before .before .before .before .before .before .before .before .before .before .before .before .before .before .before .before .good)
 
 add-used : tie.Need-add-used Inv-loop μ-loop
-add-used c = omega (arith, turned (c .before .before .before .before .before) .room, c .before .before .before .before .before .before .before .before .before .before .before .before .before .before .before .loop .inv .0 .same-length, c .before .before .before .before .before .before .before .before .before .before .before .before .before .before .before .before .before .before .before .good)
+add-used c = omega (arith, turned (c .before .before .before .before .before) .room, c .before .before .before .before .before .before .before .before .before .before .before .before .before .before .before .before .before .loop .inv .0 .same-length, c .before .before .before .before .before .before .before .before .before .before .before .before .before .before .before .before .before .before .before .before .before .good)
 
 add-records : tie.Need-add-records Inv-loop μ-loop
-add-records c = omega (arith, turned (c .before .before .before .before .before .before) .room, c .before .before .before .before .before .before .before .before .before .before .before .before .before .before .before .before .loop .inv .0 .same-length, c .before .before .before .before .before .before .before .before .before .before .before .before .before .before .before .before .loop .inv .0 .counted, c .before .before .before .before .before .before .before .before .before .before .before .before .before .before .before .before .before .before .before .before .good)
+add-records c = omega (arith, turned (c .before .before .before .before .before .before) .room, c .before .before .before .before .before .before .before .before .before .before .before .before .before .before .before .before .before .before .loop .inv .0 .same-length, c .before .before .before .before .before .before .before .before .before .before .before .before .before .before .before .before .before .before .loop .inv .0 .counted, c .before .before .before .before .before .before .before .before .before .before .before .before .before .before .before .before .before .before .before .before .before .before .good)
 
 add-events : tie.Need-add-events Inv-loop μ-loop
-add-events c = omega (arith, c .before .before .before .before .before .before .before .before .before .before .before .before .before .before .before .loop-test .taken, c .before .before .before .before .before .before .before .before .before .before .before .before .before .before .before .before .before .before .before .before .good)
+add-events c = omega (arith, c .before .before .before .before .before .before .before .before .before .before .before .before .before .before .before .before .before .loop-test .taken, c .before .before .before .before .before .before .before .before .before .before .before .before .before .before .before .before .before .before .before .before .before .before .good)
 
 loop-less : tie.Need-loop-less Inv-loop μ-loop
-loop-less c = omega (arith, c .before .before .before .before .before .before .before .before .before .before .before .before .before .before .before .loop-test .taken)
+loop-less c = omega (arith, c .before .before .before .before .before .before .before .before .before .before .before .before .before .before .before .before .before .loop-test .taken)
 
 loop-again : tie.Need-loop-again Inv-loop μ-loop
 loop-again c =
-    let l = c .before .before .before .before .before .before .before .before .before .before .before .before .before .before .before .before .loop in
+    let l = c .before .before .before .before .before .before .before .before .before .before .before .before .before .before .before .before .before .before .loop in
     (turned (c .before .before .before .before .before .before) .goes _ (part-back (l .out) (l .used) (stepped (c .before .before .before .before .before .before) .output)) (c .before .before .if1 .left), c .before .before .before .before .before .before .judged-step .ensures .0 .1, c .before .before .before .before .before .before .judged-step .ensures .1 ∙ l .inv .2)
 
 same-length-2 : tie.Need-same-length-2 Inv-loop μ-loop

@@ -1,0 +1,9 @@
+pub mod Greatest
+pub mod WrittenFew
+pub mod FewRecords
+pub mod Stops
+pub mod Figured
+pub mod FigureTurns
+pub mod ForecastWays
+pub mod Forecasts
+pub mod Bounds

@@ -1,0 +1,132 @@
+-- What an event writes, by the stream: at most 34 records for each strand, and its attribute units.
+--     pairs-length, gather-few                       lists
+--     start-few, text-few, end-few, written-few      of an event
+use Prim.Native.Nat.{ℕ, zero, suc, _+_, _*_, _≤_, _<_}
+use mathlib.Core.Path.{_≡_, refl, sym, ap, subst, _∙_}
+use mathlib.Core.List.{List, [], _∷_, _++_, map, map-append, append-nil}
+use mathlib.Core.Bool.{Bool, true, false, cond, not}
+use mathlib.Core.Option.{Option, none, some}
+use native.Mathlib.Omega.{arith}
+use lib.ListN.{length, take, drop, getD, length-append, length-map}
+use lib.Dec.{eqb, ltb}
+use lib.Seq.{split-at, take-suc}
+use Rattle.laws.specs.Lists.{keep}
+use Rattle.laws.specs.Gather.{gather, total}
+use Rattle.laws.specs.Members.{All}
+use Rattle.laws.proofs.Gather.{gather-append, total-append}
+use Rattle.laws.proofs.Holds.{holds-cond}
+use Rattle.table.specs.Table.{Table, decode, rulesOf}
+use Rattle.table.specs.Judge.{judged, Accepted}
+use Rattle.reader.specs.Events as scene
+use Rattle.reader.specs.Events.{events}
+use Rattle.reader.specs.declared.Span.{Span}
+use Rattle.reader.specs.Spans.{span}
+use Rattle.reader.proofs.FewAttributes.{EventFew, event-few}
+use Rattle.model.specs.Theory.{Action, Attach, Unwrap, Validate, Rule, AttributeUnit, Piece, holds, Record}
+use Rattle.model.specs.Tree.{TreeEvent, start, text, end, completed, treeOf}
+use Rattle.model.specs.Elements.{Attribute, Element, attributeOf, elementOf}
+use Rattle.model.specs.Records.{Body, attributeBodies, virtualStart, virtualEnd, closeBody}
+use Rattle.model.specs.Groups.{AttributeGroup, groupsOf, groupRules, unitBy, attributeUnits, kept, startBodies}
+use Rattle.model.specs.Stream.{Level, State, Entry, HeldStrand, entriesAt, unitsOf, entered, startRecords, textRecords, endRecords, written, streamOf, receiver, give, attributesFrom, opening, closing}
+use Rattle.model.specs.Model.{Marked, WholeUnit, Assigned, assignedAt, assignedOf, cutModel, OneKeeps}
+use Rattle.model.specs.Dispatch.{dispatch, told, pieceBody}
+use Rattle.model.proofs.Lists.{all-gather, every}
+use Rattle.model.proofs.Events.{unitPieces}
+use Rattle.model.proofs.Attributes.{agree}
+use Rattle.model.proofs.Tables.{one}
+use Rattle.model.proofs.Cut.{IsPrefix}
+use Rattle.model.proofs.Steps.{stream-step}
+use Rattle.model.proofs.Theorems.{stream-of-completed}
+use Rattle.model.proofs.Assigned.{modesAt, attributesAt, assigned-units}
+use Rattle.model.proofs.Count.{attributeCount, length-give, length-attributes}
+use Rattle.dispatcher.specs.Stepping.{longest}
+use Rattle.dispatcher.proofs.NewStrands.{new-length}
+use Rattle.demands.specs.Scenes.{modelCount}
+use Rattle.demands.specs.Limits.{toldAll, eventsWithin}
+use Rattle.demands.proofs.Prefixes.{toldFirst, told-first-length}
+use Rattle.demands.proofs.Measures.{streamAfter, strands-are, whole-prefix}
+use Rattle.demands.proofs.Expected.{first-prefix}
+use Rattle.demands.proofs.Limits.{within-all}
+use Rattle.forecast.specs.Forecasts.{noFigures, figuresOf, forecastOf}
+use Rattle.forecast.specs.Bounds.{sumOf, attributeUnitsAt, attributesHeld, unitsAttributed, attributesUnited, eventBound, sceneBound}
+use Rattle.forecast.specs.declared.figures.Forecast.{Forecast}
+
+-- an attribute and its value for each
+pub pairs-length : (l : List Attribute) → length (gather attributeBodies l) ≡ 2 * length l
+unfolding gather
+pairs-length [] = refl
+pairs-length (a ∷ l) = omega (arith, pairs-length l)
+
+pub gather-few : {A B : Type 0} (f : A → List B) → ((x : A) → length (f x) ≤ 34) → (xs : List A) → length (gather f xs) ≤ 34 * length xs
+unfolding gather
+gather-few f h [] = omega arith
+gather-few f h (x ∷ xs) = omega (arith, h x, gather-few f h xs, length-append (f x) (gather f xs))
+
+give-few : {B U : Type 0} (n : ℕ) (o : Option U) (ps : List (Piece B)) → length ps ≤ n → length (give o ps) ≤ n
+give-few n none ps h = omega arith
+give-few n (some u) ps h = omega (arith, length-give (some u) ps)
+
+kept-few : {A B : Type 0} (f : A → List B) → ((x : A) → length (f x) ≡ 2) → (p : A → Bool) (l : List A) → length (gather f (keep p l)) ≤ 2 * length l
+unfolding gather keep
+kept-few f h p [] = omega arith
+kept-few f h p (x ∷ l) = by (p x) (kept-few f h p l)
+  where
+    by : (b : Bool) → length (gather f (keep p l)) ≤ 2 * length l → length (gather f (cond b (x ∷ keep p l) (keep p l))) ≤ 2 * suc (length l)
+    by true ih = omega (arith, ih, h x, length-append (f x) (gather f (keep p l)))
+    by false ih = omega (arith, ih)
+
+bodies-few : (t : Table) (m : ℕ) (e : Element) → length (e .attributes) ≤ 16 → length (startBodies t m e) ≤ 33
+unfolding startBodies
+bodies-few t m e h = omega (arith, h, kept-few attributeBodies (λ (a : Attribute). refl) (kept t m e) (e .attributes))
+
+module _ (t : Table) where
+  -- 34 records for each strand, and those of its attribute units
+  abbrev pub mostOf : State (dispatch t) → TreeEvent (dispatch t) → ℕ
+  mostOf z e = 34 * length (modesAt (dispatch t) z e) + total attributeCount (attributesAt (dispatch t) z e)
+
+  pub start-few : (z : State (dispatch t)) (σ : Element) → length (σ .attributes) ≤ 16 → length (written (dispatch t) z (start σ)) ≤ mostOf z (start σ)
+  unfolding written
+  start-few z σ h =
+      let es = entriesAt (dispatch t) (z .levels) σ in
+      let us = unitsOf (dispatch t) σ es in
+      let units = attributesFrom (λ n. n) (z .units) us in
+      let starts : length (gather (startRecords (dispatch t) σ) (entered (dispatch t) z σ)) ≤ 34 * length (entered (dispatch t) z σ) = gather-few (startRecords (dispatch t) σ) each (entered (dispatch t) z σ) in
+      let strands : length (entered (dispatch t) z σ) ≡ length es = sym (length-map (entered (dispatch t) z σ) (λ (e : Entry). e .strand)) ∙ new-length t z σ in
+      let modes : length (map (λ (e : Entry). e .strand .mode) es) ≡ length es = length-map es (λ (e : Entry). e .strand .mode) in
+      omega (arith, length-append units (gather (startRecords (dispatch t) σ) (entered (dispatch t) z σ)), length-attributes (λ n. n) (z .units) us, starts, strands, modes)
+    where
+      opening-few : (n : ℕ) (here : Bool) → length (opening (dispatch t) σ n here) ≤ 1
+      opening-few n true = omega arith
+      opening-few n false = omega arith
+
+      each : (e : Entry) → length (startRecords (dispatch t) σ e) ≤ 34
+      each e =
+          let bodies = startBodies t (e .strand .mode) σ in
+          let open′ = opening (dispatch t) σ (e .schema) (e .strand .here) in
+          give-few 34 (receiver (e .strand .action) (e .strand .target)) (open′ ++ map holds bodies)
+          (omega (arith, length-append open′ (map holds bodies), length-map bodies (λ (b : Body). holds b), opening-few (e .schema) (e .strand .here), bodies-few t (e .strand .mode) σ h))
+
+  pub text-few : (ls : List (Level (dispatch t))) (u : ℕ) (w : Span) → length (written (dispatch t) (record { levels = ls; units = u }) (text w)) ≤ mostOf (record { levels = ls; units = u }) (text w)
+  unfolding written total
+  text-few [] u w = omega arith
+  text-few (l ∷ ls) u w =
+      omega (arith, gather-few (textRecords (dispatch t) w) (λ (s : HeldStrand ℕ). give-few 34 (receiver (s .action) (s .target)) _ (omega arith)) (l .strands), length-map (l .strands) (λ (s : HeldStrand ℕ). s .mode))
+
+  pub end-few : (ls : List (Level (dispatch t))) (u : ℕ) (w : Span) → length (written (dispatch t) (record { levels = ls; units = u }) (end w)) ≤ mostOf (record { levels = ls; units = u }) (end w)
+  unfolding written total
+  end-few [] u w = omega arith
+  end-few (l ∷ ls) u w =
+      omega (arith, gather-few (endRecords (dispatch t) (l .at) w) each (l .strands), length-map (l .strands) (λ (s : HeldStrand ℕ). s .mode))
+    where
+      closing-few : (here : Bool) → length (closing (dispatch t) here) ≤ 1
+      closing-few true = omega arith
+      closing-few false = omega arith
+
+      each : (s : HeldStrand ℕ) → length (endRecords (dispatch t) (l .at) w s) ≤ 34
+      each s = give-few 34 (receiver (s .action) (s .target)) _ (omega (arith, closing-few (s .here)))
+
+  pub written-few : (s : List ℕ) (z : State (dispatch t)) (e : scene.Event) → EventFew e → length (written (dispatch t) z (told t s e)) ≤ mostOf z (told t s e)
+  unfolding elementOf
+  written-few s z (scene.start e) h = start-few z (elementOf t s e) (omega (arith, h, length-map (e .attributes) (attributeOf t s)))
+  written-few s z (scene.text w) h = text-few (z .levels) (z .units) w
+  written-few s z (scene.end part at) h = end-few (z .levels) (z .units) part

@@ -1,0 +1,4 @@
+pub mod Forecasts
+pub mod Bounds
+pub mod BoundExamples
+pub mod FigureExamples
