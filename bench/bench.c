@@ -3,13 +3,14 @@
        bench table LABEL SCENE RULES     every contender on one scene, with peak memory
        bench lines WORD (LABEL SCENE RULES)..  run beside expat on each of these scenes, a line each; the scenes take turns too
        bench once WHO SCENE RULES [ROOM] one pass of one contender: its peak memory, events, records, calls, and a sum over the records' bytes; WHO is run,
-                                         expat, libxml2, advance64, pieces64, advance4, pieces4, step, memchr or load
+                                         forecast (which counts no events), expat, libxml2, advance64, pieces64, advance4, pieces4, step, memchr or load
 
    Before the command: -r ROUNDS (5), -t SECONDS of a contender in a round (0.25), -m (no memory), -p SECONDS after which stepping stops (8 times -t),
    -n CALLS after which it stops.
    Contenders take turns in each round; the best round of each counts ('by rounds': the median of the ratios within a round).
    Time is processor time of this process.
    Events are the scene's own (starts, texts, ends) for all, and a comment or an instruction ends a text; records are those that run writes. MB is 1,000,000 bytes.
+   FORECAST is defined where the library for it is linked too.
    If contenders disagree about the scene the program says so and ends with 1. No time decides anything. */
 #define _GNU_SOURCE
 #include <expat.h>
@@ -265,6 +266,19 @@ static struct seen pass_libxml2(void) {
     return seen_by(&c);
 }
 
+#ifdef FORECAST
+/* What run will write, without an output. It tells of no events. */
+static struct seen pass_forecast(void) {
+    uint64_t figures[6];
+    calcivorne_forecast(rules.at, rules.length, scene.at, scene.length, figures);
+    return (struct seen){ 0, figures[2], 1, 0, scene.length };
+}
+#else
+static struct seen pass_forecast(void) {
+    return (struct seen){ 0, 0, 0, 0, 0 };
+}
+#endif
+
 static struct seen pass_memchr(void) {
     struct seen s = { 0, 0, 0, 0, scene.length };
     const uint8_t *at = scene.at, *end = at + scene.length;
@@ -277,10 +291,11 @@ static struct seen pass_load(void) {
 }
 
 /* Neighbours take turns next to each other: each of ours stands before the one that it is held against. */
-enum { RUN, EXPAT, LIBXML2, ADVANCE64, PIECES64, ADVANCE4, PIECES4, STEP, MEMCHR, CONTENDERS, LOAD = CONTENDERS };
+enum { RUN, FORECASTING, EXPAT, LIBXML2, ADVANCE64, PIECES64, ADVANCE4, PIECES4, STEP, MEMCHR, CONTENDERS, LOAD = CONTENDERS };
 
 static const struct { const char *word, *title; struct seen (*pass)(void); int writes; } contender[] = {
     { "run", "`run`", pass_run, 1 },
+    { "forecast", "`forecast`, no output", pass_forecast, 0 },
     { "expat", "expat, namespaces", pass_expat, 0 },
     { "libxml2", "libxml2 SAX2, namespaces", pass_libxml2, 0 },
     { "advance64", "`advance`, in pieces of 64 KB", pass_advance64, 1 },
@@ -293,6 +308,9 @@ static const struct { const char *word, *title; struct seen (*pass)(void); int w
 };
 
 static int takes_part(int who) {
+#ifndef FORECAST
+    if (who == FORECASTING) return 0;
+#endif
     return calcivorne_advance || (who != ADVANCE64 && who != ADVANCE4);
 }
 
@@ -403,6 +421,12 @@ static int disagree(const char *who, struct seen a, struct seen b, int writes) {
     return 1;
 }
 
+static int other_count(uint64_t forecast, uint64_t run) {
+    if (forecast == run) return 0;
+    fprintf(stderr, "bench: forecast says %llu records, run writes %llu\n", (unsigned long long)forecast, (unsigned long long)run);
+    return 1;
+}
+
 /* A pass of each, before the rounds: all must see what run sees, and write the same records. */
 static int check(struct seen *first) {
     int wrong = 0;
@@ -410,7 +434,8 @@ static int check(struct seen *first) {
     for (int k = 0; k < CONTENDERS; k++) {
         if (!takes_part(k)) continue;
         first[k] = contender[k].pass();
-        if (k != MEMCHR && first[k].done == scene.length) wrong += disagree(contender[k].title, first[k], first[RUN], contender[k].writes);
+        if (k == FORECASTING) wrong += other_count(first[k].records, first[RUN].records);
+        else if (k != MEMCHR && first[k].done == scene.length) wrong += disagree(contender[k].title, first[k], first[RUN], contender[k].writes);
     }
     summing = 0;
     return wrong;

@@ -1,12 +1,13 @@
 -- What a start makes, as the code decides it: the ways of `joins`, `next_strands` and `weigh`.
 use Prim.Native.Nat.{ℕ, _+_, _*_, _-_, _≤_, _<_}
 use mathlib.Core.Path.{_≡_, refl, sym, ap, ap₂, subst, _∙_}
-use mathlib.Core.List.{List, map}
+use mathlib.Core.List.{List, [], _∷_, _++_, map}
+use mathlib.Core.Option.{Option}
 use mathlib.Core.Bool.{Bool, true, false, cond}
 use native.Mathlib.Nat.{add-zero, zero-add}
 use native.Mathlib.Omega.{arith}
 use borrow.Author.Tests.{eq-eqb, ne-eqb, le-leb, lt-ltb, le-ltb}
-use lib.ListN.{length, getD, take, length-map}
+use lib.ListN.{length, getD, take, drop, length-map, take-append-drop}
 use lib.Dec.{eqb, ltb}
 use Rattle.laws.specs.Lists.{sameList, tabulate}
 use Rattle.laws.specs.Over.{overwrite}
@@ -15,10 +16,12 @@ use Rattle.laws.specs.Members.{All}
 use Rattle.laws.proofs.Lists.{length-tabulate}
 use Rattle.compare.specs.Compare.{spanOf}
 use Rattle.reader.specs.Spans.{span, bytesOf}
-use Rattle.model.specs.Stream.{Entry, allot}
+use Rattle.model.specs.Theory.{Action}
+use Rattle.model.specs.Stream.{Entry, allot, newUnits}
 use Rattle.strands.specs.Packed.{strandIn, wordsAt}
 use Rattle.strands.specs.Entries.{entriesBy, entriesFrom, stayEntry, counted, strandWord, schemaWord, hereCount, Unnumbered, entriesIn}
 use Rattle.strands.specs.Rules.{unitsFor}
+use Rattle.strands.proofs.Entered.{here-count}
 use Rattle.attributes.specs.Attributes.{Sorted}
 use Rattle.strands.specs.Writing.{members, headClass, sectionCount, elementCount}
 use Rattle.openings.specs.Openings.{onlyNumber}
@@ -114,6 +117,30 @@ loadRecords index l m ws = total (λ (w : ℕ). total (sectionCount index (stran
 abbrev pub Numbers : ℕ → ℕ → List ℕ → List ℕ → Type 0
 Numbers count first words₀ words =
     (es : List Entry) → length es ≡ count → take count words₀ ≡ map strandWord es → All Unnumbered es → words ≡ overwrite words₀ 0 (map strandWord (allot first es))
+
+-- where no unit opens, none is numbered
+allot-none : (u : ℕ) (es : List Entry) → newUnits es ≡ 0 → allot u es ≡ es
+unfolding total
+allot-none u [] h = refl
+allot-none u (e ∷ es) h = by (e .strand .mode) (e .strand .action) (e .strand .target) (e .strand .here) (e .schema) h (allot-none u es)
+  where
+    by : (m : ℕ) (a : Action) (t : Option ℕ) (b : Bool) (n : ℕ) → cond b 1 0 + newUnits es ≡ 0 → (newUnits es ≡ 0 → allot u es ≡ es)
+        → allot u (record { strand = record { mode = m; action = a; target = t; here = b }; schema = n } ∷ es) ≡ record { strand = record { mode = m; action = a; target = t; here = b }; schema = n } ∷ es
+    by m a t false n z ih = ap (λ (l : List Entry). record { strand = record { mode = m; action = a; target = t; here = false }; schema = n } ∷ l) (ih (omega (arith, z)))
+    by m a t true n z ih = absurd (omega (arith, z))
+
+-- the first n laid over themselves
+over-itself : (xs ys : List ℕ) (n : ℕ) → length ys ≡ n → take n xs ≡ ys → overwrite xs 0 ys ≡ xs
+unfolding overwrite
+over-itself xs ys n el et =
+    ap (λ (k : ℕ). ys ++ drop k xs) (zero-add (length ys) ∙ el)
+    ∙ ap (λ (l : List ℕ). l ++ drop n xs) (sym et)
+    ∙ take-append-drop n xs
+
+pub numbers-none : (count first : ℕ) (words : List ℕ) → hereCount (take count words) ≡ 0 → Numbers count first words words
+numbers-none count first words h es el et a =
+    sym (ap (λ (l : List Entry). overwrite words 0 (map strandWord l)) (allot-none first es (sym (here-count es a) ∙ ap hereCount (sym et) ∙ h))
+    ∙ over-itself words (map strandWord es) count (length-map es strandWord ∙ el) et)
 
 abbrev pub Weighed : List ℕ → List Sorted → ℕ → ℕ → ℕ → ℕ → List ℕ → List ℕ → Decided → Type 0
 Weighed index l n m count units words₀ words r =

@@ -64,11 +64,14 @@ pub fn weigh(
 {
     let load = load_all(index, attributes, n, m, words, count);
     let first = units + load.units;
-    let all = first + new_units(words, count);
+    let here = new_units(words, count);
+    let all = first + here;
     if UNITS < all {
         return only(24);
     }
-    number_units(words, count, first);
+    if here != 0 {
+        number_units(words, count, first);
+    }
     let records = load.records + elements_count(index, words, count, attributes, n, m);
     Decided {
         number: 0,

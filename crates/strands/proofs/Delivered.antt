@@ -1,15 +1,20 @@
 -- What the strands of a level deliver at a text and at an end: the records are the stream's, their count, their rows.
-use Prim.Native.Nat.{ℕ, _+_, _*_, _/_, _%_, _^_, _≤_}
+use Prim.Native.Nat.{ℕ, _+_, _*_, _/_, _%_, _^_, _≤_, _<_}
 use mathlib.Core.Path.{_≡_, refl, sym, ap, ap₂, _∙_}
 use mathlib.Core.List.{List, [], _∷_, _++_, map, map-append, append-nil}
 use mathlib.Core.Bool.{Bool, true, false, cond, not, _&&_}
 use mathlib.Core.Option.{Option, none, some}
 use native.Mathlib.Nat.{add-zero}
 use native.Mathlib.Omega.{arith}
-use lib.Dec.{eqb}
-use lib.ListN.{length, length-append, length-map}
-use Rattle.laws.specs.Tests.{untold, untold′}
+use borrow.Author.Tests.{eqb-true, ltb-false}
+use lib.Bits.{bitAnd}
+use lib.Dec.{eqb, ltb}
+use lib.ListN.{getD, length, length-append, length-map}
+use Rattle.laws.specs.Bits.{mask3}
+use Rattle.laws.specs.Lists.{all, tabulate}
 use Rattle.laws.specs.Gather.{gather, total}
+use Rattle.laws.proofs.Lists.{getD-tabulate, length-tabulate}
+use Rattle.laws.proofs.Members.{in-at, all-in}
 use Rattle.laws.proofs.Gather.{gather-append, total-append}
 use Rattle.table.specs.Table.{Table}
 use Rattle.reader.specs.declared.Span.{Span}
@@ -22,7 +27,7 @@ use Rattle.records.specs.Rows.{Laid, rowBytes, laidIf, laidRows}
 use Rattle.records.proofs.Laid.{rows-more}
 use Rattle.strands.specs.Packed.{strandIn, receives, isUnit, targetIn}
 use Rattle.strands.specs.Writing.{rowFor, rowOf, eventPieces, eventRecords, eventCount}
-use Rattle.strands.proofs.Words.{receiver-is}
+use Rattle.strands.proofs.Words.{receiver-is, delivers-is}
 
 -- the unit that gets what a strand delivers is its target
 known : (o : Option ℕ) (t : Bool) (u : ℕ) → o ≡ cond t (some u) none → o ≡ cond (isUnit o) (some u) none
@@ -64,21 +69,46 @@ pieces-most true true = omega arith
 pieces-most true false = omega arith
 pieces-most false close = omega arith
 
+pub count-most : (closes : Bool) (w : ℕ) → eventCount closes w ≤ 2
+count-most closes w = pieces-most (isUnit (receives (strandIn w))) (closes && strandIn w .here)
+
 pub events-most : (closes : Bool) (ws : List ℕ) → total (eventCount closes) ws ≤ 2 * length ws
 unfolding total
 events-most closes [] = omega arith
-events-most closes (w ∷ ws) = omega (arith, pieces-most (isUnit (receives (strandIn w))) (closes && strandIn w .here), events-most closes ws)
+events-most closes (w ∷ ws) = omega (arith, count-most closes w, events-most closes ws)
 
--- the same by the tests that the code makes
-module _ (closes : Bool) (w : ℕ) (d : Bool) where
-  pub count-none : d ≡ isUnit (receives (strandIn w)) → not d ≡ true → 0 ≡ eventCount closes w
-  count-none e h = rw (untold d (isUnit (receives (strandIn w))) e h)
+-- the count in a table: a number with two bits for each of the sixteen values that bits 5 to 8 of a strand's number have
+abbrev countBy : Bool → ℕ → ℕ
+countBy closes k = cond (eqb (k / 8 % 2) 1 && not (eqb (k % 4) 1)) (cond (closes && eqb (k / 4 % 2) 1) 2 1) 0
 
-  pub count-two : (here : Bool) → d ≡ isUnit (receives (strandIn w)) → here ≡ strandIn w .here → not d ≡ false → (closes && here) ≡ true → 2 ≡ eventCount closes w
-  count-two here e f h k = rw (untold′ d (isUnit (receives (strandIn w))) e h, ← f, k)
+count-by : (closes : Bool) (w : ℕ) → countBy closes (w / 32 % 16) ≡ eventCount closes w
+unfolding strandIn
+count-by closes w =
+    let aimed : w / 32 % 16 / 8 % 2 ≡ w / 256 % 2 = omega arith in
+    let action : w / 32 % 16 % 4 ≡ w / 32 % 4 = omega arith in
+    let here : w / 32 % 16 / 4 % 2 ≡ w / 128 % 2 = omega arith in
+    rw (aimed, action, here, delivers-is w)
 
-  pub count-one : (here : Bool) → d ≡ isUnit (receives (strandIn w)) → here ≡ strandIn w .here → not d ≡ false → (closes && here) ≡ false → 1 ≡ eventCount closes w
-  count-one here e f h k = rw (untold′ d (isUnit (receives (strandIn w))) e h, ← f, k)
+abbrev right : Bool → ℕ → ℕ → Bool
+right closes table k = eqb (table / 2 ^ (k * 2) % 4) (countBy closes k)
+
+count-in : (closes : Bool) (table w : ℕ) → all (right closes table) (tabulate (λ (k : ℕ). k) 0 16) ≡ true → bitAnd (table / 2 ^ (w / 32 % 16 * 2)) 3 ≡ eventCount closes w
+count-in closes table w e =
+    let values = tabulate (λ (k : ℕ). k) 0 16 in
+    let i = w / 32 % 16 in
+    let h : i < 16 = omega arith in
+    let q : getD values i 0 ≡ i = getD-tabulate (λ (k : ℕ). k) 0 16 i 0 h ∙ omega arith in
+    let r : right closes table (getD values i 0) ≡ true = all-in (right closes table) _ values e (in-at values i 0 (rw (length-tabulate (λ (k : ℕ). k) 0 16) h)) in
+    mask3 (table / 2 ^ (i * 2)) ∙ eqb-true _ _ (rw q at r) ∙ count-by closes w
+
+module _ (closes : Bool) (table w : ℕ) where
+  pub count-closing : closes ≡ true → table ≡ 0xA2510000 → bitAnd (table / 2 ^ (w / 32 % 16 * 2)) 3 ≡ eventCount closes w
+  unfolding all tabulate
+  count-closing h e = rw (h, e) (count-in true 0xA2510000 w refl)
+
+  pub count-plain : closes ≡ false → table ≡ 0x51510000 → bitAnd (table / 2 ^ (w / 32 % 16 * 2)) 3 ≡ eventCount closes w
+  unfolding all tabulate
+  count-plain h e = rw (h, e) (count-in false 0x51510000 w refl)
 
 -- ---- the stream's records
 module _ (t : Table) where
@@ -138,3 +168,11 @@ module _ (b : Body) (closes : Bool) (w : ℕ) (due here : Bool) (unit : ℕ) (h 
 -- a turn of the loop that counts them
 pub count-turn : (closes : Bool) (w k n : ℕ) (ws ws′ : List ℕ) → k ≡ total (eventCount closes) ws → n ≡ eventCount closes w → ws′ ≡ ws ++ (w ∷ []) → k + n ≡ total (eventCount closes) ws′
 count-turn closes w k n ws ws′ e f s = ap₂ _+_ e f ∙ sym (ap (total (eventCount closes)) s ∙ total-next (eventCount closes) ws w)
+
+-- it ends with the last strand, or with 32 records, which sixteen strands write
+pub all-counted : (j n k : ℕ) → (ltb j n && ltb k 32) ≡ false → j ≤ n → n ≤ 16 → k ≤ 2 * j → j ≡ n
+all-counted j n k e l m h = go (ltb j n) refl e
+  where
+    go : (t : Bool) → ltb j n ≡ t → (t && ltb k 32) ≡ false → j ≡ n
+    go true p q = omega (arith, ltb-false k 32 q)
+    go false p q = omega (arith, ltb-false j n p)

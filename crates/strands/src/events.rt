@@ -21,13 +21,12 @@ ghost use Rattle.strands.specs.Writing.{rowFor, rowOf, eventCount, event
 fn records_of(w: u32, closes: bool) -> usize
     ensures { λ r. ⌜ (r ≡ eventCount closes w) × (r ≤ 2) ⌝ }
 {
-    if !delivers(w) {
-        return 0;
+    // Two bits for each action, whether its unit opened here and whether it has a target. The second number is for an event that closes.
+    let mut counts: u32 = 0x51510000;
+    if closes {
+        counts = 0xA2510000;
     }
-    if closes & is_here(w) {
-        return 2;
-    }
-    1
+    (counts >> (w / 32 % 16 * 2) & 3) as usize
 }
 
 // How many records n strands of a level write.
@@ -37,7 +36,8 @@ pub fn event_count(levels: &[u32; LEVELS], level: usize, n: usize, closes: bool)
 {
     let mut k = 0;
     let mut j = 0;
-    while j < n {
+    // The second test never ends it early: 32 records are those of 16 strands. It is there for speed: with it the compiler makes no vectors of the loop.
+    while (j < n) & (k < 32) {
         k += records_of(strand_at(levels, level, j), closes);
         j += 1;
     }

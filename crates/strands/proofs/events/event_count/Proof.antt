@@ -1,16 +1,19 @@
 -- `event_count` sums what the strands write: that of the first j after j turns.
 use mathlib.Core.Path.{_≡_, sym, ap, _∙_}
-use Prim.Native.Nat.{ℕ, _+_, _-_, _*_, _≤_}
+use Prim.Native.Nat.{ℕ, _+_, _-_, _*_, _≤_, _<_}
 use native.Mathlib.Omega.{arith}
 use borrow.Author.Needs.{needs}
+use borrow.Author.Tests.{ltb-true}
+use lib.Dec.{ltb}
 use lib.ListN.{getD}
 use Rattle.laws.specs.Gather.{total}
+use Rattle.laws.proofs.Flags.{and-left}
 use Rattle.laws.proofs.Gather.{total-none}
 use Rattle.strands.specs.Packed.{wordsAt}
 use Rattle.strands.specs.Levels.{levelStrands}
 use Rattle.strands.specs.Writing.{eventCount}
 use Rattle.strands.proofs.Words.{words-none, words-more}
-use Rattle.strands.proofs.Delivered.{count-turn}
+use Rattle.strands.proofs.Delivered.{count-turn, all-counted}
 use Rattle.strands.proofs.events.event_count.Statement.{statement}
 use Rattle.strands.proofs.events.event_count.Tie as tie
 
@@ -25,8 +28,11 @@ loop-holds c =
     let a = c .args in
     (omega arith, omega arith, sym (ap (total (eventCount (a .closes))) (words-none (levelStrands (a .levels .now)) (a .level)) ∙ total-none (eventCount (a .closes))))
 
+more : (c : tie.In-loop Inv-loop μ-loop) → c .before .loop .j < c .before .before .args .n
+more c = let j = c .before .loop .j in let n = c .before .before .args .n in ltb-true j n (and-left (ltb j n) _ (c .loop-test .taken))
+
 strand-at-requires : tie.Need-strand-at-requires Inv-loop μ-loop
-strand-at-requires c κs = search needs
+strand-at-requires c κs = let h = more c in search needs
 
 records-of-requires : tie.Need-records-of-requires Inv-loop μ-loop
 records-of-requires c κs = search needs
@@ -38,12 +44,13 @@ add-j : tie.Need-add-j Inv-loop μ-loop
 add-j c = search needs
 
 loop-less : tie.Need-loop-less Inv-loop μ-loop
-loop-less c = search needs
+loop-less c = let h = more (c .before .before) in search needs
 
 loop-again : tie.Need-loop-again Inv-loop μ-loop
 loop-again c =
     let a = c .before .before .before .before .args in
-    let l = c .before .before .before .loop in (
+    let l = c .before .before .before .loop in
+    let h = more (c .before .before) in (
       omega arith,
       omega arith,
       count-turn (a .closes) (getD (levelStrands (a .levels .now)) (16 * a .level + l .j) 0) (l .k) _ _ _ (l .inv .2)
@@ -55,7 +62,8 @@ returns : tie.Need-returns Inv-loop μ-loop
 returns c =
     let a = c .before .before .args in
     let l = c .before .loop in
-    (l .inv .2 ∙ ap (λ (j : ℕ). total (eventCount (a .closes)) (wordsAt (levelStrands (a .levels .now)) (a .level) j)) (omega arith), omega arith)
+    let e = all-counted (l .j) (a .n) (l .k) (c .loop-test .left) (l .inv .0) (c .before .before .pre .1) (l .inv .1) in
+    (l .inv .2 ∙ ap (λ (j : ℕ). total (eventCount (a .closes)) (wordsAt (levelStrands (a .levels .now)) (a .level) j)) e, omega arith)
 
 pub event-count-spec : {M : Type 1} → statement M
 event-count-spec =

@@ -1,28 +1,30 @@
--- `records_of` counts a strand's records by its tests.
+-- `records_of` reads a strand's count in one of two tables.
+use mathlib.Core.Logic.{⊎-elim}
 use native.Mathlib.Omega.{arith}
 use borrow.Author.Needs.{needs}
-use Rattle.strands.proofs.Delivered.{count-none, count-two, count-one}
+use Rattle.laws.specs.Bits.{masks}
+use Rattle.strands.proofs.Delivered.{count-closing, count-plain, count-most}
 use Rattle.strands.proofs.events.records_of.Statement.{statement}
 use Rattle.strands.proofs.events.records_of.Tie as tie
 
-delivers-requires : tie.Need-delivers-requires
-delivers-requires c κs = search needs
+mul-result : tie.Need-mul-result
+mul-result c = search needs
+
+shr-result : tie.Need-shr-result
+shr-result c = search needs
+
+cast-result : tie.Need-cast-result
+cast-result c = simp masks (omega arith)
 
 returns : tie.Need-returns
-returns c = let a = c .before .before .args in (count-none (a .closes) (a .w) _ (c .before .delivers .ensures) (c .if1 .taken), omega arith)
-
-is-here-requires : tie.Need-is-here-requires
-is-here-requires c κs = search needs
-
-returns-2 : tie.Need-returns-2
-returns-2 c =
-    let a = c .before .before .before .before .args in
-    (count-two (a .closes) (a .w) _ _ (c .before .before .before .delivers .ensures) (c .before .is-here .ensures) (c .before .before .if1 .left) (c .if2 .taken), omega arith)
-
-returns-3 : tie.Need-returns-3
-returns-3 c =
-    let a = c .before .before .before .before .args in
-    (count-one (a .closes) (a .w) _ _ (c .before .before .before .delivers .ensures) (c .before .is-here .ensures) (c .before .before .if1 .left) (c .if2 .left), omega arith)
+returns c =
+    let a = c .before .before .args in
+    let e =
+    ⊎-elim
+    (λ way. count-closing (a .closes) _ (a .w) (way .0 .taken) (way .1))
+    (λ way. count-plain (a .closes) _ (a .w) (way .0 .left) (way .1))
+    (c .before .if1 .came) in
+    (e, omega (arith, e, count-most (a .closes) (a .w)))
 
 pub records-of-spec : {M : Type 1} → statement M
-records-of-spec = tie.close (tie.spec delivers-requires returns is-here-requires returns-2 returns-3)
+records-of-spec = tie.close (tie.spec mul-result shr-result cast-result returns)
