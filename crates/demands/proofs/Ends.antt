@@ -28,10 +28,10 @@ use Rattle.dispatcher.specs.Sessions.{readerOf}
 use Rattle.dispatcher.specs.Stepping.{eventPlace, Step, answered, refusedStep, Run, runOf}
 use Rattle.dispatcher.specs.declared.Session.{Session}
 use Rattle.demands.specs.Scenes.{modelCount}
-use Rattle.demands.specs.Limits.{passed, WithinFirst, Within, FirstLimit, firstPast, eventsWithin, End, readEnd, runEnd}
+use Rattle.demands.specs.Limits.{passed, WithinFirst, Within, FirstLimit, firstPast, eventsWithin, readEnd, runEnd}
 use Rattle.demands.proofs.Goes.{goes-on}
 use Rattle.demands.proofs.Expected.{count-grows}
-use Rattle.demands.proofs.Limits.{passed-number, next-event, taken-passed, FirstPast, first-past}
+use Rattle.demands.proofs.Limits.{passed-number, next-event, taken-passed, FirstPast, first-past, beforeBy, endBy}
 use Rattle.demands.specs.Answers as step
 use Rattle.demands.specs.Answers.{Ready, Starts, Answered, bad-table, long-scene, bad-session, unread, all-read, no-room, wrote}
 use Rattle.demands.proofs.Refusals.{answered-by, exactly-9}
@@ -135,13 +135,6 @@ limit-past t s n p f w = omega (arith, f .number-is, f .lowest, w (f .before) in
 
 -- ---- where the output has room
 module _ (table s out : List ℕ) (ok : Accepted table ≡ true) (short : length s ≤ 16777215) where
-  -- the first event past a limit, if there is one: how many come before, and what it says
-  abbrev beforeBy : Option ℕ → ℕ
-  beforeBy o = elim o [ none ↦ length (events s) | some k ↦ k ]
-
-  abbrev endBy : Option ℕ → End
-  endBy o = elim o [ none ↦ readEnd (lastOf s) | some k ↦ record { number = passed (decode table) s k; place = eventPlace (getD (events s) k (scene.text (span 0 0))) } ]
-
   -- behind all events, as reading ends
   read-by : (e : Ended table s out (runOf table s out)) → e .events ≡ length (events s) → (x : scene.Next) → lastOf s ≡ x → (e .number ≡ readEnd x .number) × (e .place ≡ readEnd x .place)
   read-by e all (scene.event v z′) is =
@@ -156,7 +149,7 @@ module _ (table s out : List ℕ) (ok : Accepted table ≡ true) (short : length
       let so = last table s out ok short e (all-read (ready table s out ok short e) p (reads table s out ok short e all ∙ is)) in
       (ap (λ (x : Step). x .answer .number) so, ap (λ (x : Step). x .answer .place) so)
 
-  ends-by : (o : Option ℕ) → FirstPast (decode table) s o → 16 * modelCount (decode table) s (beforeBy o) ≤ length out → (runOf table s out .answer .number ≡ endBy o .number) × (runOf table s out .answer .place ≡ endBy o .place) × (runOf table s out .answer .events ≡ beforeBy o)
+  ends-by : (o : Option ℕ) → FirstPast (decode table) s o → 16 * modelCount (decode table) s (beforeBy s o) ≤ length out → (runOf table s out .answer .number ≡ endBy (decode table) s o .number) × (runOf table s out .answer .place ≡ endBy (decode table) s o .place) × (runOf table s out .answer .events ≡ beforeBy s o)
   ends-by none f room =
       let e = run-ended table s out in
       let all : e .events ≡ length (events s) = omega (arith, few table s out ok short e, through table s out ok short e (length (events s)) (omega arith) f room) in
@@ -184,15 +177,15 @@ module _ (table s out : List ℕ) (ok : Accepted table ≡ true) (short : length
   unfolding eventsWithin
   run-full full d = by (firstPast (decode table) s (length (events s)) 0) (first-past (decode table) s) full
     where
-      by : (o : Option ℕ) → FirstPast (decode table) s o → length out < 16 * modelCount (decode table) s (beforeBy o) →
-          (k : ℕ) × (k < beforeBy o) × (16 * modelCount (decode table) s k ≤ length out) × (length out < 16 * modelCount (decode table) s (k + 1))
+      by : (o : Option ℕ) → FirstPast (decode table) s o → length out < 16 * modelCount (decode table) s (beforeBy s o) →
+          (k : ℕ) × (k < beforeBy s o) × (16 * modelCount (decode table) s k ≤ length out) × (length out < 16 * modelCount (decode table) s (k + 1))
           × (runOf table s out ≡ record { answer = answered 25 (eventPlace (getD (events s) k d)) k (modelCount (decode table) s k); output = expected (decode table) s k ++ drop (16 * modelCount (decode table) s k) out })
       by none f full = no-room-first table s out ok short (length (events s)) (omega arith) f full d
       by (some n) f full = no-room-first table s out ok short n (omega (arith, f .0)) (f .2) full d
 
   -- with room for the records of all events
   module _ (room : 16 * modelCount (decode table) s (length (events s)) ≤ length out) where
-    room-for : (o : Option ℕ) → FirstPast (decode table) s o → 16 * modelCount (decode table) s (beforeBy o) ≤ length out
+    room-for : (o : Option ℕ) → FirstPast (decode table) s o → 16 * modelCount (decode table) s (beforeBy s o) ≤ length out
     room-for none f = room
     room-for (some k) f =
         let rise = count-grows (decode table) s (one table ok) k (length (events s) - k) (omega (arith, f .0)) in
@@ -204,7 +197,7 @@ module _ (table s out : List ℕ) (ok : Accepted table ≡ true) (short : length
     unfolding eventsWithin
     room-within = room-for (firstPast (decode table) s (length (events s)) 0) (first-past (decode table) s)
 
-    ends-so : (o : Option ℕ) → FirstPast (decode table) s o → (runOf table s out .answer .number ≡ endBy o .number) × (runOf table s out .answer .place ≡ endBy o .place)
+    ends-so : (o : Option ℕ) → FirstPast (decode table) s o → (runOf table s out .answer .number ≡ endBy (decode table) s o .number) × (runOf table s out .answer .place ≡ endBy (decode table) s o .place)
     ends-so o f = let x = ends-by o f (room-for o f) in (x .0, x .1)
 
     -- 9 exactly where no event passes a limit, of a scene that the reader finishes

@@ -21,7 +21,7 @@ use Rattle.laws.proofs.Holds.{holds-cond}
 use Rattle.table.specs.Table.{Table, decode}
 use Rattle.table.specs.Judge.{judged, Accepted}
 use Rattle.reader.specs.Events as scene
-use Rattle.reader.specs.Events.{ReaderState, freshReader, bindingsOf, next, events}
+use Rattle.reader.specs.Events.{ReaderState, freshReader, bindingsOf, next, events, lastOf}
 use Rattle.reader.specs.Spans.{span}
 use Rattle.reader.specs.declared.Span.{Span}
 use Rattle.reader.specs.Scope.{opensOf}
@@ -40,7 +40,7 @@ use Rattle.dispatcher.specs.Stepping.{eventPlace, Plan, refused, event, startPl
 use Rattle.dispatcher.specs.declared.Session.{Session}
 use Rattle.dispatcher.proofs.SoundCoherent.{sound-coherent}
 use Rattle.demands.specs.Scenes.{readerAfter}
-use Rattle.demands.specs.Limits.{depthAt, boundAt, strandsAt, unitsAt, passed, WithinFirst, firstPast, eventsWithin}
+use Rattle.demands.specs.Limits.{depthAt, boundAt, strandsAt, unitsAt, passed, WithinFirst, firstPast, eventsWithin, End, readEnd}
 use Rattle.demands.proofs.Goes.{goes-on, event-goes}
 use Rattle.demands.specs.Answers as step
 use Rattle.demands.specs.Answers.{Ready}
@@ -243,11 +243,17 @@ module _ (t : Table) (s : List ℕ) where
       by none f = λ i l. f i (omega arith) (omega arith)
       by (some k) f = (omega (arith, f .1), f .2, λ i l. f .3 i (omega arith) l)
 
--- how many events come before it
+-- what it says of the events before it, and of the run's end
+abbrev pub beforeBy : List ℕ → Option ℕ → ℕ
+beforeBy s o = elim o [ none ↦ length (events s) | some k ↦ k ]
+
+abbrev pub endBy : Table → List ℕ → Option ℕ → End
+endBy t s o = elim o [ none ↦ readEnd (lastOf s) | some k ↦ record { number = passed t s k; place = eventPlace (getD (events s) k (scene.text (span 0 0))) } ]
+
 pub within-all : (t : Table) (s : List ℕ) → eventsWithin t s ≤ length (events s)
 unfolding eventsWithin
 within-all t s = by (firstPast t s (length (events s)) 0) (first-past t s)
   where
-    by : (o : Option ℕ) → FirstPast t s o → elim o [ none ↦ length (events s) | some k ↦ k ] ≤ length (events s)
+    by : (o : Option ℕ) → FirstPast t s o → beforeBy s o ≤ length (events s)
     by none f = omega arith
     by (some k) f = omega (arith, f .0)

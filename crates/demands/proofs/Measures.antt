@@ -1,4 +1,5 @@
 -- What the limits 21 to 24 measure, by the reader's and the stream's states; the model's measures are these.
+--     inner-few, inner-strands                the strands of the innermost level
 --     WithinAt, within-more, sound-within     a state within the limits, as every sound session's is; also when more bytes come
 --     depth-is, strands-are, units-are        what the model has of the k-th event
 --     within-passed                           an event between two states within the limits passes none
@@ -54,6 +55,16 @@ abbrev pub innermost : (t : Table) → List (Level (dispatch t)) → ℕ
 innermost t [] = 0
 innermost t (l ∷ ls) = length (l .strands)
 
+pub inner-few : (t : Table) (s : List ℕ) (units : ℕ) (ls : List (Level (dispatch t))) → All (LevelSound t s units) ls → innermost t ls ≤ 16
+inner-few t s units [] a = omega arith
+inner-few t s units (l ∷ ls) a = a .0 .few-strands
+
+-- a text and an end have them
+pub inner-strands : (t : Table) (ls : List (Level (dispatch t))) (u : ℕ) (v : Span)
+    → (length (modesAt (dispatch t) (record { levels = ls; units = u }) (text v)) ≡ innermost t ls) × (length (modesAt (dispatch t) (record { levels = ls; units = u }) (end v)) ≡ innermost t ls)
+inner-strands t [] u v = (refl, refl)
+inner-strands t (l ∷ ls) u v = (length-map (l .strands) (λ (x : HeldStrand ℕ). x .mode), length-map (l .strands) (λ (x : HeldStrand ℕ). x .mode))
+
 pub record WithinAt (t : Table) (s : List ℕ) (k : ℕ) : Type 0 where
   pub levels : length (streamAfter t s k .levels) ≤ 64
   pub bindings : length (bindingsOf (readerAfter k s freshReader .opened)) ≤ 64
@@ -98,13 +109,9 @@ sound-within t s z k h reader state =
     record {
       levels = rw (← state) (omega (arith, levels-length t s z (z .scope .depth), h .fits .shallow));
       bindings = rw (reader-after s (readerOf z) k freshReader reader) (omega (arith, bound-is t s z h, h .fits .few));
-      strands = rw (← state) (few (levelsIn t s z (z .scope .depth)) (h .levels));
+      strands = rw (← state) (inner-few t s (z .units) (levelsIn t s z (z .scope .depth)) (h .levels));
       units = rw (← state) (h .few-units);
     }
-  where
-    few : (ls : List (Level (dispatch t))) → All (LevelSound t s (z .units)) ls → innermost t ls ≤ 16
-    few [] a = omega arith
-    few (l ∷ ls) a = a .0 .few-strands
 
 -- the number of the first of four tests that holds
 abbrev pub numberBy : Bool → Bool → Bool → Bool → ℕ
@@ -156,16 +163,8 @@ module _ (t : Table) (s : List ℕ) where
       unfolding after
       few-strands (scene.start e) on w w′ =
           omega (arith, length-map (entriesAt (dispatch t) (streamAfter t s k .levels) (elementOf t s e)) (λ (x : Entry). x .strand .mode), w′ .strands, ap (λ (y : State (dispatch t)). innermost t (y .levels)) on, new-length t (streamAfter t s k) (elementOf t s e))
-      few-strands (scene.text v) on w w′ = omega (arith, inner-text (streamAfter t s k .levels) (streamAfter t s k .units) v, w .strands)
-        where
-          inner-text : (ls : List (Level (dispatch t))) (u : ℕ) (v : Span) → length (modesAt (dispatch t) (record { levels = ls; units = u }) (text v)) ≡ innermost t ls
-          inner-text [] u v = refl
-          inner-text (l ∷ ls) u v = length-map (l .strands) (λ (x : HeldStrand ℕ). x .mode)
-      few-strands (scene.end part place) on w w′ = omega (arith, inner-end (streamAfter t s k .levels) (streamAfter t s k .units) part, w .strands)
-        where
-          inner-end : (ls : List (Level (dispatch t))) (u : ℕ) (v : Span) → length (modesAt (dispatch t) (record { levels = ls; units = u }) (end v)) ≡ innermost t ls
-          inner-end [] u v = refl
-          inner-end (l ∷ ls) u v = length-map (l .strands) (λ (x : HeldStrand ℕ). x .mode)
+      few-strands (scene.text v) on w w′ = omega (arith, inner-strands t (streamAfter t s k .levels) (streamAfter t s k .units) v .0, w .strands)
+      few-strands (scene.end part place) on w w′ = omega (arith, inner-strands t (streamAfter t s k .levels) (streamAfter t s k .units) part .1, w .strands)
 
       pub within-passed : WithinAt t s k → WithinAt t s (suc k) → passed t s k ≡ 0
       unfolding passed

@@ -224,7 +224,7 @@ too-long-stops table s z out h =
     (holds-cond (λ (r : Step). r .answer .number ≡ 0 → ⊥) (not (eqb (judged table .number) 0)) (λ n. eqb-false (judged table .number) 0 (not-true (eqb (judged table .number) 0) n)) (λ _ e. absurd (omega arith)))
 
 -- arrays of zeros are a fresh session's
-fresh-arrays : sessionAt (headOf freshOf) (replicate 1536 0) (replicate 256 0) ≡ freshOf
+pub fresh-arrays : sessionAt (headOf freshOf) (replicate 1536 0) (replicate 256 0) ≡ freshOf
 fresh-arrays =
     sym
     (parted (headOf freshOf) (replicate 1536 0) (replicate 192 0) (replicate 256 0) (replicate 256 0) (replicate 1024 0)

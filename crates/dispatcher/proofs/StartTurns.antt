@@ -41,7 +41,6 @@ use Rattle.model.specs.Tree.{start}
 use Rattle.model.specs.Stream.{Entry, allot, entriesAt, unitsOf, entered, after}
 use Rattle.model.specs.Elements.{Element, elementOf}
 use Rattle.model.specs.Groups.{groupsOf}
-use Rattle.model.specs.Elements as elements
 use Rattle.model.specs.Dispatch.{dispatch}
 use Rattle.strands.specs.Packed.{strandIn}
 use Rattle.strands.specs.Entries.{entryIn, entriesIn}

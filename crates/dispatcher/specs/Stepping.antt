@@ -1,7 +1,7 @@
 -- 'Calls' and 'From the input', 'From the state': what step, advance and run hand back, for all arguments. Definitions.
 use Prim.Native.Nat.{ℕ, zero, suc, _+_, _*_}
 use mathlib.Core.List.{List, [], _∷_, _++_, map}
-use mathlib.Core.Bool.{Bool, true, false, cond, not}
+use mathlib.Core.Bool.{cond, not}
 use lib.ListN.{length, take, drop}
 use lib.Dec.{leb, ltb, eqb}
 use Rattle.laws.specs.Over.{overwrite}

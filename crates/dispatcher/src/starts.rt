@@ -12,7 +12,6 @@ use attributes::held::space_of;
 use reader::Scope;
 use strands::LEVELS;
 use table::words::header_of;
-ghost use mathlib.Core.Path.{_≡_};
 ghost use Prim.Native.Nat.{_+_, _≤_};
 ghost use lib.ListN.{length};
 ghost use Rattle.table.specs.Table.{decode};

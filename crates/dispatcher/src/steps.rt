@@ -38,7 +38,7 @@ ghost use Rattle.dispatcher.specs.Stepping.{planOf, planned, weighed, ad
 ghost use Rattle.dispatcher.specs.Turns.{LoopReady, Beside, PlannedAs, stopTurn, stepIn, sessionBy, advancedIn};
 
 // A refusal: the session's numbers stay.
-pub fn stop(number: u8, place: usize, head: Head) -> Turn
+pub(crate) fn stop(number: u8, place: usize, head: Head) -> Turn
     ensures { λ r. ⌜ r ≡ stopTurn number place head ⌝ }
 {
     Turn {
@@ -289,7 +289,7 @@ fn judged_steps(
 }
 
 // The same of any session: 20 first.
-pub fn steps_from(
+pub(crate) fn steps_from(
     table: &[u8],
     header: Header,
     scene: &[u8],

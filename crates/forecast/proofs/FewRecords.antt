@@ -1,9 +1,8 @@
 -- An event's records are few: at most 36 for each attribute unit and 34 for each strand of a start, at most 2 for each strand of a text or an end.
 use Prim.Native.Nat.{ℕ, suc, _+_, _*_, _≤_}
-use mathlib.Core.Path.{_≡_, refl, subst}
-use mathlib.Core.List.{List, [], _∷_, _++_, map}
-use mathlib.Core.Bool.{Bool, true, false, not}
-use mathlib.Core.Option.{Option, none, some}
+use mathlib.Core.Path.{_≡_, subst}
+use mathlib.Core.List.{List, [], _∷_}
+use mathlib.Core.Bool.{Bool, not}
 use native.Mathlib.Omega.{arith}
 use lib.ListN.{length, length-append, length-map}
 use Rattle.laws.specs.Lists.{keep}
@@ -19,15 +18,14 @@ use Rattle.reader.specs.declared.Span.{Span}
 use Rattle.reader.specs.Events as reads
 use Rattle.reader.specs.Events.{Start, ReaderState, event, next}
 use Rattle.reader.proofs.FewAttributes.{NextFew, next-few}
-use Rattle.model.specs.Theory.{AttributeUnit, Record, holds}
+use Rattle.model.specs.Theory.{AttributeUnit}
 use Rattle.model.specs.Tree.{start, text, end}
 use Rattle.model.specs.Elements.{Attribute, Element, attributeOf, elementOf, sameSpace, stays}
-use Rattle.model.specs.Records.{Body, OpenElement, attributeBodies, virtualEnd, textBody, endBody}
-use Rattle.model.specs.Groups.{AttributeGroup, grouped, groupsFrom, groupsOf, groupRules, unitBy, attributeUnits, kept, startBodies}
-use Rattle.model.specs.Stream.{Level, State, Entry, entriesAt, unitsOf, entered, startRecords, written, after, HeldStrand, receiver, give, opening, closing, textRecords, endRecords, attributesFrom}
+use Rattle.model.specs.Records.{Body, attributeBodies, virtualEnd}
+use Rattle.model.specs.Groups.{AttributeGroup, grouped, groupsFrom, groupsOf, groupRules, unitBy, attributeUnits}
+use Rattle.model.specs.Stream.{Level, State, Entry, entriesAt, unitsOf, written, after, HeldStrand}
 use Rattle.model.specs.Dispatch.{dispatch}
-use Rattle.model.proofs.Count.{attributeCount, length-give, length-attributes}
-use Rattle.dispatcher.proofs.NewStrands.{new-length}
+use Rattle.model.proofs.Count.{attributeCount}
 use Rattle.demands.proofs.Measures.{innermost}
 use Rattle.forecast.proofs.WrittenFew.{pairs-length, start-few, text-few, end-few}
 

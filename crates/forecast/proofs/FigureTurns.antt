@@ -10,26 +10,18 @@ use Rattle.table.specs.Table.{decode, headerOf}
 use Rattle.table.specs.Index.{indexOf}
 use Rattle.table.specs.Judge.{Accepted}
 use Rattle.reader.proofs.Progress.{leftOf}
-use Rattle.openings.proofs.LevelArrays.{each-zero}
 use Rattle.dispatcher.specs.Sessions.{strandCount, readerOf, freshOf, headOf, sessionAt}
 use Rattle.dispatcher.specs.Stepping.{planOf, Step, weighed}
 use Rattle.dispatcher.specs.Turns.{Beside, LoopReady}
 use Rattle.dispatcher.specs.declared.Session.{Session}
 use Rattle.dispatcher.specs.declared.Head.{Head}
-use Rattle.dispatcher.proofs.RunTurns.{parted}
+use Rattle.dispatcher.proofs.RunTurns.{fresh-arrays}
 use Rattle.dispatcher.proofs.SoundCoherent.{sound-coherent}
 use Rattle.forecast.specs.Forecasts.{greaterOf, figuresOf}
 use Rattle.forecast.proofs.Stops.{Went, turn-stops, turn-goes}
 use Rattle.forecast.proofs.Figured.{Figured, figured-fresh, left-less, shallow-behind, records-fit, opened-figured, stayed-figured, figured-stops}
 
 -- ---- before the first turn
--- arrays of zeros are a fresh session's
-fresh-arrays : sessionAt (headOf freshOf) (replicate 1536 0) (replicate 256 0) ≡ freshOf
-fresh-arrays =
-    sym
-    (parted (headOf freshOf) (replicate 1536 0) (replicate 192 0) (replicate 256 0) (replicate 256 0) (replicate 1024 0)
-    (sym (each-zero 3 0 1536)) (sym (each-zero 4 3 1536)) (sym (each-zero 16 8 1536)))
-
 pub first-figured : (table s : List ℕ) (head : Head) → head ≡ headOf freshOf → Figured table s (sessionAt head (replicate 1536 0) (replicate 256 0)) 0 0 0
 first-figured table s head e =
     subst (λ (z : Session). Figured table s z 0 0 0) (sym (ap (λ (h : Head). sessionAt h (replicate 1536 0) (replicate 256 0)) e ∙ fresh-arrays)) (figured-fresh table s)

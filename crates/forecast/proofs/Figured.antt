@@ -24,7 +24,7 @@ use Rattle.model.specs.Theory.{Record}
 use Rattle.model.specs.Tree.{start, text, end}
 use Rattle.model.specs.Records.{Body}
 use Rattle.model.specs.Elements.{elementOf}
-use Rattle.model.specs.Stream.{Level, State, Entry, entriesAt, written, after, reached, HeldStrand}
+use Rattle.model.specs.Stream.{Level, State, Entry, entriesAt, written, after, reached}
 use Rattle.model.specs.Model.{unitsOpened}
 use Rattle.model.specs.Dispatch.{dispatch, told}
 use Rattle.model.proofs.Assigned.{modesAt}
@@ -33,13 +33,12 @@ use Rattle.strands.specs.Packed.{strandIn}
 use Rattle.dispatcher.specs.Sessions.{strandCount, strandsIn, levelIn, levelsIn, readerOf, stateOf, freshOf}
 use Rattle.dispatcher.specs.Stepping.{event, planOf}
 use Rattle.dispatcher.specs.declared.Session.{Session}
-use Rattle.dispatcher.proofs.Sound.{LevelSound}
 use Rattle.dispatcher.proofs.NewStrands.{new-length}
 use Rattle.dispatcher.proofs.Behind.{StartLimits, OpenLimits, Limits, Behind, behind}
 use Rattle.demands.specs.Scenes.{modelCount}
 use Rattle.demands.specs.Limits.{depthAt, strandsAt, eventsWithin, End, runEnd}
 use Rattle.demands.proofs.Goes.{goes-on, event-goes}
-use Rattle.demands.proofs.Measures.{streamAfter, innermost, levels-length, depth-is, strands-are}
+use Rattle.demands.proofs.Measures.{streamAfter, innermost, levels-length, depth-is, strands-are, inner-few, inner-strands}
 use Rattle.demands.proofs.Reached.{Reached, reached-fresh, reached-step, counted}
 use Rattle.demands.proofs.Limits.{next-event}
 use Rattle.forecast.specs.Forecasts.{greaterOf, greatest, unitCount, figuresOf}
@@ -122,17 +121,13 @@ module _ (table : List ℕ) (ok : Accepted table ≡ true) (s : List ℕ) (short
   shallow-behind = more .sound .fits .shallow
 
   -- ---- its records are few
-  inner-few : (ls : List (Level (dispatch t))) → All (LevelSound t s (z .units)) ls → innermost t ls ≤ 16
-  inner-few [] a = omega arith
-  inner-few (l ∷ ls) a = a .0 .few-strands
-
   written-few : (e : scene.Event) (z′ : ReaderState) → next s (readerOf z) ≡ scene.event e z′ → Limits t s z e z′ → length (written (dispatch t) before (told t s e)) ≤ 2359840
   written-few (scene.start e) z′ q l =
       let o = event-goes s (readerOf z) (scene.start e) z′ q .0 in
       let m : StartLimits t s z e (o .0) = subst (OpenLimits t s z e) (o .1) l in
       start-written t (elementOf t s e) (few-attributes s (readerOf z) t e z′ q) before (m .strands) (m .units)
-  written-few (scene.text v) z′ q l = text-written t before v (inner-few (before .levels) (g .reached .sound .levels))
-  written-few (scene.end v at) z′ q l = end-written t before v (inner-few (before .levels) (g .reached .sound .levels))
+  written-few (scene.text v) z′ q l = text-written t before v (inner-few t s (z .units) (before .levels) (g .reached .sound .levels))
+  written-few (scene.end v at) z′ q l = end-written t before v (inner-few t s (z .units) (before .levels) (g .reached .sound .levels))
 
   records-few : length ps ≤ 2359840
   records-few = rw (b .records) (written-few (b .happened) (b .state) (b .read) (b .limits))
@@ -181,16 +176,12 @@ module _ (table : List ℕ) (ok : Accepted table ≡ true) (s : List ℕ) (short
         levels-new = λ n a h. subst (λ (y : State (dispatch t)). All (FewStrands t n) (y .levels)) (sym q) (omega (arith, new, new-length t before σ), a);
       }
 
-  old-strands : (ls : List (Level (dispatch t))) (u : ℕ) (v : Span) → (length (modesAt (dispatch t) (record { levels = ls; units = u }) (text v)) ≡ innermost t ls) × (length (modesAt (dispatch t) (record { levels = ls; units = u }) (end v)) ≡ innermost t ls)
-  old-strands [] u v = (refl, refl)
-  old-strands (l ∷ ls) u v = (length-map (l .strands) (λ (x : HeldStrand ℕ). x .mode), length-map (l .strands) (λ (x : HeldStrand ℕ). x .mode))
-
   text-stays : (v : Span) → behind′ ≡ after (dispatch t) before (text v) → strandsAt t s k ≡ length (modesAt (dispatch t) before (text v)) → Stays
   unfolding after
   text-stays v q m =
       record {
         not-deeper = omega (arith, lengths, levels-length t s z (z .scope .depth), ap (λ (y : State (dispatch t)). length (y .levels)) q);
-        strands-old = m ∙ old-strands (before .levels) (before .units) v .0;
+        strands-old = m ∙ inner-strands t (before .levels) (before .units) v .0;
         levels-old = λ n a. subst (λ (y : State (dispatch t)). All (FewStrands t n) (y .levels)) (sym q) a;
       }
 
@@ -203,7 +194,7 @@ module _ (table : List ℕ) (ok : Accepted table ≡ true) (s : List ℕ) (short
   end-stays v q m =
       record {
         not-deeper = omega (arith, lengths, levels-length t s z (z .scope .depth), ap (λ (y : State (dispatch t)). length (y .levels)) q, tail-few strands (before .levels) (g .open-strands) .1);
-        strands-old = m ∙ old-strands (before .levels) (before .units) v .1;
+        strands-old = m ∙ inner-strands t (before .levels) (before .units) v .1;
         levels-old = λ n a. subst (λ (y : State (dispatch t)). All (FewStrands t n) (y .levels)) (sym q) (tail-few n (before .levels) a .0);
       }
 

@@ -12,7 +12,7 @@ use mathlib.Core.Logic.{_⊎_, inl, inr, ⊎-elim}
 use mathlib.Core.Option.{Option, none, some}
 use native.Mathlib.Omega.{arith}
 use borrow.Author.Tests.{eqb-true, eqb-false, ltb-false}
-use lib.ListN.{length, getD, replicate, length-replicate}
+use lib.ListN.{length, replicate, length-replicate}
 use lib.Dec.{eqb, ltb}
 use Rattle.laws.specs.Reading.{le-or-lt}
 use Rattle.table.specs.Table.{Table, decode}
@@ -25,17 +25,17 @@ use Rattle.reader.proofs.Held.{held-fresh, numbered}
 use Rattle.reader.proofs.EventsFirst.{stateAfter, state-held, events-end}
 use Rattle.dispatcher.specs.Sessions.{freshOf}
 use Rattle.dispatcher.specs.declared.Session.{Session}
-use Rattle.dispatcher.specs.Stepping.{eventPlace, Step, answered, advanceOf, handed, Run, runOf}
+use Rattle.dispatcher.specs.Stepping.{Step, answered, advanceOf, handed, Run, runOf}
 use Rattle.dispatcher.proofs.RunTurns.{advance-refused, advance-too-long}
 use Rattle.demands.specs.Scenes.{modelCount}
-use Rattle.demands.specs.Limits.{depthAt, boundAt, strandsAt, unitsAt, passed, WithinFirst, firstPast, eventsWithin, End, readEnd, runEnd}
+use Rattle.demands.specs.Limits.{depthAt, boundAt, strandsAt, unitsAt, passed, WithinFirst, firstPast, eventsWithin, readEnd, runEnd}
 use Rattle.demands.specs.Answers as step
 use Rattle.demands.specs.Answers.{Answered}
 use Rattle.demands.proofs.Goes.{goes-on}
 use Rattle.demands.proofs.Refusals.{answered-by}
 use Rattle.demands.proofs.Reached.{reached-fresh}
 use Rattle.demands.proofs.Measures.{numberBy}
-use Rattle.demands.proofs.Limits.{passed-number, FirstPast, first-past}
+use Rattle.demands.proofs.Limits.{passed-number, FirstPast, first-past, endBy}
 use Rattle.demands.proofs.Advances.{advanced}
 use Rattle.demands.proofs.Runs.{scenes}
 use Rattle.demands.proofs.Ends.{run-ends, run-full}
@@ -142,9 +142,6 @@ read-number s = by (lastOf s) (w .2)
         let i = numbered s (w .0) (state-held s (w .0) (length (events s)) freshReader (w .1) (held-fresh s)) n p q in
         (λ e. absurd (omega (arith, i .some)), λ e. absurd (omega (arith, i .few)), λ e. absurd (omega (arith, i .few)))
     by (scene.finished p) q = (λ e. absurd (omega arith), λ e. absurd (omega arith), λ e. absurd (omega arith))
-
-abbrev endBy : Table → List ℕ → Option ℕ → End
-endBy t s o = elim o [ none ↦ readEnd (lastOf s) | some k ↦ record { number = passed t s k; place = eventPlace (getD (events s) k (scene.text (span 0 0))) } ]
 
 end-number : (t : Table) (s : List ℕ) → Ends (runEnd t s .number)
 unfolding runEnd

@@ -23,10 +23,10 @@ use Rattle.model.specs.Records.{Body}
 use Rattle.dispatcher.specs.Sessions.{readerOf}
 use Rattle.dispatcher.specs.Stepping.{eventPlace, Plan, refused, finished, event, planBy, planOf, Step, weighed}
 use Rattle.dispatcher.specs.declared.Session.{Session}
-use Rattle.demands.specs.Limits.{passed, firstPast, eventsWithin, End, readEnd, runEnd}
+use Rattle.demands.specs.Limits.{passed, firstPast, eventsWithin, readEnd, runEnd}
 use Rattle.demands.proofs.Goes.{goes-on}
 use Rattle.demands.proofs.Reached.{Reached}
-use Rattle.demands.proofs.Limits.{next-event, taken-passed, limited-step, FirstPast, first-past}
+use Rattle.demands.proofs.Limits.{next-event, taken-passed, limited-step, FirstPast, first-past, beforeBy, endBy}
 use Rattle.demands.proofs.Runs.{ends-here}
 
 -- k events come before the first limit, and the run ends by this number at this place
@@ -38,14 +38,8 @@ module _ (table : List ℕ) (ok : Accepted table ≡ true) (s : List ℕ) (short
   abbrev t : Table
   t = decode table
 
-  abbrev beforeBy : Option ℕ → ℕ
-  beforeBy o = elim o [ none ↦ length (events s) | some k ↦ k ]
-
-  abbrev endBy : Option ℕ → End
-  endBy o = elim o [ none ↦ readEnd (lastOf s) | some k ↦ record { number = passed t s k; place = eventPlace (getD (events s) k (scene.text (span 0 0))) } ]
-
   -- behind all events no limit was passed
-  all-by : (o : Option ℕ) → FirstPast t s o → k ≡ length (events s) → (k ≡ beforeBy o) × (endBy o ≡ readEnd (lastOf s))
+  all-by : (o : Option ℕ) → FirstPast t s o → k ≡ length (events s) → (k ≡ beforeBy s o) × (endBy t s o ≡ readEnd (lastOf s))
   all-by none f all = (all, refl)
   all-by (some j) f all = absurd (f .1 (taken-passed table ok s z k rs h j (omega (arith, f .0))))
 
@@ -56,7 +50,7 @@ module _ (table : List ℕ) (ok : Accepted table ≡ true) (s : List ℕ) (short
       record { within = b .0; ends = b .1 ∙ ap readEnd (e .1) }
 
   -- the next event is the first to pass one
-  limit-by : (o : Option ℕ) → FirstPast t s o → k < length (events s) → (passed t s k ≡ 0 → ⊥) → (k ≡ beforeBy o) × (endBy o ≡ record { number = passed t s k; place = eventPlace (getD (events s) k (scene.text (span 0 0))) })
+  limit-by : (o : Option ℕ) → FirstPast t s o → k < length (events s) → (passed t s k ≡ 0 → ⊥) → (k ≡ beforeBy s o) × (endBy t s o ≡ record { number = passed t s k; place = eventPlace (getD (events s) k (scene.text (span 0 0))) })
   limit-by none f lt n = absurd (n (f k lt))
   limit-by (some j) f lt n =
       let here : k ≡ j =

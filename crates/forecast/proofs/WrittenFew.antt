@@ -1,55 +1,29 @@
 -- What an event writes, by the stream: at most 34 records for each strand, and its attribute units.
 --     pairs-length, gather-few                       lists
 --     start-few, text-few, end-few, written-few      of an event
-use Prim.Native.Nat.{ℕ, zero, suc, _+_, _*_, _≤_, _<_}
-use mathlib.Core.Path.{_≡_, refl, sym, ap, subst, _∙_}
-use mathlib.Core.List.{List, [], _∷_, _++_, map, map-append, append-nil}
-use mathlib.Core.Bool.{Bool, true, false, cond, not}
+use Prim.Native.Nat.{ℕ, suc, _+_, _*_, _≤_}
+use mathlib.Core.Path.{_≡_, refl, sym, _∙_}
+use mathlib.Core.List.{List, [], _∷_, _++_, map}
+use mathlib.Core.Bool.{Bool, true, false, cond}
 use mathlib.Core.Option.{Option, none, some}
 use native.Mathlib.Omega.{arith}
-use lib.ListN.{length, take, drop, getD, length-append, length-map}
-use lib.Dec.{eqb, ltb}
-use lib.Seq.{split-at, take-suc}
+use lib.ListN.{length, length-append, length-map}
 use Rattle.laws.specs.Lists.{keep}
 use Rattle.laws.specs.Gather.{gather, total}
-use Rattle.laws.specs.Members.{All}
-use Rattle.laws.proofs.Gather.{gather-append, total-append}
-use Rattle.laws.proofs.Holds.{holds-cond}
-use Rattle.table.specs.Table.{Table, decode, rulesOf}
-use Rattle.table.specs.Judge.{judged, Accepted}
+use Rattle.table.specs.Table.{Table}
 use Rattle.reader.specs.Events as scene
-use Rattle.reader.specs.Events.{events}
 use Rattle.reader.specs.declared.Span.{Span}
-use Rattle.reader.specs.Spans.{span}
-use Rattle.reader.proofs.FewAttributes.{EventFew, event-few}
-use Rattle.model.specs.Theory.{Action, Attach, Unwrap, Validate, Rule, AttributeUnit, Piece, holds, Record}
-use Rattle.model.specs.Tree.{TreeEvent, start, text, end, completed, treeOf}
+use Rattle.reader.proofs.FewAttributes.{EventFew}
+use Rattle.model.specs.Theory.{Piece, holds}
+use Rattle.model.specs.Tree.{TreeEvent, start, text, end}
 use Rattle.model.specs.Elements.{Attribute, Element, attributeOf, elementOf}
-use Rattle.model.specs.Records.{Body, attributeBodies, virtualStart, virtualEnd, closeBody}
-use Rattle.model.specs.Groups.{AttributeGroup, groupsOf, groupRules, unitBy, attributeUnits, kept, startBodies}
-use Rattle.model.specs.Stream.{Level, State, Entry, HeldStrand, entriesAt, unitsOf, entered, startRecords, textRecords, endRecords, written, streamOf, receiver, give, attributesFrom, opening, closing}
-use Rattle.model.specs.Model.{Marked, WholeUnit, Assigned, assignedAt, assignedOf, cutModel, OneKeeps}
-use Rattle.model.specs.Dispatch.{dispatch, told, pieceBody}
-use Rattle.model.proofs.Lists.{all-gather, every}
-use Rattle.model.proofs.Events.{unitPieces}
-use Rattle.model.proofs.Attributes.{agree}
-use Rattle.model.proofs.Tables.{one}
-use Rattle.model.proofs.Cut.{IsPrefix}
-use Rattle.model.proofs.Steps.{stream-step}
-use Rattle.model.proofs.Theorems.{stream-of-completed}
-use Rattle.model.proofs.Assigned.{modesAt, attributesAt, assigned-units}
+use Rattle.model.specs.Records.{Body, attributeBodies}
+use Rattle.model.specs.Groups.{kept, startBodies}
+use Rattle.model.specs.Stream.{Level, State, Entry, HeldStrand, entriesAt, unitsOf, entered, startRecords, textRecords, endRecords, written, receiver, give, attributesFrom, opening, closing}
+use Rattle.model.specs.Dispatch.{dispatch, told}
+use Rattle.model.proofs.Assigned.{modesAt, attributesAt}
 use Rattle.model.proofs.Count.{attributeCount, length-give, length-attributes}
-use Rattle.dispatcher.specs.Stepping.{longest}
 use Rattle.dispatcher.proofs.NewStrands.{new-length}
-use Rattle.demands.specs.Scenes.{modelCount}
-use Rattle.demands.specs.Limits.{toldAll, eventsWithin}
-use Rattle.demands.proofs.Prefixes.{toldFirst, told-first-length}
-use Rattle.demands.proofs.Measures.{streamAfter, strands-are, whole-prefix}
-use Rattle.demands.proofs.Expected.{first-prefix}
-use Rattle.demands.proofs.Limits.{within-all}
-use Rattle.forecast.specs.Forecasts.{noFigures, figuresOf, forecastOf}
-use Rattle.forecast.specs.Bounds.{sumOf, attributeUnitsAt, attributesHeld, unitsAttributed, attributesUnited, eventBound, sceneBound}
-use Rattle.forecast.specs.declared.figures.Forecast.{Forecast}
 
 -- an attribute and its value for each
 pub pairs-length : (l : List Attribute) → length (gather attributeBodies l) ≡ 2 * length l

@@ -1,4 +1,4 @@
--- `dispatcher::decisions::joins` meets its contract: the level's class, or its URI.
+-- `openings::entering::joins` meets its contract: the level's class, or its URI.
 use borrow.Author.Needs.{needs}
 use denote.Ref.{now}
 use Rattle.strands.specs.Levels.{levelSpaces}

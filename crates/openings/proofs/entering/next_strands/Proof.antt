@@ -1,4 +1,4 @@
--- `dispatcher::decisions::next_strands` meets its contract: by what the parent's section is.
+-- `openings::entering::next_strands` meets its contract: by what the parent's section is.
 use native.Mathlib.Omega.{arith}
 use borrow.Author.Needs.{needs}
 use denote.Ref.{now}

@@ -1,4 +1,4 @@
--- `dispatcher::decisions::weigh` meets its contract: the sum of what its callees count.
+-- `openings::weighing::weigh` meets its contract: the sum of what its callees count.
 use mathlib.Core.Path.{sym, _∙_}
 use mathlib.Core.Logic.{⊎-elim}
 use Prim.Native.Nat.{_+_}
