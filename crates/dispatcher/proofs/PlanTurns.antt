@@ -1,7 +1,7 @@
 -- One event by what the first half says comes next: written, or counted.
 --     as-planned, begun-planned                what is no start; by how it begins
 --     start-as, text-as, end-as, ..            by what was handed back
---     start-roomy, text-needs, end-needs       what the second half asks
+--     start-roomy, text-needs, class-small      what the second half asks
 --     planned-turn, weighed-turn               the step, and what the loop holds beside the session behind it
 use Prim.Native.Nat.{ℕ, _+_, _*_, _-_, _≤_, _<_}
 use mathlib.Core.Path.{_≡_, sym, ap, subst, _∙_}
@@ -86,8 +86,8 @@ module _ (table index s known : List ℕ) (head : Head) (levels bindings : List 
       let i = innermost table (headerOf table) index s head (levelNames levels) bindings (levelSpaces levels) (levelStrands levels) (h .ready) l in
       (l, i .shallow, i .few-strands)
 
-  pub class-few : getD (levelSpaces levels) (4 * (head .depth - 1)) 0 < 256
-  class-few = innermost table (headerOf table) index s head (levelNames levels) bindings (levelSpaces levels) (levelStrands levels) (h .ready) l .class
+  pub class-small : getD (levelSpaces levels) (4 * (head .depth - 1)) 0 < 256
+  class-small = innermost table (headerOf table) index s head (levelNames levels) bindings (levelSpaces levels) (levelStrands levels) (h .ready) l .class
 
 -- ---- the step
 module _ (table s known : List ℕ) (z : Session) (b : Beside table s known z) where

@@ -2,7 +2,6 @@
 --     innermost, awaited-innermost, decidable, few-bound     of a session that number 20 accepts
 --     deep-plan, bound-plan                                  21 and 22
 --     made-openable                                          what is decided can be written
---     roomy                                                  what 21 and 22 leave
 --     begin-plan, start-begins, end-begins, text-begins      one event, by how it begins
 use Prim.Native.Nat.{ℕ, zero, suc, _+_, _-_, _*_, _%_, _^_, _≤_, _<_}
 use mathlib.Core.Path.{_≡_, refl, sym, ap, ap₂, subst, _∙_}
@@ -27,12 +26,10 @@ use Rattle.table.specs.declared.Action.{Action}
 use Rattle.table.specs.declared.Header.{Header}
 use Rattle.table.proofs.Accepted.{header-in, all-listed}
 use Rattle.lexer.specs.Begins.{beginAt}
-use Rattle.lexer.specs.declared.Tag.{Tag}
 use Rattle.lexer.specs.declared.Begin.{Begin}
 use Rattle.lexer.specs.declared.Begin.the-variants as begin
 use Rattle.misc.proofs.BeginLaws.{BeginInside, begin-inside}
 use Rattle.reader.specs.declared.Binding.{Binding}
-use Rattle.reader.specs.declared.Found.{Found}
 use Rattle.reader.specs.Stored.{narrowed}
 use Rattle.reader.specs.Events.{Start, begun}
 use Rattle.reader.specs.Scope.{opensIn}
@@ -51,7 +48,7 @@ use Rattle.strands.proofs.StartRecords.{tag-units-are}
 use Rattle.dispatcher.specs.Sessions.{classIn, strandCount, levelIn, sessionOf, readerOf, stateOf}
 use Rattle.dispatcher.specs.Stepping.{refused, planBy, planOf, startPlan}
 use Rattle.openings.specs.Openings.{arrayUnits, Openable}
-use Rattle.dispatcher.specs.Turns.{Innermost, TurnReady, Told, Made, Roomy}
+use Rattle.dispatcher.specs.Turns.{Innermost, TurnReady, Made}
 use Rattle.dispatcher.specs.declared.Session.{Session}
 use Rattle.dispatcher.specs.declared.Head.{Head}
 use Rattle.openings.specs.declared.Decided.{Decided}
@@ -200,11 +197,6 @@ module _ (table : List ℕ) (header : Header) (index s : List ℕ) (z : Session)
         schemas-small = m .schemas-small;
         few-units = subst (λ (i : ℕ). z .units + length (arrayUnits index attributes sections words i d) ≤ 65536) (q ∙ sym small) units-fit;
       }
-
--- ---- what a start's parts are told
-module _ (s outer own attrs codes : List ℕ) (at : ℕ) (tag : Tag) (f : Found) (owned : ℕ) (ds : List Binding) (h : Told s outer own attrs codes at tag f owned ds) where
-  pub roomy : (head : Head) → head .depth < 64 → head .bound + owned ≤ 64 → Roomy head owned
-  roomy head l k = record { shallow = l; few-own = omega (arith, h .owned-is, h .few-own); few-bound = k }
 
 -- ---- one event
 module _ (t : Table) (s : List ℕ) (head : Head) (levels bindings spaces strands : List ℕ) (a : head .awaited ≡ false)

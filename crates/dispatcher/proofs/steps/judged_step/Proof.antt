@@ -5,7 +5,7 @@ use lib.ListN.{length}
 use Rattle.table.specs.Table.{decode}
 use Rattle.dispatcher.specs.Sessions.{sessionAt}
 use Rattle.dispatcher.specs.Stepping.{Plan, planOf, planned}
-use Rattle.dispatcher.proofs.PlanTurns.{start-as, text-as, end-as, awaited-as, finished-as, refused-as, start-roomy, text-needs, class-few, planned-turn, stop-planned}
+use Rattle.dispatcher.proofs.PlanTurns.{start-as, text-as, end-as, awaited-as, finished-as, refused-as, start-roomy, text-needs, class-small, planned-turn, stop-planned}
 use borrow.Author.Needs.{needs}
 use Rattle.dispatcher.proofs.steps.judged_step.Statement.{statement}
 use Rattle.dispatcher.proofs.steps.judged_step.Tie as tie
@@ -40,7 +40,7 @@ end-event-requires c κs =
     let a = c .before .before .before .before .before .before .before .before .before .before .before .before .before .before .before .before .before .args in
     let f = end-as (a .table .now) (a .index .now) (a .scene .now) (sessionAt (a .head) (a .levels .now) (a .bindings .now)) _ _ _ _ _ (c .before .before .before .before .before .plan-event .result) (c .before .before .before .before .before .plan-event .ensures .0) _ _ _ (c .before .before .before .part .given .1) in
     let n = text-needs (a .table .now) (a .index .now) (a .scene .now) (a .known .now) (a .head) (a .levels .now) (a .bindings .now) (c .before .before .before .before .before .before .before .before .before .before .before .before .before .before .before .before .before .pre) (f .1) in
-    (n .0, n .1, n .2, class-few (a .table .now) (a .index .now) (a .scene .now) (a .known .now) (a .head) (a .levels .now) (a .bindings .now) (c .before .before .before .before .before .before .before .before .before .before .before .before .before .before .before .before .before .pre) (f .1), f .2, f .3)
+    (n .0, n .1, n .2, class-small (a .table .now) (a .index .now) (a .scene .now) (a .known .now) (a .head) (a .levels .now) (a .bindings .now) (c .before .before .before .before .before .before .before .before .before .before .before .before .before .before .before .before .before .pre) (f .1), f .2, f .3)
 
 enum-known-part-2 : tie.Need-enum-known-part-2
 enum-known-part-2 c = search needs
@@ -50,7 +50,7 @@ end-event-requires-2 c κs =
     let a = c .before .before .before .before .before .before .before .before .before .before .before .before .before .before .before .before .before .args in
     let f = awaited-as (a .table .now) (a .index .now) (a .scene .now) (sessionAt (a .head) (a .levels .now) (a .bindings .now)) _ _ _ _ _ (c .before .before .before .before .before .plan-event .result) (c .before .before .before .before .before .plan-event .ensures .0) _ _ (c .before .before .before .part2 .given .1) in
     let n = text-needs (a .table .now) (a .index .now) (a .scene .now) (a .known .now) (a .head) (a .levels .now) (a .bindings .now) (c .before .before .before .before .before .before .before .before .before .before .before .before .before .before .before .before .before .pre) (f .1) in
-    (n .0, n .1, n .2, class-few (a .table .now) (a .index .now) (a .scene .now) (a .known .now) (a .head) (a .levels .now) (a .bindings .now) (c .before .before .before .before .before .before .before .before .before .before .before .before .before .before .before .before .before .pre) (f .1), f .2, f .3)
+    (n .0, n .1, n .2, class-small (a .table .now) (a .index .now) (a .scene .now) (a .known .now) (a .head) (a .levels .now) (a .bindings .now) (c .before .before .before .before .before .before .before .before .before .before .before .before .before .before .before .before .before .pre) (f .1), f .2, f .3)
 
 enum-told : tie.Need-enum-told
 enum-told c = search needs
