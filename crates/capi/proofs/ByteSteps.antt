@@ -7,6 +7,7 @@ use borrow.Author.Tests.{lt-ltb, le-ltb, eq-eqb, ne-eqb, not-true, not-false}
 use lib.Dec.{eqb, ltb}
 use lib.ListN.{length}
 use Rattle.laws.specs.Over.{overwrite}
+use Rattle.table.specs.Table.{standard}
 use Rattle.table.specs.Judge.{judged}
 use Rattle.table.specs.declared.Answer.{Answer}
 use Rattle.dispatcher.specs.Stepping.{Step, answered, refusedStep, longest, advanceOf, handed}
@@ -53,10 +54,10 @@ module _ (most : ℕ) (table s b out : List ℕ) (held : Bool) (e : held ≡ hol
   unfolding byteAdvance
   none-held r h q = rw (sym e ∙ not-true held h) (refusals (judged table) r (ltb longest (length s)) (sessionIn b) b out q)
 
-  module _ (h : not held ≡ false) (z : Session) (ez : z ≡ sessionIn b) (r : Stepped) (out′ : List ℕ) (q : handed r out′ ≡ advanceOf most table s z out) where
+  module _ (h : not held ≡ false) (z : Session) (ez : z ≡ sessionIn b) (r : Stepped) (out′ : List ℕ) (q : handed r out′ ≡ advanceOf standard most table s z out) where
     advanced : handed r out′ ≡ byteAdvance most table s b out
     unfolding byteAdvance
-    advanced = q ∙ (ap (λ (x : Session). advanceOf most table s x out) ez ∙ rw (sym e ∙ not-false held h))
+    advanced = q ∙ (ap (λ (x : Session). advanceOf standard most table s x out) ez ∙ rw (sym e ∙ not-false held h))
 
     handed-on : (b′ : List ℕ) → b′ ≡ bytesBehind b (handed r out′) → Handed (r .answer) out′ b b′ (byteAdvance most table s b out)
     handed-on b′ p = (ap (λ (w : Step). w .answer) advanced, (ap (λ (w : Step). w .output) advanced, p ∙ ap (bytesBehind b) advanced))

@@ -11,7 +11,7 @@ use Rattle.laws.specs.Members.{All}
 use Rattle.laws.specs.Over.{overwrite}
 use Rattle.laws.proofs.Elementwise.{each-map, each-append}
 use Rattle.laws.proofs.Holds.{holds-cond}
-use Rattle.table.specs.Table.{Table, decode}
+use Rattle.table.specs.Table.{Table, decode, standard}
 use Rattle.table.specs.Judge.{Accepted, judged}
 use Rattle.table.proofs.Accepted.{header-in}
 use Rattle.reader.specs.Events as scene
@@ -103,7 +103,7 @@ planned-pack (finished p) z out h k = h
 planned-pack (event at records next) z out h k = holds-cond (λ (r : Step). AllPack (r .session)) (ltb (length out) (16 * length records)) (λ e. h) (λ e. k)
 
 -- whatever a step's number is
-pub next-held : (table s : List ℕ) (z : Session) (out : List ℕ) → AllPack z → AllPack (stepOf table s z out .session)
+pub next-held : (table s : List ℕ) (z : Session) (out : List ℕ) → AllPack z → AllPack (stepOf standard table s z out .session)
 unfolding stepOf
 next-held table s z out h =
     holds-cond Packs (not (eqb (judged table .number) 0)) (λ e. h) (λ e.

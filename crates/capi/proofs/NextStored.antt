@@ -14,7 +14,7 @@ use Rattle.laws.specs.Members.{All}
 use Rattle.laws.specs.Gather.{gather}
 use Rattle.laws.specs.Over.{overwrite}
 use Rattle.laws.proofs.Holds.{holds-cond}
-use Rattle.table.specs.Table.{Table, decode}
+use Rattle.table.specs.Table.{Table, decode, standard}
 use Rattle.table.specs.Judge.{Accepted, judged}
 use Rattle.reader.specs.declared.Binding.{Binding}
 use Rattle.reader.specs.declared.Scope.{Scope}
@@ -133,7 +133,7 @@ module _ (table : List ℕ) (accepted : Accepted table ≡ true) (s : List ℕ) 
       holds-cond (λ (r : Step). Storable (r .session)) (ltb (length out) (16 * length rs)) (λ e. h)
       (λ e. sound-storable (decode table) s z″ short (sound-step table accepted s z sound short p rs z″ q) k)
 
-pub next-storable : (table s : List ℕ) (z : Session) (out : List ℕ) → Storable z → Storable (stepOf table s z out .session)
+pub next-storable : (table s : List ℕ) (z : Session) (out : List ℕ) → Storable z → Storable (stepOf standard table s z out .session)
 unfolding stepOf
 next-storable table s z out h =
     holds-cond Stores (not (eqb (judged table .number) 0)) (λ e. h) (λ e.
@@ -160,11 +160,11 @@ stored-held b z h k = ap holdsSession (over-first b (sessionBytes z)) ∙ held-b
 
 -- ---- many steps
 -- what each step keeps of a session, so many steps keep
-advance-keeps : (P : Session → Type 0) (table s : List ℕ) → ((z : Session) (out : List ℕ) → P z → P (stepOf table s z out .session)) → (most : ℕ) (z : Session) (out : List ℕ) → P z → P (advanceOf most table s z out .session)
+advance-keeps : (P : Session → Type 0) (table s : List ℕ) → ((z : Session) (out : List ℕ) → P z → P (stepOf standard table s z out .session)) → (most : ℕ) (z : Session) (out : List ℕ) → P z → P (advanceOf standard most table s z out .session)
 unfolding advanceOf
 advance-keeps P table s keeps zero z out h = h
 advance-keeps P table s keeps (suc n) z out h =
-    let r = stepOf table s z out in
+    let r = stepOf standard table s z out in
     holds-cond (λ (w : Step). P (w .session)) (eqb (r .answer .number) 0)
     (λ e. advance-keeps P table s keeps n (r .session) (restOf r) (keeps z out h))
     (λ e. keeps z out h)
@@ -173,7 +173,7 @@ pub advance-held : (most : ℕ) (table s b out : List ℕ) → All (λ (x : ℕ)
 unfolding byteAdvance
 advance-held most table s b out few long e =
     let z = sessionIn b in
-    let r = advanceOf most table s z out in
+    let r = advanceOf standard most table s z out in
     rw e
     (holds-cond (λ (l : List ℕ). holdsSession l ≡ true) (eqb (r .answer .events) 0)
     (λ n. e)

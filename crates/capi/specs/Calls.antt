@@ -5,6 +5,7 @@ use mathlib.Core.Bool.{cond, not}
 use lib.ListN.{length}
 use lib.Dec.{eqb, ltb}
 use Rattle.laws.specs.Over.{overwrite}
+use Rattle.table.specs.Table.{standard}
 use Rattle.table.specs.Judge.{judged}
 use Rattle.table.specs.declared.Answer.{Answer}
 use Rattle.dispatcher.specs.Stepping.{Step, refusedStep, longest, stepOf, advanceOf}
@@ -22,11 +23,11 @@ unheld table s b out =
 
 -- a step from a session in bytes
 unfoldable pub byteStep : List ℕ → List ℕ → List ℕ → List ℕ → Step
-byteStep table s b out = cond (holdsSession b) (stepOf table s (sessionIn b) out) (unheld table s b out)
+byteStep table s b out = cond (holdsSession b) (stepOf standard table s (sessionIn b) out) (unheld table s b out)
 
 -- so many steps from it. Where no step is asked for, bytes that hold no session are answered so too: there is no session whose place could be answered
 unfoldable pub byteAdvance : ℕ → List ℕ → List ℕ → List ℕ → List ℕ → Step
-byteAdvance most table s b out = cond (holdsSession b) (advanceOf most table s (sessionIn b) out) (unheld table s b out)
+byteAdvance most table s b out = cond (holdsSession b) (advanceOf standard most table s (sessionIn b) out) (unheld table s b out)
 
 -- the bytes behind them: those of the session handed back where a step gave 0, whatever number came last; further bytes as they were
 abbrev pub bytesBehind : List ℕ → Step → List ℕ

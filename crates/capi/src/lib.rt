@@ -21,6 +21,7 @@ ghost use Prim.Native.Nat.{_≤_};
 ghost use lib.ListN.{length};
 ghost use lib.Dec.{eqb, ltb};
 ghost use Rattle.laws.specs.Over.{overwrite};
+ghost use Rattle.table.specs.Table.{standard};
 ghost use Rattle.table.specs.Judge.{judged};
 ghost use Rattle.dispatcher.specs.Sessions.{freshOf};
 ghost use Rattle.dispatcher.specs.Stepping.{answered, longest, runOf};
@@ -66,9 +67,9 @@ pub extern "C" fn calcivorne_run(
     out: &mut [u8],
     answer: &mut [u64; 4],
 ) -> u8
-    ensures { λ r. ⌜ r ≡ runOf (now (table .entry)) (now (scene .entry)) (now (out .entry)) .answer .number ⌝ }
-    ensures { λ _. ⌜ now (answer .exit) ≡ answerNumbers (runOf (now (table .entry)) (now (scene .entry)) (now (out .entry)) .answer) ⌝ }
-    ensures { λ _. ⌜ now (out .exit) ≡ runOf (now (table .entry)) (now (scene .entry)) (now (out .entry)) .output ⌝ }
+    ensures { λ r. ⌜ r ≡ runOf standard (now (table .entry)) (now (scene .entry)) (now (out .entry)) .answer .number ⌝ }
+    ensures { λ _. ⌜ now (answer .exit) ≡ answerNumbers (runOf standard (now (table .entry)) (now (scene .entry)) (now (out .entry)) .answer) ⌝ }
+    ensures { λ _. ⌜ now (out .exit) ≡ runOf standard (now (table .entry)) (now (scene .entry)) (now (out .entry)) .output ⌝ }
 {
     let a = dispatcher::run(table, scene, out);
     tell(a, answer);

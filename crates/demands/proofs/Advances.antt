@@ -11,7 +11,7 @@ use borrow.Author.Tests.{ne-eqb}
 use lib.ListN.{length, drop, length-append, length-drop}
 use lib.Seq.{drop-drop}
 use lib.Dec.{eqb}
-use Rattle.table.specs.Table.{decode}
+use Rattle.table.specs.Table.{decode, standard}
 use Rattle.reader.specs.Events.{ReaderState}
 use Rattle.reader.proofs.Progress.{leftOf, less, onward}
 use Rattle.model.specs.Theory.{Record}
@@ -31,7 +31,7 @@ standing number place events rs z out = record { answer = answered number place 
 -- the next step, lent what is left of the output, is refused
 pub record Refused (table s : List ℕ) (z : Session) (rest : List ℕ) (number place : ℕ) : Type 0 where
   pub said : Said s (readerOf z) number place
-  pub step : stepOf table s z rest ≡ refusedStep number place z rest
+  pub step : stepOf standard table s z rest ≡ refusedStep number place z rest
 
 -- from z, behind k events with the records before them
 pub record Advanced (table s : List ℕ) (z : Session) (k : ℕ) (before : List (Record Body ℕ)) (most : ℕ) (out : List ℕ) (r : Step) : Type 0 where
@@ -64,14 +64,14 @@ module _ (table s : List ℕ) where
         stop = stop;
       }
 
-  pub advanced : (most : ℕ) (z : Session) (k : ℕ) (before : List (Record Body ℕ)) → Reached (decode table) s z k before → (out : List ℕ) → Advanced table s z k before most out (advanceOf most table s z out)
+  pub advanced : (most : ℕ) (z : Session) (k : ℕ) (before : List (Record Body ℕ)) → Reached (decode table) s z k before → (out : List ℕ) → Advanced table s z k before most out (advanceOf standard most table s z out)
   unfolding advanceOf
   advanced zero z k before h out = none z k before h 0 out 0 (z .place) (inl (refl, refl))
-  advanced (suc n) z k before h out = by (stepOf table s z out) refl (outcome table s z out (h .sound)) (λ w j more g o. advanced n w j more g o)
+  advanced (suc n) z k before h out = by (stepOf standard table s z out) refl (outcome table s z out (h .sound)) (λ w j more g o. advanced n w j more g o)
     where
-      by : (r : Step) → stepOf table s z out ≡ r → Outcome table s z out r
-          → ((w : Session) (j : ℕ) (more : List (Record Body ℕ)) → Reached (decode table) s w j more → (o : List ℕ) → Advanced table s w j more n o (advanceOf n table s w o))
-          → Advanced table s z k before (suc n) out (cond (eqb (r .answer .number) 0) (joined r (advanceOf n table s (r .session) (restOf r))) r)
+      by : (r : Step) → stepOf standard table s z out ≡ r → Outcome table s z out r
+          → ((w : Session) (j : ℕ) (more : List (Record Body ℕ)) → Reached (decode table) s w j more → (o : List ℕ) → Advanced table s w j more n o (advanceOf standard n table s w o))
+          → Advanced table s z k before (suc n) out (cond (eqb (r .answer .number) 0) (joined r (advanceOf standard n table s (r .session) (restOf r))) r)
       by r q (refuses number place said) ih =
           rw (ne-eqb number 0 (said .not-event)) (none z k before h (suc n) out number place (inr (record { said = said; step = q })))
       by r q (accepts ok short p ps w plan fits) ih =

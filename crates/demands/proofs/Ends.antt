@@ -15,7 +15,7 @@ use native.Mathlib.Omega.{arith}
 use borrow.Author.Tests.{eq-eqb}
 use lib.ListN.{length, drop, getD, List·getD-eq-default}
 use Rattle.laws.specs.Reading.{le-or-lt}
-use Rattle.table.specs.Table.{Table, decode}
+use Rattle.table.specs.Table.{Table, decode, standard}
 use Rattle.table.specs.Judge.{judged, Accepted}
 use Rattle.reader.specs.Events as scene
 use Rattle.reader.specs.Events.{freshReader, events, lastOf}
@@ -40,20 +40,20 @@ use Rattle.demands.proofs.Accepted.{few, ready, last, limited, stopped,
 
 -- ---- every run
 -- what the run answers is what its last step answers
-module _ (table s out : List ℕ) (e : Ended table s out (runOf table s out)) where
-  number-is : runOf table s out .answer .number ≡ e .number
+module _ (table s out : List ℕ) (e : Ended table s out (runOf standard table s out)) where
+  number-is : runOf standard table s out .answer .number ≡ e .number
   number-is = ap (λ (r : Run). r .answer .number) (e .is)
 
-  place-is : runOf table s out .answer .place ≡ e .place
+  place-is : runOf standard table s out .answer .place ≡ e .place
   place-is = ap (λ (r : Run). r .answer .place) (e .is)
 
-  events-are : runOf table s out .answer .events ≡ e .events
+  events-are : runOf standard table s out .answer .events ≡ e .events
   events-are = ap (λ (r : Run). r .answer .events) (e .is)
 
   past : Accepted table ≡ true → WithinFirst (decode table) s (e .events)
   past ok = taken-passed table ok s (e .session) (e .events) (e .records) (e .reached)
 
-pub taken-within : (table s out : List ℕ) → Accepted table ≡ true → WithinFirst (decode table) s (runOf table s out .answer .events)
+pub taken-within : (table s out : List ℕ) → Accepted table ≡ true → WithinFirst (decode table) s (runOf standard table s out .answer .events)
 taken-within table s out ok =
     let e = run-ended table s out in
     subst (WithinFirst (decode table) s) (sym (events-are table s out e)) (past table s out e ok)
@@ -62,7 +62,7 @@ accepted-by : (table s : List ℕ) (z : Session) → Ready table s z → Accepte
 accepted-by table s z r = eq-eqb (judged table .number) 0 (r .accepted)
 
 -- a run that gives 9 passes no limit
-pub whole-within : (table s out : List ℕ) → runOf table s out .answer .number ≡ 9 → Within (decode table) s
+pub whole-within : (table s out : List ℕ) → runOf standard table s out .answer .number ≡ 9 → Within (decode table) s
 whole-within table s out nine =
     let e = run-ended table s out in
     let said : e .number ≡ 9 = sym (number-is table s out e) ∙ nine in
@@ -89,7 +89,7 @@ at-start (wrote r p rs z″ q l) lo hi = absurd (omega arith)
 
 -- "(< of the tag)"
 pub limited-run : (table s out : List ℕ) →
-    let a = runOf table s out .answer in
+    let a = runOf standard table s out .answer in
     21 ≤ a .number → a .number ≤ 24 → FirstLimit (decode table) s (a .number) (a .place)
 limited-run table s out lo hi = by (run-ended table s out)
   where
@@ -99,10 +99,10 @@ limited-run table s out lo hi = by (run-ended table s out)
     d : scene.Event
     d = scene.text (span 0 0)
 
-    by : (e : Ended table s out (runOf table s out)) → FirstLimit t s (runOf table s out .answer .number) (runOf table s out .answer .place)
+    by : (e : Ended table s out (runOf standard table s out)) → FirstLimit t s (runOf standard table s out .answer .number) (runOf standard table s out .answer .place)
     by e =
         let rest = drop (16 * length (e .records)) out in
-        let number : runOf table s out .answer .number ≡ e .number = number-is table s out e in
+        let number : runOf standard table s out .answer .number ≡ e .number = number-is table s out e in
         let answer : Answered table s (e .session) rest (refusedStep (e .number) (e .place) (e .session) rest) = subst (Answered table s (e .session) rest) (e .last) (answered-by table s (e .session) rest) in
         let a = at-start answer (omega arith) (omega arith) in
         let ok = accepted-by table s (e .session) (a .ready) in
@@ -136,7 +136,7 @@ limit-past t s n p f w = omega (arith, f .number-is, f .lowest, w (f .before) in
 -- ---- where the output has room
 module _ (table s out : List ℕ) (ok : Accepted table ≡ true) (short : length s ≤ 16777215) where
   -- behind all events, as reading ends
-  read-by : (e : Ended table s out (runOf table s out)) → e .events ≡ length (events s) → (x : scene.Next) → lastOf s ≡ x → (e .number ≡ readEnd x .number) × (e .place ≡ readEnd x .place)
+  read-by : (e : Ended table s out (runOf standard table s out)) → e .events ≡ length (events s) → (x : scene.Next) → lastOf s ≡ x → (e .number ≡ readEnd x .number) × (e .place ≡ readEnd x .place)
   read-by e all (scene.event v z′) is =
       let q : scene.next s (readerOf (e .session)) ≡ scene.event v z′ = reads table s out ok short e all ∙ is in
       absurd (omega (arith, goes-on s (e .events) (readerOf (e .session)) v z′ (e .reached .reader) q .inside))
@@ -149,7 +149,7 @@ module _ (table s out : List ℕ) (ok : Accepted table ≡ true) (short : length
       let so = last table s out ok short e (all-read (ready table s out ok short e) p (reads table s out ok short e all ∙ is)) in
       (ap (λ (x : Step). x .answer .number) so, ap (λ (x : Step). x .answer .place) so)
 
-  ends-by : (o : Option ℕ) → FirstPast (decode table) s o → 16 * modelCount (decode table) s (beforeBy s o) ≤ length out → (runOf table s out .answer .number ≡ endBy (decode table) s o .number) × (runOf table s out .answer .place ≡ endBy (decode table) s o .place) × (runOf table s out .answer .events ≡ beforeBy s o)
+  ends-by : (o : Option ℕ) → FirstPast (decode table) s o → 16 * modelCount (decode table) s (beforeBy s o) ≤ length out → (runOf standard table s out .answer .number ≡ endBy (decode table) s o .number) × (runOf standard table s out .answer .place ≡ endBy (decode table) s o .place) × (runOf standard table s out .answer .events ≡ beforeBy s o)
   ends-by none f room =
       let e = run-ended table s out in
       let all : e .events ≡ length (events s) = omega (arith, few table s out ok short e, through table s out ok short e (length (events s)) (omega arith) f room) in
@@ -166,20 +166,20 @@ module _ (table s out : List ℕ) (ok : Accepted table ≡ true) (short : length
       )
 
   -- with room for the records of the events before the first limit: number, place and events
-  pub run-ends : 16 * modelCount (decode table) s (eventsWithin (decode table) s) ≤ length out → (runOf table s out .answer .number ≡ runEnd (decode table) s .number) × (runOf table s out .answer .place ≡ runEnd (decode table) s .place) × (runOf table s out .answer .events ≡ eventsWithin (decode table) s)
+  pub run-ends : 16 * modelCount (decode table) s (eventsWithin (decode table) s) ≤ length out → (runOf standard table s out .answer .number ≡ runEnd (decode table) s .number) × (runOf standard table s out .answer .place ≡ runEnd (decode table) s .place) × (runOf standard table s out .answer .events ≡ eventsWithin (decode table) s)
   unfolding runEnd eventsWithin
   run-ends room = ends-by (firstPast (decode table) s (length (events s)) 0) (first-past (decode table) s) room
 
   -- without: 25 at the first event whose records do not fit
   pub run-full : length out < 16 * modelCount (decode table) s (eventsWithin (decode table) s) → (d : scene.Event) →
       (k : ℕ) × (k < eventsWithin (decode table) s) × (16 * modelCount (decode table) s k ≤ length out) × (length out < 16 * modelCount (decode table) s (k + 1))
-      × (runOf table s out ≡ record { answer = answered 25 (eventPlace (getD (events s) k d)) k (modelCount (decode table) s k); output = expected (decode table) s k ++ drop (16 * modelCount (decode table) s k) out })
+      × (runOf standard table s out ≡ record { answer = answered 25 (eventPlace (getD (events s) k d)) k (modelCount (decode table) s k); output = expected (decode table) s k ++ drop (16 * modelCount (decode table) s k) out })
   unfolding eventsWithin
   run-full full d = by (firstPast (decode table) s (length (events s)) 0) (first-past (decode table) s) full
     where
       by : (o : Option ℕ) → FirstPast (decode table) s o → length out < 16 * modelCount (decode table) s (beforeBy s o) →
           (k : ℕ) × (k < beforeBy s o) × (16 * modelCount (decode table) s k ≤ length out) × (length out < 16 * modelCount (decode table) s (k + 1))
-          × (runOf table s out ≡ record { answer = answered 25 (eventPlace (getD (events s) k d)) k (modelCount (decode table) s k); output = expected (decode table) s k ++ drop (16 * modelCount (decode table) s k) out })
+          × (runOf standard table s out ≡ record { answer = answered 25 (eventPlace (getD (events s) k d)) k (modelCount (decode table) s k); output = expected (decode table) s k ++ drop (16 * modelCount (decode table) s k) out })
       by none f full = no-room-first table s out ok short (length (events s)) (omega arith) f full d
       by (some n) f full = no-room-first table s out ok short n (omega (arith, f .0)) (f .2) full d
 
@@ -197,21 +197,21 @@ module _ (table s out : List ℕ) (ok : Accepted table ≡ true) (short : length
     unfolding eventsWithin
     room-within = room-for (firstPast (decode table) s (length (events s)) 0) (first-past (decode table) s)
 
-    ends-so : (o : Option ℕ) → FirstPast (decode table) s o → (runOf table s out .answer .number ≡ endBy (decode table) s o .number) × (runOf table s out .answer .place ≡ endBy (decode table) s o .place)
+    ends-so : (o : Option ℕ) → FirstPast (decode table) s o → (runOf standard table s out .answer .number ≡ endBy (decode table) s o .number) × (runOf standard table s out .answer .place ≡ endBy (decode table) s o .place)
     ends-so o f = let x = ends-by o f (room-for o f) in (x .0, x .1)
 
     -- 9 exactly where no event passes a limit, of a scene that the reader finishes
-    pub finished-exactly : lastOf s ≡ scene.finished (length s) → (Within (decode table) s → runOf table s out .answer .number ≡ 9) × (runOf table s out .answer .number ≡ 9 → Within (decode table) s)
+    pub finished-exactly : lastOf s ≡ scene.finished (length s) → (Within (decode table) s → runOf standard table s out .answer .number ≡ 9) × (runOf standard table s out .answer .number ≡ 9 → Within (decode table) s)
     finished-exactly fin = (λ w. ends-so none w .0 ∙ ap (λ (x : scene.Next). readEnd x .number) fin, whole-within table s out)
 
     -- 21 to 24 exactly where some event passes a limit; then at the first start that does
-    pub limited-exactly : ((Within (decode table) s → ⊥) → FirstLimit (decode table) s (runOf table s out .answer .number) (runOf table s out .answer .place)) × (21 ≤ runOf table s out .answer .number → runOf table s out .answer .number ≤ 24 → Within (decode table) s → ⊥)
+    pub limited-exactly : ((Within (decode table) s → ⊥) → FirstLimit (decode table) s (runOf standard table s out .answer .number) (runOf standard table s out .answer .place)) × (21 ≤ runOf standard table s out .answer .number → runOf standard table s out .answer .number ≤ 24 → Within (decode table) s → ⊥)
     limited-exactly = (
       λ n. by n (firstPast (decode table) s (length (events s)) 0) (first-past (decode table) s),
-      λ lo hi. limit-past (decode table) s (runOf table s out .answer .number) (runOf table s out .answer .place) (limited-run table s out lo hi),
+      λ lo hi. limit-past (decode table) s (runOf standard table s out .answer .number) (runOf standard table s out .answer .place) (limited-run table s out lo hi),
     )
       where
-        by : (Within (decode table) s → ⊥) → (o : Option ℕ) → FirstPast (decode table) s o → FirstLimit (decode table) s (runOf table s out .answer .number) (runOf table s out .answer .place)
+        by : (Within (decode table) s → ⊥) → (o : Option ℕ) → FirstPast (decode table) s o → FirstLimit (decode table) s (runOf standard table s out .answer .number) (runOf standard table s out .answer .place)
         by n none f = absurd (n f)
         by n (some k) f =
             let i = passed-number (decode table) s k (f .1) in
@@ -219,7 +219,7 @@ module _ (table s out : List ℕ) (ok : Accepted table ≡ true) (short : length
             limited-run table s out (omega (arith, i .0)) (omega (arith, i .1))
 
     -- the reader's number and place exactly where no event passes a limit, of a scene that it refuses
-    pub refused-exactly : (n p : ℕ) → lastOf s ≡ scene.refusal n p → (Within (decode table) s → (runOf table s out .answer .number ≡ n) × (runOf table s out .answer .place ≡ p)) × (runOf table s out .answer .number ≡ n → Within (decode table) s)
+    pub refused-exactly : (n p : ℕ) → lastOf s ≡ scene.refusal n p → (Within (decode table) s → (runOf standard table s out .answer .number ≡ n) × (runOf standard table s out .answer .place ≡ p)) × (runOf standard table s out .answer .number ≡ n → Within (decode table) s)
     refused-exactly n p is =
         let w = events-end s in
         let i = numbered s (w .0) (state-held s (w .0) (length (events s)) freshReader (w .1) (held-fresh s)) n p (w .2 ∙ is) in (

@@ -18,7 +18,7 @@ use lib.ListN.{length, getD, length-map, length-append}
 use lib.Dec.{leb, ltb, eqb, leb·suc-suc}
 use Rattle.laws.specs.Reading.{le-or-lt}
 use Rattle.laws.proofs.Holds.{holds-cond}
-use Rattle.table.specs.Table.{Table, decode}
+use Rattle.table.specs.Table.{Table, decode, standard}
 use Rattle.table.specs.Judge.{judged, Accepted}
 use Rattle.reader.specs.Events as scene
 use Rattle.reader.specs.Events.{ReaderState, freshReader, bindingsOf, next, events, lastOf}
@@ -171,8 +171,8 @@ module _ (table : List ℕ) (ok : Accepted table ≡ true) (s : List ℕ) (short
   reached-ready = record { accepted = eqb-true (judged table .number) 0 ok; short = short; fits = sound-coherent t s z (h .sound) }
 
   pub limited-answer : k < length (events s) → (d : scene.Event) (out : List ℕ) →
-      ((passed t s k ≡ 0 → ⊥) → stepOf table s z out ≡ refusedStep (passed t s k) (eventPlace (getD (events s) k d)) z out)
-      × (passed t s k ≡ 0 → (stepOf table s z out .answer .number ≡ 0) ⊎ (stepOf table s z out .answer .number ≡ 25))
+      ((passed t s k ≡ 0 → ⊥) → stepOf standard table s z out ≡ refusedStep (passed t s k) (eventPlace (getD (events s) k d)) z out)
+      × (passed t s k ≡ 0 → (stepOf standard table s z out .answer .number ≡ 0) ⊎ (stepOf standard table s z out .answer .number ≡ 25))
   limited-answer lt d out =
       let x = event-next t s z k rs h lt d in
       let l = limited-step (getD (events s) k d) (x .0) (x .1) in (

@@ -17,7 +17,7 @@ use Rattle.laws.specs.Gather.{gather}
 use Rattle.laws.specs.Members.{All}
 use Rattle.laws.specs.Reading.{le-or-lt}
 use Rattle.laws.proofs.Lists.{length-tabulate}
-use Rattle.table.specs.Table.{Table, rulesOf}
+use Rattle.table.specs.Table.{Table}
 use Rattle.reader.specs.Events as scene
 use Rattle.reader.specs.Events.{ReaderState, freshReader, bindingsOf, next, events}
 use Rattle.reader.specs.Spans.{span}
@@ -149,7 +149,7 @@ module _ (t : Table) (s : List ℕ) where
         ∙ ap (λ (i : ℕ). length (getD (assignedOf (dispatch t) (treeOf (dispatch t) (completed (dispatch t) (first ++ (e ∷ rest))))) i (assignedAt 0 [] []) .strands)) (sym (told-first-length t s k (omega arith)))
         ∙ assigned-count (dispatch t) first rest e (subst (IsPrefix (dispatch t)) split whole-prefix) (assignedAt 0 [] [])
 
-    module _ (one : (m : ℕ) (e : Element) → OneKeeps (rulesOf t m 0 (e .space .class))) where
+    module _ (one : (m : ℕ) (e : Element) → OneKeeps (t .elementRules m (e .space .class))) where
       pub units-are : unitsAt t s k ≡ streamAfter t s (suc k) .units
       units-are =
           let first = toldFirst t s (suc k) in

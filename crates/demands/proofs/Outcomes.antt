@@ -9,7 +9,7 @@ use lib.ListN.{length}
 use Rattle.laws.specs.Over.{overwrite}
 use Rattle.laws.specs.Gather.{gather}
 use Rattle.laws.proofs.Flags.{differ}
-use Rattle.table.specs.Table.{decode}
+use Rattle.table.specs.Table.{decode, standard}
 use Rattle.table.specs.Judge.{judged, Accepted}
 use Rattle.reader.specs.Events as scene
 use Rattle.model.specs.Theory.{Record}
@@ -35,7 +35,7 @@ pub data Outcome (table s : List ℕ) (z : Session) (out : List ℕ) : Step → 
   accepts : Accepted table ≡ true → length s ≤ 16777215 → (p : ℕ) (rs : List (Record Body ℕ)) (z″ : Session) → planOf (decode table) s z ≡ event p rs z″ → 16 * length rs ≤ length out
       → Outcome table s z out (record { answer = answered 0 (z″ .place) 1 (length rs); session = z″; output = overwrite out 0 (gather recordBytesOf rs) })
 
-pub outcome : (table s : List ℕ) (z : Session) (out : List ℕ) → Sound (decode table) s z → Outcome table s z out (stepOf table s z out)
+pub outcome : (table s : List ℕ) (z : Session) (out : List ℕ) → Sound (decode table) s z → Outcome table s z out (stepOf standard table s z out)
 outcome table s z out h = by (answered-by table s z out)
   where
     -- a number that is not the reader's

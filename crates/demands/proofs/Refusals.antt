@@ -16,7 +16,7 @@ use Rattle.laws.specs.Over.{overwrite}
 use Rattle.laws.specs.Gather.{gather}
 use Rattle.laws.proofs.Holds.{holds-cond}
 use Rattle.laws.proofs.Over.{drop-over, length-over}
-use Rattle.table.specs.Table.{decode, headerOf, wordsOf, urisOf}
+use Rattle.table.specs.Table.{decode, headerOf, wordsOf, urisOf, standard}
 use Rattle.table.specs.Judge.{judged, said, headerFits, lengthFits, wordFits, isEmpty, rulesClash, urisClash}
 use Rattle.table.specs.declared.Answer.{Answer}
 use Rattle.reader.specs.Events as scene
@@ -103,7 +103,7 @@ module _ (table s : List ℕ) (z : Session) (out : List ℕ) where
             let rest : readerOf z .opened ≡ os = cc in
             by-start e o (z′ .place) (record { behind = z′; told = q; opens = n ∙ ap (λ (l : List scene.Open). o ∷ l) (sym rest) }) k
 
-  pub answered-by : Answered table s z out (stepOf table s z out)
+  pub answered-by : Answered table s z out (stepOf standard table s z out)
   unfolding stepOf planOf
   answered-by =
       holds-cond (Answered table s z out) (not (eqb (judged table .number) 0))
@@ -119,7 +119,7 @@ module _ (table s : List ℕ) (z : Session) (out : List ℕ) where
       (λ c. by-next (record { accepted = a; short = few; fits = not-false (coherent (decode table) s z) c }) (scene.next s (readerOf z)) refl refl)))
 
   -- ---- and a stage has one answer
-  pub step-planned : Ready table s z → stepOf table s z out ≡ planned (planOf (decode table) s z) z out
+  pub step-planned : Ready table s z → stepOf standard table s z out ≡ planned (planOf (decode table) s z) z out
   unfolding stepOf
   step-planned r = rw (eq-eqb (judged table .number) 0 (r .accepted), le-ltb longest (length s) (r .short), r .fits)
 
@@ -139,7 +139,7 @@ module _ (table s : List ℕ) (z : Session) (out : List ℕ) where
   starts-plan : (e : scene.Start) (o : scene.Open) (q : Starts s z e o) → planOf (decode table) s z ≡ startPlan (decode table) s z e (o .declarations) (q .behind .place)
   starts-plan e o q = plan-next (scene.event (scene.start e) (q .behind)) (q .told) ∙ ap (λ (os : List scene.Open). startPlan (decode table) s z e (ownDeclarations os) (q .behind .place)) (q .opens)
 
-  pub answered-so : {r : Step} → Answered table s z out r → stepOf table s z out ≡ r
+  pub answered-so : {r : Step} → Answered table s z out r → stepOf standard table s z out ≡ r
   unfolding stepOf
   answered-so (bad-table lo hi) = rw (ne-eqb (judged table .number) 0 (λ e. omega arith))
   answered-so (long-scene a l) = rw (eq-eqb (judged table .number) 0 a, lt-ltb longest (length s) l)
@@ -194,10 +194,10 @@ module _ (table s : List ℕ) (z : Session) (out : List ℕ) where
         },
       )
 
-  pub refused-keeps : (stepOf table s z out .answer .number ≡ 0 → ⊥) → Unchanged z out (stepOf table s z out)
+  pub refused-keeps : (stepOf standard table s z out .answer .number ≡ 0 → ⊥) → Unchanged z out (stepOf standard table s z out)
   refused-keeps = keeps (answered-by table s z out)
 
-  pub accepted-writes : stepOf table s z out .answer .number ≡ 0 → Ready table s z × Changed (decode table) s z out (stepOf table s z out)
+  pub accepted-writes : stepOf standard table s z out .answer .number ≡ 0 → Ready table s z × Changed (decode table) s z out (stepOf standard table s z out)
   accepted-writes = writes (answered-by table s z out)
 
 -- ---- when a number is given
@@ -290,7 +290,7 @@ module _ (table s : List ℕ) (z : Session) (out : List ℕ) where
 
   -- 21 to 24: the reader reads the start e, which opens o
   module _ (r : Ready table s z) (e : scene.Start) (o : scene.Open) (q : Starts s z e o) where
-    limit-only : (n : ℕ) → 21 ≤ n → n ≤ 24 → stepOf table s z out .answer .number ≡ n → Limit (decode table) s z e o n
+    limit-only : (n : ℕ) → 21 ≤ n → n ≤ 24 → stepOf standard table s z out .answer .number ≡ n → Limit (decode table) s z e o n
     limit-only n lo hi = by (answered-by table s z out)
       where
         by : {r : Step} → Answered table s z out r → r .answer .number ≡ n → Limit (decode table) s z e o n
@@ -309,7 +309,7 @@ module _ (table s : List ℕ) (z : Session) (out : List ℕ) where
         by (no-room r p rs z″ x l) k = absurd (omega arith)
         by (wrote r p rs z″ x l) k = absurd (omega arith)
 
-    limit-when : (n : ℕ) → 21 ≤ n → n ≤ 24 → Limit (decode table) s z e o n → stepOf table s z out ≡ refusedStep n (e .at) z out
+    limit-when : (n : ℕ) → 21 ≤ n → n ≤ 24 → Limit (decode table) s z e o n → stepOf standard table s z out ≡ refusedStep n (e .at) z out
     limit-when n lo hi l = answered-so table s z out (limited r e o q n l lo hi)
 
     pub exactly-21 : Exactly table s z out 21 (e .at) (Deep (decode table) s z e o)
@@ -349,8 +349,8 @@ module _ (table s : List ℕ) (z : Session) (out : List ℕ) where
         by (inr (inr (inr (k, c)))) = c
 
   -- 21 to 24 at no other event
-  pub limit-starts : stepOf table s z out .answer .number < 25 → 20 < stepOf table s z out .answer .number
-      → Ready table s z × ((e : scene.Start) × (o : scene.Open) × Starts s z e o × (stepOf table s z out .answer .place ≡ e .at))
+  pub limit-starts : stepOf standard table s z out .answer .number < 25 → 20 < stepOf standard table s z out .answer .number
+      → Ready table s z × ((e : scene.Start) × (o : scene.Open) × Starts s z e o × (stepOf standard table s z out .answer .place ≡ e .at))
   limit-starts = by (answered-by table s z out)
     where
       by : {r : Step} → Answered table s z out r → r .answer .number < 25 → 20 < r .answer .number → Ready table s z × ((e : scene.Start) × (o : scene.Open) × Starts s z e o × (r .answer .place ≡ e .at))
@@ -364,12 +364,12 @@ module _ (table s : List ℕ) (z : Session) (out : List ℕ) where
       by (wrote r p rs z″ q l) hi lo = absurd (omega arith)
 
   -- 9 and 1 at the scene's end alone, 9 behind the root alone
-  pub finished-there : stepOf table s z out .answer .number ≡ 9 → (stepOf table s z out .answer .place ≡ length s) × (z .closed ≡ true)
+  pub finished-there : stepOf standard table s z out .answer .number ≡ 9 → (stepOf standard table s z out .answer .place ≡ length s) × (z .closed ≡ true)
   finished-there n =
       let c = exactly-9 .only n in
       subst (NextHeld s (readerOf z)) (c .1) (next-held s (readerOf z) (coherent-held (decode table) s z (c .0 .fits)))
 
-  pub cut-there : stepOf table s z out .answer .number ≡ 1 → stepOf table s z out .answer .place ≡ length s
+  pub cut-there : stepOf standard table s z out .answer .number ≡ 1 → stepOf standard table s z out .answer .place ≡ length s
   cut-there n =
       let c = exactly-read 1 (omega arith) (omega arith) .only n in
-      cut-at s (readerOf z) (coherent-held (decode table) s z (c .0 .fits)) (stepOf table s z out .answer .place) (c .1)
+      cut-at s (readerOf z) (coherent-held (decode table) s z (c .0 .fits)) (stepOf standard table s z out .answer .place) (c .1)

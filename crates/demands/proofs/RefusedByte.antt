@@ -13,7 +13,7 @@ use lib.ListN.{length, take, drop, length-take, take-append-drop}
 use lib.Seq.{length-take-le, take-all}
 use Rattle.laws.specs.Reading.{le-or-lt}
 use Rattle.laws.proofs.Flags.{differ}
-use Rattle.table.specs.Table.{decode}
+use Rattle.table.specs.Table.{decode, standard}
 use Rattle.table.specs.Judge.{judged}
 use Rattle.reader.specs.Events.{refusal, finished, next}
 use Rattle.reader.proofs.NextStable.{next-short}
@@ -28,7 +28,7 @@ use Rattle.demands.specs.Answers.{Ready, Answered, bad-table, long-scene
 use Rattle.demands.proofs.Refusals.{answered-by, answered-so, exactly-read}
 
 -- n at the place p, by the reader
-module _ (table s : List ℕ) (z : Session) (out : List ℕ) (n p : ℕ) (lo : 1 ≤ n) (hi : n ≤ 6) (q : stepOf table s z out .answer .number ≡ n) (at : stepOf table s z out .answer .place ≡ p) where
+module _ (table s : List ℕ) (z : Session) (out : List ℕ) (n p : ℕ) (lo : 1 ≤ n) (hi : n ≤ 6) (q : stepOf standard table s z out .answer .number ≡ n) (at : stepOf standard table s z out .answer .place ≡ p) where
   told : Ready table s z × (next s (readerOf z) ≡ refusal n p)
   told = subst (λ (i : ℕ). Ready table s z × (next s (readerOf z) ≡ refusal n i)) at (exactly-read table s z out n lo hi .only q)
 
@@ -40,16 +40,16 @@ module _ (table s : List ℕ) (z : Session) (out : List ℕ) (n p : ℕ) (lo : 1
     ends : (next (take p s) (readerOf z) ≡ refusal 1 p) ⊎ ((next (take p s) (readerOf z) ≡ finished p) × (z .closed ≡ true))
     ends = next-short s (readerOf z) n p (told .1) (coherent-held (decode table) (take p s) z c)
 
-    pub refused-before : z .closed ≡ false → stepOf table (take p s) z out ≡ refusedStep 1 p z out
+    pub refused-before : z .closed ≡ false → stepOf standard table (take p s) z out ≡ refusedStep 1 p z out
     refused-before o =
         ⊎-elim (λ e. answered-so table (take p s) z out (unread ready 1 p e (omega arith) (omega arith))) (λ e. absurd (differ (sym (e .1) ∙ o))) ends
 
-    pub refused-closed : z .closed ≡ true → (stepOf table (take p s) z out ≡ refusedStep 9 p z out) ⊎ (stepOf table (take p s) z out ≡ refusedStep 1 p z out)
+    pub refused-closed : z .closed ≡ true → (stepOf standard table (take p s) z out ≡ refusedStep 9 p z out) ⊎ (stepOf standard table (take p s) z out ≡ refusedStep 1 p z out)
     refused-closed o =
         ⊎-elim (λ e. inr (answered-so table (take p s) z out (unread ready 1 p e (omega arith) (omega arith)))) (λ e. inl (answered-so table (take p s) z out (all-read ready p (e .0)))) ends
 
 -- 2 or 3 at the place p, of a session that is coherent with each part of the scene that is spoken of
-module _ (table s : List ℕ) (z : Session) (out : List ℕ) (n p : ℕ) (lo : 2 ≤ n) (hi : n ≤ 3) (q : stepOf table s z out .answer .number ≡ n) (at : stepOf table s z out .answer .place ≡ p) where
+module _ (table s : List ℕ) (z : Session) (out : List ℕ) (n p : ℕ) (lo : 2 ≤ n) (hi : n ≤ 3) (q : stepOf standard table s z out .answer .number ≡ n) (at : stepOf standard table s z out .answer .place ≡ p) where
   reads : Ready table s z × (next s (readerOf z) ≡ refusal n p)
   reads = told table s z out n p (omega arith) (omega arith) q at
 
@@ -70,13 +70,13 @@ module _ (table s : List ℕ) (z : Session) (out : List ℕ) (n p : ℕ) (lo : 2
       late l = subst (λ (S : List ℕ). length (take size s) ≤ p + settled S p) (take-append-drop size s) (subst (LateNext (take size s ++ drop size s) (length (take size s))) whole l lo hi)
 
   -- they settle it, whatever stands behind
-  pub refused-after : (rest : List ℕ) → length (take (p + 1 + settled s p) s ++ rest) ≤ longest → coherent (decode table) (take (p + 1 + settled s p) s ++ rest) z ≡ true → stepOf table (take (p + 1 + settled s p) s ++ rest) z out ≡ refusedStep n p z out
+  pub refused-after : (rest : List ℕ) → length (take (p + 1 + settled s p) s ++ rest) ≤ longest → coherent (decode table) (take (p + 1 + settled s p) s ++ rest) z ≡ true → stepOf standard table (take (p + 1 + settled s p) s ++ rest) z out ≡ refusedStep n p z out
   refused-after rest l c =
       answered-so table (take size s ++ rest) z out
       (unread (record { accepted = reads .0 .accepted; short = l; fits = c }) n p (next-stays (take size s) rest (readerOf z) n p lo hi up-to) (omega arith) (omega arith))
 
   -- "until then the answer is 1"
-  pub refused-until : (k : ℕ) → p < k → k ≤ length s → coherent (decode table) (take k s) z ≡ true → (stepOf table (take k s) z out ≡ refusedStep n p z out) ⊎ (stepOf table (take k s) z out ≡ refusedStep 1 k z out)
+  pub refused-until : (k : ℕ) → p < k → k ≤ length s → coherent (decode table) (take k s) z ≡ true → (stepOf standard table (take k s) z out ≡ refusedStep n p z out) ⊎ (stepOf standard table (take k s) z out ≡ refusedStep 1 k z out)
   refused-until k lt le c =
       ⊎-elim (λ e. inl (answered-so table (take k s) z out (unread ready n p e (omega arith) (omega arith)))) (λ e. inr (answered-so table (take k s) z out (unread ready 1 k e (omega arith) (omega arith))))
       (next-until (take k s) (drop k s) (readerOf z) (coherent-held (decode table) (take k s) z c) n p (rw (take-append-drop k s) (reads .1)) k (length-take-le k s le) lt)
@@ -85,11 +85,11 @@ module _ (table s : List ℕ) (z : Session) (out : List ℕ) (n p : ℕ) (lo : 2
       ready = let r = reads .0 in record { accepted = r .accepted; short = omega (arith, r .short, length-take k s); fits = c }
 
 -- ---- 1: the scene ends, nothing else wrong so far
-pub cut-completed : (table s : List ℕ) (z : Session) (out : List ℕ) → stepOf table s z out .answer .number ≡ 1 → Completes table s z out
+pub cut-completed : (table s : List ℕ) (z : Session) (out : List ℕ) → stepOf standard table s z out .answer .number ≡ 1 → Completes table s z out
 cut-completed table s z out q =
     let c = exactly-read table s z out 1 (omega arith) (omega arith) .only q in
     let h = coherent-held (decode table) s z (c .0 .fits) in
-    let d = next-completed s (readerOf z) (h .place) (stepOf table s z out .answer .place) (c .1) in
+    let d = next-completed s (readerOf z) (h .place) (stepOf standard table s z out .answer .place) (c .1) in
     record {
       more = d .more;
       few = d .few;

@@ -10,7 +10,7 @@ use native.Mathlib.Omega.{arith}
 use lib.ListN.{length, take, drop}
 use Rattle.laws.specs.Over.{overwrite}
 use Rattle.laws.specs.Gather.{gather}
-use Rattle.table.specs.Table.{Table, decode}
+use Rattle.table.specs.Table.{Table, decode, standard}
 use Rattle.reader.specs.Events.{ReaderState, freshReader, Next, refusal, finished, next, eventThen, events, lastThen, lastOf}
 use Rattle.reader.proofs.Held.{finished-at}
 use Rattle.reader.proofs.Progress.{history, history-next, ending, last-is}
@@ -43,7 +43,7 @@ pub record Ended (table s out : List ℕ) (r : Run) : Type 0 where
   pub number : ℕ
   pub place : ℕ
   pub said : Said s (readerOf session) number place
-  pub last : stepOf table s session (drop (16 * length records) out) ≡ refusedStep number place session (drop (16 * length records) out)
+  pub last : stepOf standard table s session (drop (16 * length records) out) ≡ refusedStep number place session (drop (16 * length records) out)
   pub is : r ≡ answer number place events records out
 
 pub laid-expected : (t : Table) (s : List ℕ) (z : Session) (k : ℕ) (rs : List (Record Body ℕ)) → Reached t s z k rs → (out : List ℕ) → laid rs out ≡ expected t s k ++ drop (16 * length rs) out
@@ -60,7 +60,7 @@ ends-here s k w x q n none same =
 
 -- ---- the run
 module _ (table s out : List ℕ) where
-  pub run-ended : Ended table s out (runOf table s out)
+  pub run-ended : Ended table s out (runOf standard table s out)
   unfolding runOf
   run-ended =
       let a = advanced table s (2 * length s + 2) freshOf 0 [] (reached-fresh (decode table) s) out in
@@ -115,5 +115,5 @@ stops table s out r e =
     records = first-bytes out rs ∙ reached-expected t s z k rs (e .reached)
 
 -- every run's records are the model's of the events that it counts, and the rest of the output is as it was
-pub scenes : (table s out : List ℕ) → SceneRun table s out (runOf table s out)
-scenes table s out = stops table s out (runOf table s out) (run-ended table s out)
+pub scenes : (table s out : List ℕ) → SceneRun table s out (runOf standard table s out)
+scenes table s out = stops table s out (runOf standard table s out) (run-ended table s out)

@@ -17,7 +17,7 @@ use Rattle.laws.specs.Lists.{keep}
 use Rattle.laws.specs.Gather.{gather, total}
 use Rattle.laws.specs.Members.{All}
 use Rattle.laws.proofs.Holds.{holds-cond}
-use Rattle.table.specs.Table.{decode}
+use Rattle.table.specs.Table.{decode, standard}
 use Rattle.table.specs.Judge.{Accepted}
 use Rattle.reader.specs.Events.{Event, events}
 use Rattle.model.specs.Dispatch.{expected}
@@ -43,7 +43,7 @@ same-calls (c ∷ cs) = ap (λ (l : List Call). c ∷ l) (same-calls cs)
 pub as-steps : (table : List ℕ) (calls : List Call) (z : Session) → callsFrom table z (asCalls calls) ≡ stepsFrom table z calls
 unfolding callsFrom stepsFrom
 as-steps table [] z = refl
-as-steps table (c ∷ cs) z = let r = stepOf table (c .scene) z (c .output) in ap (λ (l : List Step). r ∷ l) (as-steps table cs (r .session))
+as-steps table (c ∷ cs) z = let r = stepOf standard table (c .scene) z (c .output) in ap (λ (l : List Step). r ∷ l) (as-steps table cs (r .session))
 
 -- the events and the records of steps are those of the accepted ones
 counted : (table : List ℕ) (calls : List Call) (z : Session) → let rs = stepsFrom table z calls in (eventsIn rs ≡ acceptedIn rs) × (allRecords rs ≡ joinedOf rs)
@@ -52,7 +52,7 @@ counted table [] z = (refl, refl)
 counted table (c ∷ cs) z =
     let s = c .scene in
     let out = c .output in
-    let r = stepOf table s z out in
+    let r = stepOf standard table s z out in
     let rs = stepsFrom table (r .session) cs in
     let i = counted table cs (r .session) in
     holds-cond (λ (l : List Step). (r .answer .events + eventsIn rs ≡ length l) × (recordsOf r ++ allRecords rs ≡ gather recordsOf l)) (eqb (r .answer .number) 0)
@@ -122,7 +122,7 @@ limited-steps table calls c g ok short r q lt d =
     let rs = all-called table (asCalls calls) grows .records in
     let there : Reached (decode table) (lastScene calls) z k rs = rw (same-calls calls, as-steps table calls freshOf, counted table calls freshOf .0) at (all-reached table (asCalls calls) grows) in
     let here : Reached (decode table) (c .scene) z k rs = subst (λ (x : List ℕ). Reached (decode table) x z k rs) (sym (longer .1)) (reached-more (decode table) (lastScene calls) z k rs there (longer .0)) in
-    let last = stepOf table (c .scene) z (c .output) in
+    let last = stepOf standard table (c .scene) z (c .output) in
     let is : stepsFrom table freshOf (calls ++ (c ∷ [])) ≡ first ++ (last ∷ []) =
     sym (as-steps table (calls ++ (c ∷ [])) freshOf) ∙ ap (callsFrom table freshOf) (map-append ofStep calls (c ∷ [])) ∙ then-calls table (asCalls calls) (ofStep c ∷ []) freshOf ∙ ap (λ (l : List Step). l ++ (last ∷ [])) (as-steps table calls freshOf) in
     let same : r ≡ last = sym (getD-append-seam first r [] r) ∙ ap (λ (l : List Step). getD l (length first) r) (sym q ∙ is) ∙ getD-append-seam first last [] r in

@@ -7,7 +7,7 @@ use mathlib.Core.Logic.{_⊎_}
 use lib.ListN.{length, drop, getD}
 use Rattle.laws.specs.Over.{overwrite}
 use Rattle.laws.specs.Gather.{gather}
-use Rattle.table.specs.Table.{Table, decode}
+use Rattle.table.specs.Table.{Table, decode, standard}
 use Rattle.table.specs.Judge.{judged}
 use Rattle.lexer.specs.Values.{closes}
 use Rattle.lexer.specs.Misc.{isXml}
@@ -94,13 +94,13 @@ pub record Changed (t : Table) (s : List ℕ) (z : Session) (out : List ℕ) (r 
 
 -- n at the place p, exactly where C
 pub record Exactly (table s : List ℕ) (z : Session) (out : List ℕ) (n p : ℕ) (C : Type 0) : Type 0 where
-  pub when : C → stepOf table s z out ≡ refusedStep n p z out
-  pub only : stepOf table s z out .answer .number ≡ n → C
+  pub when : C → stepOf standard table s z out ≡ refusedStep n p z out
+  pub only : stepOf standard table s z out .answer .number ≡ n → C
 
 -- n, at each place p exactly where C p
 pub record ExactlyAt (table s : List ℕ) (z : Session) (out : List ℕ) (n : ℕ) (C : ℕ → Type 0) : Type 0 where
-  pub when : (p : ℕ) → C p → stepOf table s z out ≡ refusedStep n p z out
-  pub only : stepOf table s z out .answer .number ≡ n → C (stepOf table s z out .answer .place)
+  pub when : (p : ℕ) → C p → stepOf standard table s z out ≡ refusedStep n p z out
+  pub only : stepOf standard table s z out .answer .number ≡ n → C (stepOf standard table s z out .answer .place)
 
 -- 1 to 6: the reader's
 abbrev pub Unread : List ℕ → List ℕ → Session → ℕ → ℕ → Type 0
@@ -127,4 +127,4 @@ Through n = (n ≡ 0) ⊎ (((4 ≤ n) × (n ≤ 6)) ⊎ ((21 ≤ n) × (n ≤ 25
 pub record Completes (table s : List ℕ) (z : Session) (out : List ℕ) : Type 0 where
   pub more : List ℕ
   pub few : length more ≤ 19
-  pub reads : length (s ++ more) ≤ longest → Through (stepOf table (s ++ more) z out .answer .number) ⊎ (stepOf table (s ++ more) z out .answer .number ≡ 9)
+  pub reads : length (s ++ more) ≤ longest → Through (stepOf standard table (s ++ more) z out .answer .number) ⊎ (stepOf standard table (s ++ more) z out .answer .number ≡ 9)

@@ -8,6 +8,7 @@ use lib.ListN.{length, take}
 use lib.Dec.{eqb}
 use Rattle.laws.specs.Lists.{keep}
 use Rattle.laws.specs.Gather.{gather, total}
+use Rattle.table.specs.Table.{standard}
 use Rattle.dispatcher.specs.Stepping.{Step, stepOf, advanceOf}
 use Rattle.dispatcher.specs.declared.Session.{Session}
 
@@ -40,7 +41,7 @@ lastScene cs = lastSceneFrom [] cs
 unfoldable pub stepsFrom : List ℕ → Session → List Call → List Step
 stepsFrom table z [] = []
 stepsFrom table z (c ∷ cs) =
-    let r = stepOf table (c .scene) z (c .output) in
+    let r = stepOf standard table (c .scene) z (c .output) in
     r ∷ stepsFrom table (r .session) cs
 
 -- "an accepted step is one that gives 0"
@@ -78,8 +79,8 @@ callOf (ofAdvance most c) = c
 
 -- what it hands back of a session
 abbrev pub handedBack : List ℕ → Session → AnyCall → Step
-handedBack table z (ofStep c) = stepOf table (c .scene) z (c .output)
-handedBack table z (ofAdvance most c) = advanceOf most table (c .scene) z (c .output)
+handedBack table z (ofStep c) = stepOf standard table (c .scene) z (c .output)
+handedBack table z (ofAdvance most c) = advanceOf standard most table (c .scene) z (c .output)
 
 -- what the calls hand back: each goes on from the session that the one before handed back
 unfoldable pub callsFrom : List ℕ → Session → List AnyCall → List Step

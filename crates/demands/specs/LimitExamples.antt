@@ -1,10 +1,14 @@
--- Worked examples of limits, by computation: T2 with v and q alternating under a u root, "the fourth v makes 16 strands, the fifth gives 23".
+-- Worked examples of limits, by computation: T2 with v and q alternating under a u root, "the fourth v makes 16 strands, the fifth gives 23"; 25 where
+-- request N3 has records.
 use Prim.Native.Nat.{ℕ}
 use mathlib.Core.Path.{_≡_, refl}
-use mathlib.Core.List.{List}
+use mathlib.Core.List.{List, []}
+use lib.ListN.{replicate}
 use Rattle.laws.specs.Text.{bytes}
-use Rattle.table.specs.Table.{decode}
-use Rattle.table.specs.Examples.{T2}
+use Rattle.table.specs.Table.{standard, former, decode}
+use Rattle.table.specs.declared.Answer.{Answer}
+use Rattle.table.specs.Examples.{T, T2}
+use Rattle.dispatcher.specs.Stepping.{answered, runOf}
 use Rattle.demands.specs.Limits.{passed, runEnd}
 use Rattle.demands.specs.Computing.{computing}
 
@@ -19,3 +23,16 @@ sixteen-pass = refl
 fifth-refused : runEnd (decode T2) nested ≡ record { number = 23; place = 117 }
 unfolding computing
 fifth-refused = refl
+
+-- N3-10: the start and the end of a rejected element have two records each
+abbrev run-in : ℕ → Answer
+run-in room = runOf standard T (bytes "<r/>") (replicate room 7) .answer
+
+room-for-rejected : (run-in 31 ≡ answered 25 0 0 0) × (run-in 32 ≡ answered 25 0 1 2) × (run-in 63 ≡ answered 25 0 1 2) × (run-in 64 ≡ answered 9 4 2 4)
+unfolding computing
+room-for-rejected = (refl, refl, refl, refl)
+
+-- before the request they had none
+room-before : runOf former T (bytes "<r/>") [] .answer ≡ answered 9 4 2 0
+unfolding computing
+room-before = refl

@@ -4,6 +4,7 @@ use mathlib.Core.Path.{_≡_, refl}
 use mathlib.Core.List.{List, [], _∷_, map}
 use lib.ListN.{replicate}
 use Rattle.laws.specs.Text.{bytes}
+use Rattle.table.specs.Table.{standard}
 use Rattle.table.specs.Examples.{T}
 use Rattle.model.specs.Rows.{row}
 use Rattle.dispatcher.specs.Sessions.{freshOf}
@@ -19,11 +20,11 @@ abbrev pub K : List ℕ
 K = 0x00 ∷ 0x02 ∷ 0x01 ∷ 0x03 ∷ 0x03 ∷ 0xFE ∷ 0x00 ∷ 0x08 ∷ 0x0B ∷ 0xFC ∷ 0x00 ∷ 0x08 ∷ 0x0F ∷ 0xFC ∷ 0x00 ∷ 0x08 ∷ []
 
 -- N1-1, N1-3: in every position; the records are as if none were there, texts apart
-text-apart : runOf T (bytes "<r xmlns=\"u\">a<!--x-->b<?p?><?q?>c<!----></r>") sampleOutput ≡ sampleRun 9 45 5 (row 0 0 0 0 0 0 0 ∷ row 0 1 1 1 1 0 0 ∷ row 0 4 0 13 1 0 0 ∷ row 0 4 0 22 1 0 0 ∷ row 0 4 0 33 1 0 0 ∷ row 0 5 1 43 1 0 0 ∷ row 0 6 0 0 0 0 0 ∷ [])
+text-apart : runOf standard T (bytes "<r xmlns=\"u\">a<!--x-->b<?p?><?q?>c<!----></r>") sampleOutput ≡ sampleRun 9 45 5 (row 0 0 0 0 0 0 0 ∷ row 0 1 1 1 1 0 0 ∷ row 0 4 0 13 1 0 0 ∷ row 0 4 0 22 1 0 0 ∷ row 0 4 0 33 1 0 0 ∷ row 0 5 1 43 1 0 0 ∷ row 0 6 0 0 0 0 0 ∷ [])
 unfolding computing
 text-apart = refl
 
-space-apart : runOf K (bytes "<r> <!----> </r>") sampleOutput ≡ sampleRun 9 16 4 (row 0 0 0 0 0 0 0 ∷ row 0 1 0 1 1 0 0 ∷ row 0 4 0 3 1 0 0 ∷ row 0 4 0 11 1 0 0 ∷ row 0 5 0 14 1 0 0 ∷ row 0 6 0 0 0 0 0 ∷ [])
+space-apart : runOf standard K (bytes "<r> <!----> </r>") sampleOutput ≡ sampleRun 9 16 4 (row 0 0 0 0 0 0 0 ∷ row 0 1 0 1 1 0 0 ∷ row 0 4 0 3 1 0 0 ∷ row 0 4 0 11 1 0 0 ∷ row 0 5 0 14 1 0 0 ∷ row 0 6 0 0 0 0 0 ∷ [])
 unfolding computing
 space-apart = refl
 
@@ -34,7 +35,7 @@ settles = (refl, refl, refl, refl)
 
 -- the answer of a run with so much output
 abbrev run-of : List ℕ → ℕ → List ℕ → Answer
-run-of table room scene = runOf table scene (replicate room 7) .answer
+run-of table room scene = runOf standard table scene (replicate room 7) .answer
 
 -- N1-4: 25 stands at the event's own first byte; N1-5: 9 and 1; N1-2, N1-7 to N1-10, N1-21: 2 and 1
 answers :

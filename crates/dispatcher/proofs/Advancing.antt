@@ -14,7 +14,7 @@ use lib.Dec.{eqb, ltb}
 use lib.ListN.{length, take, drop, take-append-drop}
 use lib.Seq.{length-take-le, take-append-add, drop-append-add}
 use Rattle.laws.proofs.Holds.{holds-cond}
-use Rattle.table.specs.Table.{decode}
+use Rattle.table.specs.Table.{decode, standard}
 use Rattle.table.specs.Judge.{judged, Accepted}
 use Rattle.dispatcher.specs.Coherence.{coherent}
 use Rattle.dispatcher.specs.Stepping.{Plan, refused, finished, event, planOf, planned, Step, answered, refusedStep, longest, stepOf, restOf, joined, advanceOf}
@@ -76,7 +76,7 @@ planned-one (finished p) z out h = refused-one 9 p z out (omega arith)
 planned-one (event at rs next) z out h =
     holds-cond OneEvent (ltb (length out) (16 * length rs)) (λ _. refused-one 25 at z out (omega arith)) (λ _. record { one = λ e. (refl, refl) })
 
-step-one-event : (table s : List ℕ) (z : Session) (out : List ℕ) → OneEvent (stepOf table s z out)
+step-one-event : (table s : List ℕ) (z : Session) (out : List ℕ) → OneEvent (stepOf standard table s z out)
 unfolding stepOf
 step-one-event table s z out =
     holds-cond OneEvent (not (eqb (judged table .number) 0))
@@ -89,14 +89,14 @@ step-one-event table s z out =
 -- ---- a first step
 -- so many steps behind what was handed back
 abbrev pub further : ℕ → List ℕ → List ℕ → Step → Step
-further n table s a = joined a (advanceOf n table s (a .session) (restOf a))
+further n table s a = joined a (advanceOf standard n table s (a .session) (restOf a))
 
-module _ (n : ℕ) (table s : List ℕ) (z : Session) (out : List ℕ) (r : Step) (q : stepOf table s z out ≡ r) where
-  pub advance-stops : (r .answer .number ≡ 0 → ⊥) → advanceOf (suc n) table s z out ≡ r
+module _ (n : ℕ) (table s : List ℕ) (z : Session) (out : List ℕ) (r : Step) (q : stepOf standard table s z out ≡ r) where
+  pub advance-stops : (r .answer .number ≡ 0 → ⊥) → advanceOf standard (suc n) table s z out ≡ r
   unfolding advanceOf
   advance-stops k = rw (q, ne-eqb (r .answer .number) 0 k)
 
-  advance-goes : r .answer .number ≡ 0 → advanceOf (suc n) table s z out ≡ further n table s r
+  advance-goes : r .answer .number ≡ 0 → advanceOf standard (suc n) table s z out ≡ further n table s r
   unfolding advanceOf
   advance-goes e = rw (q, eq-eqb (r .answer .number) 0 e)
 
@@ -108,7 +108,7 @@ pub further-none : (table s : List ℕ) (z : Session) (events records : ℕ) (ou
 unfolding advanceOf
 further-none table s z events records out = same-step 0 (z .place) z (events + 0) events (records + 0) records _ _ (omega arith) (omega arith) (take-append-drop (16 * records) out)
 
-module _ (n : ℕ) (table s : List ℕ) (z : Session) (events records : ℕ) (out : List ℕ) (h : 16 * records ≤ length out) (r : Step) (q : stepOf table s z (drop (16 * records) out) ≡ r) where
+module _ (n : ℕ) (table s : List ℕ) (z : Session) (events records : ℕ) (out : List ℕ) (h : 16 * records ≤ length out) (r : Step) (q : stepOf standard table s z (drop (16 * records) out) ≡ r) where
   roomed : Roomed (drop (16 * records) out) r
   roomed = subst (Roomed (drop (16 * records) out)) q (step-roomed table s z (drop (16 * records) out))
 
@@ -123,15 +123,15 @@ module _ (n : ℕ) (table s : List ℕ) (z : Session) (events records : ℕ) (ou
       → further (suc n) table s (soFar z events records out) ≡ further n table s (soFar (r .session) (events + 1) (records + r .answer .records) (take (16 * records) out ++ r .output))
   further-goes e =
       ap (joined (soFar z events records out)) (advance-goes n table s z (drop (16 * records) out) r q e)
-      ∙ joined-assoc (soFar z events records out) r h (advanceOf n table s (r .session) (restOf r))
-      ∙ ap (λ (l : List ℕ). joined (joined (soFar z events records out) r) (advanceOf n table s (r .session) l)) (sym (rest-joined (soFar z events records out) r h))
+      ∙ joined-assoc (soFar z events records out) r h (advanceOf standard n table s (r .session) (restOf r))
+      ∙ ap (λ (l : List ℕ). joined (joined (soFar z events records out) r) (advanceOf standard n table s (r .session) l)) (sym (rest-joined (soFar z events records out) r h))
       ∙ ap (λ (k : ℕ). further n table s (stepAs 0 (r .session .place) (r .session) (events + k) (records + r .answer .records) (take (16 * records) out ++ r .output))) (subst OneEvent q (step-one-event table s z (drop (16 * records) out)) .one e .0)
 
 -- ---- one step is a step
-pub advance-one : (table s : List ℕ) (z : Session) (out : List ℕ) → advanceOf 1 table s z out ≡ stepOf table s z out
-advance-one table s z out = by (stepOf table s z out) refl (eqb (stepOf table s z out .answer .number) 0) refl
+pub advance-one : (table s : List ℕ) (z : Session) (out : List ℕ) → advanceOf standard 1 table s z out ≡ stepOf standard table s z out
+advance-one table s z out = by (stepOf standard table s z out) refl (eqb (stepOf standard table s z out .answer .number) 0) refl
   where
-    by : (r : Step) → stepOf table s z out ≡ r → (b : Bool) → eqb (r .answer .number) 0 ≡ b → advanceOf 1 table s z out ≡ r
+    by : (r : Step) → stepOf standard table s z out ≡ r → (b : Bool) → eqb (r .answer .number) 0 ≡ b → advanceOf standard 1 table s z out ≡ r
     by r q true e =
         let n = eqb-true (r .answer .number) 0 e in
         let t = subst OneEvent q (step-one-event table s z out) .one n in
@@ -144,67 +144,67 @@ advance-one table s z out = by (stepOf table s z out) refl (eqb (stepOf table s 
 -- ---- so many steps, and then so many more
 module _ (n : ℕ) (table s : List ℕ) where
   abbrev More : ℕ → Session → List ℕ → Step → Type 0
-  More m z out a = a .answer .number ≡ 0 → advanceOf (m + n) table s z out ≡ further n table s a
+  More m z out a = a .answer .number ≡ 0 → advanceOf standard (m + n) table s z out ≡ further n table s a
 
-  more : (m : ℕ) (z : Session) (out : List ℕ) → More m z out (advanceOf m table s z out)
+  more : (m : ℕ) (z : Session) (out : List ℕ) → More m z out (advanceOf standard m table s z out)
   unfolding advanceOf
-  more zero z out = λ e. let i : 0 + n ≡ n = omega arith in ap (λ (k : ℕ). advanceOf k table s z out) i ∙ sym (joined-none z out (advanceOf n table s z out))
-  more (suc m) z out = by (λ w o. more m w o) (stepOf table s z out) refl
+  more zero z out = λ e. let i : 0 + n ≡ n = omega arith in ap (λ (k : ℕ). advanceOf standard k table s z out) i ∙ sym (joined-none z out (advanceOf standard n table s z out))
+  more (suc m) z out = by (λ w o. more m w o) (stepOf standard table s z out) refl
     where
-      by : ((w : Session) (o : List ℕ) → More m w o (advanceOf m table s w o)) → (r : Step) → stepOf table s z out ≡ r
+      by : ((w : Session) (o : List ℕ) → More m w o (advanceOf standard m table s w o)) → (r : Step) → stepOf standard table s z out ≡ r
           → More (suc m) z out (cond (eqb (r .answer .number) 0) (further m table s r) r)
       by ih r q =
-          let a = advanceOf m table s (r .session) (restOf r) in
+          let a = advanceOf standard m table s (r .session) (restOf r) in
           let fits = step-fits m table s z out r q in
           let i : suc m + n ≡ suc (m + n) = omega arith in
           holds-cond (More (suc m) z out) (eqb (r .answer .number) 0)
           (λ e f.
-          ap (λ (x : ℕ). advanceOf x table s z out) i
+          ap (λ (x : ℕ). advanceOf standard x table s z out) i
           ∙ advance-goes (m + n) table s z out r q (eqb-true (r .answer .number) 0 e)
           ∙ ap (joined r) (ih (r .session) (restOf r) f)
-          ∙ joined-assoc r a fits (advanceOf n table s (a .session) (restOf a))
-          ∙ ap (λ (l : List ℕ). joined (joined r a) (advanceOf n table s (a .session) l)) (sym (rest-joined r a fits)))
+          ∙ joined-assoc r a fits (advanceOf standard n table s (a .session) (restOf a))
+          ∙ ap (λ (l : List ℕ). joined (joined r a) (advanceOf standard n table s (a .session) l)) (sym (rest-joined r a fits)))
           (λ e f. absurd (eqb-false (r .answer .number) 0 e f))
 
   abbrev Stays : ℕ → Session → List ℕ → Step → Type 0
-  Stays m z out a = (a .answer .number ≡ 0 → ⊥) → advanceOf (m + n) table s z out ≡ a
+  Stays m z out a = (a .answer .number ≡ 0 → ⊥) → advanceOf standard (m + n) table s z out ≡ a
 
-  stays : (m : ℕ) (z : Session) (out : List ℕ) → Stays m z out (advanceOf m table s z out)
+  stays : (m : ℕ) (z : Session) (out : List ℕ) → Stays m z out (advanceOf standard m table s z out)
   unfolding advanceOf
   stays zero z out = λ k. absurd (k refl)
-  stays (suc m) z out = by (λ w o. stays m w o) (stepOf table s z out) refl
+  stays (suc m) z out = by (λ w o. stays m w o) (stepOf standard table s z out) refl
     where
-      by : ((w : Session) (o : List ℕ) → Stays m w o (advanceOf m table s w o)) → (r : Step) → stepOf table s z out ≡ r
+      by : ((w : Session) (o : List ℕ) → Stays m w o (advanceOf standard m table s w o)) → (r : Step) → stepOf standard table s z out ≡ r
           → Stays (suc m) z out (cond (eqb (r .answer .number) 0) (further m table s r) r)
       by ih r q =
           let i : suc m + n ≡ suc (m + n) = omega arith in
           holds-cond (Stays (suc m) z out) (eqb (r .answer .number) 0)
           (λ e f.
-          ap (λ (x : ℕ). advanceOf x table s z out) i
+          ap (λ (x : ℕ). advanceOf standard x table s z out) i
           ∙ advance-goes (m + n) table s z out r q (eqb-true (r .answer .number) 0 e)
           ∙ ap (joined r) (ih (r .session) (restOf r) f))
-          (λ e f. ap (λ (x : ℕ). advanceOf x table s z out) i ∙ advance-stops (m + n) table s z out r q f)
+          (λ e f. ap (λ (x : ℕ). advanceOf standard x table s z out) i ∙ advance-stops (m + n) table s z out r q f)
 
 -- where the first call gives 0, the second goes on from its session, and is lent the rest of its output
 pub advance-more : (m n : ℕ) (table s : List ℕ) (z : Session) (out : List ℕ)
-    → advanceOf m table s z out .answer .number ≡ 0
-    → advanceOf (m + n) table s z out ≡ joined (advanceOf m table s z out) (advanceOf n table s (advanceOf m table s z out .session) (restOf (advanceOf m table s z out)))
+    → advanceOf standard m table s z out .answer .number ≡ 0
+    → advanceOf standard (m + n) table s z out ≡ joined (advanceOf standard m table s z out) (advanceOf standard n table s (advanceOf standard m table s z out .session) (restOf (advanceOf standard m table s z out)))
 advance-more m n table s z out = more n table s m z out
 
 -- where it gives another number, more steps change nothing
 pub advance-stopped : (m n : ℕ) (table s : List ℕ) (z : Session) (out : List ℕ)
-    → (advanceOf m table s z out .answer .number ≡ 0 → ⊥)
-    → advanceOf (m + n) table s z out ≡ advanceOf m table s z out
+    → (advanceOf standard m table s z out .answer .number ≡ 0 → ⊥)
+    → advanceOf standard (m + n) table s z out ≡ advanceOf standard m table s z out
 advance-stopped m n table s z out = stays n table s m z out
 
 -- ---- of a sound session
 -- number 20 is never given, and the session handed back is sound
 module _ (table : List ℕ) (accepted : Accepted table ≡ true) (s : List ℕ) where
-  pub advance-kept : (most : ℕ) (z : Session) → Sound (decode table) s z → (out : List ℕ) → StepKept (decode table) s (advanceOf most table s z out)
+  pub advance-kept : (most : ℕ) (z : Session) → Sound (decode table) s z → (out : List ℕ) → StepKept (decode table) s (advanceOf standard most table s z out)
   unfolding advanceOf
   advance-kept zero z h out = record { not-20 = omega arith; sound = h }
   advance-kept (suc n) z h out =
-      let r = stepOf table s z out in
+      let r = stepOf standard table s z out in
       let k = step-kept table accepted s z h out in
       let i = advance-kept n (r .session) (k .sound) (restOf r) in
       holds-cond (StepKept (decode table) s) (eqb (r .answer .number) 0) (λ e. record { not-20 = i .not-20; sound = i .sound }) (λ e. k)

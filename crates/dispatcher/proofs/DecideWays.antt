@@ -36,6 +36,9 @@ use Rattle.dispatcher.specs.declared.Head.{Head}
 use Rattle.dispatcher.specs.declared.Started.{Started}
 use Rattle.openings.specs.declared.Decided.{Decided}
 use Rattle.openings.proofs.Deciding.{nextEntries, Entering, Weighed}
+use Rattle.dispatcher.proofs.Clauses.{clauses}
+use Rattle.dispatcher.proofs.CoherentSound.{levels-sound}
+use Rattle.dispatcher.proofs.NewStrands.{entry-modes}
 use Rattle.dispatcher.proofs.Joined.{enters, all-unnumbered, all-schemas-small, all-packable}
 use Rattle.dispatcher.proofs.Sorting.{sections-few, sections-start, sorted-start}
 use Rattle.dispatcher.proofs.NoneForeign.{HeldPlain, zeros-laid}
@@ -105,6 +108,7 @@ module _ (table levels : List ℕ) (header : Header) (index s attrs codes own ou
           → DecidedAs t s z σ r words schemas attributes sections
       decided-on m count-is laid numbered-is numbered weighed =
           decided-start table (g .ready .accepted) s z e
+          (entry-modes table (g .ready .accepted) s (stateOf t s z) σ (levels-sound t s z (clauses t s z (g .ready .coherent′))))
           (subst (All Unnumbered) entries-are (all-unnumbered index s (uriOf s n) spaces strands (placing .class) (head .depth)))
           (subst (All SchemaSmall) entries-are (all-schemas-small index s (uriOf s n) spaces strands (placing .class) (head .depth)))
           (subst (All EntryPackable) entries-are (all-packable index s (uriOf s n) spaces strands (placing .class) (head .depth)))

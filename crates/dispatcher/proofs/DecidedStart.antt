@@ -32,6 +32,7 @@ use Rattle.dispatcher.specs.Turns.{Made, DecidedAs, decidedNumber}
 use Rattle.dispatcher.specs.declared.Session.{Session}
 use Rattle.openings.specs.declared.Decided.{Decided}
 use Rattle.openings.proofs.Deciding.{Entering, wordsOf, loadUnits, loadRecords, Weighed}
+use Rattle.dispatcher.proofs.NewStrands.{ModeIn, allot-modes}
 use Rattle.dispatcher.proofs.StartCounts.{many, few, not-heavy, words-back, taken-back, small-at, units-after, written-length, units-loaded, records-loaded, element-records}
 
 module _ (table : List ℕ) (a : Accepted table ≡ true) (s : List ℕ) (z : Session) (e : Start) where
@@ -66,7 +67,8 @@ module _ (table : List ℕ) (a : Accepted table ≡ true) (s : List ℕ) (z : Se
       record { number-is = k ∙ sym d; made = λ y. absurd (omega arith) }
 
   -- ---- the others
-  module _ (unnumbered : All Unnumbered (entriesAt (dispatch (decode table)) (stateOf (decode table) s z .levels) (elementOf (decode table) s e)))
+  module _ (modes : All (ModeIn (decode table .modes)) (entriesAt (dispatch (decode table)) (stateOf (decode table) s z .levels) (elementOf (decode table) s e)))
+      (unnumbered : All Unnumbered (entriesAt (dispatch (decode table)) (stateOf (decode table) s z .levels) (elementOf (decode table) s e)))
       (small : All SchemaSmall (entriesAt (dispatch (decode table)) (stateOf (decode table) s z .levels) (elementOf (decode table) s e)))
       (pack : All EntryPackable (entriesAt (dispatch (decode table)) (stateOf (decode table) s z .levels) (elementOf (decode table) s e)))
       (words₀ schemas₀ words₁ schemas words attributes sections : List ℕ) (count k j : ℕ) (r : Decided)
@@ -98,7 +100,7 @@ module _ (table : List ℕ) (a : Accepted table ≡ true) (s : List ℕ) (z : Se
     load-is =
         ap₂ (λ (l : List Sorted) (i : ℕ). loadUnits index l i (wordsOf words₁ count)) sorted sections-are
         ∙ ap (loadUnits index (allOf σ) m) all-words
-        ∙ units-loaded table a s z e pack
+        ∙ units-loaded table a s z e modes pack
 
     all-is : z .units + loadUnits index (allSorted attributes sections k) j (wordsOf words₁ count) + hereCount (take count words₁) ≡ after (dispatch t) state (start σ) .units
     all-is =
@@ -145,8 +147,8 @@ module _ (table : List ℕ) (a : Accepted table ≡ true) (s : List ℕ) (z : Se
       records-are =
           weighed .2 y schemas
           ∙ ap₂ _+_
-          (ap₂ (λ (l : List Sorted) (i : ℕ). loadRecords index l i (wordsOf words₁ count)) sorted sections-are ∙ ap (loadRecords index (allOf σ) m) all-words ∙ records-loaded table a s z e pack)
-          (ap₂ (λ (l : List Sorted) (xs : List Entry). total (elementCount index l) xs) sorted new-entries ∙ element-records table a s z e new new-packable)
+          (ap₂ (λ (l : List Sorted) (i : ℕ). loadRecords index l i (wordsOf words₁ count)) sorted sections-are ∙ ap (loadRecords index (allOf σ) m) all-words ∙ records-loaded table a s z e modes pack)
+          (ap₂ (λ (l : List Sorted) (xs : List Entry). total (elementCount index l) xs) sorted new-entries ∙ element-records table a s z e new (allot-modes (t .modes) base es modes))
           ∙ sym (written-length table a s z e)
 
       units-are : r .units ≡ after (dispatch t) state (start σ) .units

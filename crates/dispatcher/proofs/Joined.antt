@@ -14,6 +14,7 @@ use lib.Dec.{eqb, leb}
 use Rattle.laws.specs.Lists.{sameList}
 use Rattle.laws.specs.Members.{All}
 use Rattle.laws.specs.Reading.{le-or-lt}
+use Rattle.laws.proofs.Elementwise.{each-map}
 use Rattle.laws.proofs.Flags.{differ}
 use Rattle.laws.proofs.Holds.{holds-cond}
 use Rattle.compare.proofs.Equal.{same-refl, same-eq, same-sym}
@@ -34,8 +35,9 @@ use Rattle.strands.proofs.Entered.{before-root, take-rules-are, stay-are, Schem
 use Rattle.dispatcher.specs.Sessions.{levelUri, classIn, uriIn, strandsIn, levelIn, levelsIn, stateOf}
 use Rattle.dispatcher.specs.Coherence.{coherent}
 use Rattle.dispatcher.specs.declared.Session.{Session}
+use Rattle.dispatcher.proofs.Sound.{StrandSound}
 use Rattle.dispatcher.proofs.Clauses.{clauses}
-use Rattle.dispatcher.proofs.CoherentSound.{tested-at}
+use Rattle.dispatcher.proofs.CoherentSound.{each-mapped, tested-at, level-sound}
 use Rattle.dispatcher.proofs.Spaces.{uri-back, class-few}
 use Rattle.openings.proofs.Deciding.{joinedBy, levelWords, nextEntries}
 
@@ -148,14 +150,20 @@ module _ (table : List ℕ) (a : Accepted table ≡ true) (s : List ℕ) (z : Se
   unfolding levelIn
   joins k l = joined-is table a s n (classIn z k) (uriIn z k) (level-in k l) ∙ ap (sameList (levelUri (decode table) s (classIn z k) (uriIn z k))) (sym bytes-are)
 
+  modes-in : (k : ℕ) → k < z .scope .depth → All (λ (w : ℕ). strandIn w .mode < decode table .modes) (levelWords (z .spaces) (z .strands) k)
+  unfolding levelIn strandsIn
+  modes-in k l =
+      each-map _ _ (λ w h. h .mode-in) (levelWords (z .spaces) (z .strands) k)
+      (each-mapped (StrandSound (decode table) (z .units)) strandIn (levelWords (z .spaces) (z .strands) k) (level-sound (decode table) s z (clauses (decode table) s z ok) k l .strands))
+
   enters-at : (d : ℕ) → d ≤ z .scope .depth → nextEntries index s (uriOf s n) (z .spaces) (z .strands) class d ≡ entriesAt (dispatch (decode table)) (levelsIn (decode table) s z d) σ
   unfolding levelsIn levelIn strandsIn
-  enters-at zero l = ap (λ (c : ℕ). entriesBy index c (strandIn 32)) (sym class-is) ∙ before-root table (headerOf table) (header-in table a .few-rules) σ few-classes
+  enters-at zero l = ap (λ (c : ℕ). entriesBy index c (strandIn 32)) (sym class-is) ∙ before-root table (headerOf table) (header-in table a .few-rules) (header-in table a .few-modes) σ few-classes (header-in table a .some-mode)
   enters-at (suc k) l =
       let ws = levelWords (z .spaces) (z .strands) k in
       next-more index s (uriOf s n) (z .spaces) (z .strands) class k
       ∙ cond-same _ _ _ _ _ _ (joins k (omega arith)) (stay-are ws)
-      (ap (λ (c : ℕ). entriesFrom index c ws) (sym class-is) ∙ take-rules-are table (headerOf table) (header-in table a .few-rules) σ few-classes ws)
+      (ap (λ (c : ℕ). entriesFrom index c ws) (sym class-is) ∙ take-rules-are table (headerOf table) (header-in table a .few-rules) (header-in table a .few-modes) σ few-classes ws (modes-in k (omega arith)))
 
   pub enters : nextEntries (indexOf table (headerOf table)) s (uriOf s n) (z .spaces) (z .strands) (spaceOf (decode table) s n .class) (z .scope .depth)
       ≡ entriesAt (dispatch (decode table)) (stateOf (decode table) s z .levels) σ

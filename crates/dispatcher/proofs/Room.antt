@@ -10,7 +10,7 @@ use lib.ListN.{length, length-append}
 use Rattle.laws.specs.Gather.{gather}
 use Rattle.laws.proofs.Over.{length-over}
 use Rattle.laws.proofs.Holds.{holds-cond}
-use Rattle.table.specs.Table.{decode}
+use Rattle.table.specs.Table.{decode, standard}
 use Rattle.table.specs.Judge.{judged}
 use Rattle.model.specs.Theory.{Record}
 use Rattle.model.specs.Records.{Body, recordBytes}
@@ -44,7 +44,7 @@ planned-roomed (event at rs next) z out =
     let room = ltb-false (length out) (16 * length rs) l in
     record { room = room; one = omega arith; same = length-over out 0 (gather recordBytesOf rs) (omega (arith, records-length rs, room)); nothing = λ k. absurd (k refl) })
 
-pub step-roomed : (table s : List ℕ) (z : Session) (out : List ℕ) → Roomed out (stepOf table s z out)
+pub step-roomed : (table s : List ℕ) (z : Session) (out : List ℕ) → Roomed out (stepOf standard table s z out)
 unfolding stepOf
 step-roomed table s z out =
     holds-cond (Roomed out) (not (eqb (judged table .number) 0)) (λ _. refused-roomed (judged table .number) (judged table .place) z out)
@@ -53,7 +53,7 @@ step-roomed table s z out =
     (λ _. planned-roomed (planOf (decode table) s z) z out)))
 
 -- the same of what a step hands back
-module _ (table s : List ℕ) (z : Session) (out : List ℕ) (r : Stepped) (out′ : List ℕ) (q : handed r out′ ≡ stepOf table s z out) where
+module _ (table s : List ℕ) (z : Session) (out : List ℕ) (r : Stepped) (out′ : List ℕ) (q : handed r out′ ≡ stepOf standard table s z out) where
   pub step-room : 16 * r .answer .records ≤ length out
   step-room = subst (Roomed out) (sym q) (step-roomed table s z out) .room
 

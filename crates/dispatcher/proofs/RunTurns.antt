@@ -9,7 +9,7 @@ use lib.Dec.{eqb, ltb}
 use lib.ListN.{length, take, drop, replicate, length-drop, length-append}
 use lib.Seq.{length-take-le}
 use Rattle.laws.proofs.Holds.{holds-cond}
-use Rattle.table.specs.Table.{headerOf, tableOf, decode}
+use Rattle.table.specs.Table.{headerOf, tableOf, decode, standard}
 use Rattle.table.specs.Index.{indexOf}
 use Rattle.table.specs.declared.Answer.{Answer}
 use Rattle.table.specs.declared.Header.{Header}
@@ -33,19 +33,19 @@ use Rattle.dispatcher.proofs.Advancing.{stepAs, soFar, further, joined-
 
 -- ---- the ways out of a step
 module _ (table s : List ℕ) (z : Session) (out : List ℕ) where
-  step-judged : (judged table .number ≡ 0 → ⊥) → refusedStep (judged table .number) (judged table .place) z out ≡ stepOf table s z out
+  step-judged : (judged table .number ≡ 0 → ⊥) → refusedStep (judged table .number) (judged table .place) z out ≡ stepOf standard table s z out
   unfolding stepOf
   step-judged n = rw (ne-eqb (judged table .number) 0 n)
 
-  step-long : judged table .number ≡ 0 → 16777215 < length s → refusedStep 7 0 z out ≡ stepOf table s z out
+  step-long : judged table .number ≡ 0 → 16777215 < length s → refusedStep 7 0 z out ≡ stepOf standard table s z out
   unfolding stepOf
   step-long e h = rw (eq-eqb (judged table .number) 0 e, lt-ltb 16777215 (length s) h)
 
-  step-incoherent : Accepted table ≡ true → length s ≤ 16777215 → coherent (decode table) s z ≡ false → refusedStep 20 0 z out ≡ stepOf table s z out
+  step-incoherent : Accepted table ≡ true → length s ≤ 16777215 → coherent (decode table) s z ≡ false → refusedStep 20 0 z out ≡ stepOf standard table s z out
   unfolding stepOf
   step-incoherent a h c = rw (a, le-ltb 16777215 (length s) h, c)
 
-  step-planned : Accepted table ≡ true → length s ≤ 16777215 → coherent (decode table) s z ≡ true → planned (planOf (decode table) s z) z out ≡ stepOf table s z out
+  step-planned : Accepted table ≡ true → length s ≤ 16777215 → coherent (decode table) s z ≡ true → planned (planOf (decode table) s z) z out ≡ stepOf standard table s z out
   unfolding stepOf
   step-planned a h c = rw (a, le-ltb 16777215 (length s) h, c)
 
@@ -57,7 +57,7 @@ pub record Going (table s : List ℕ) (z₀ : Session) (out₀ : List ℕ) (most
   pub counted : 16 * records ≡ used
   pub few : events ≤ most
   pub sound : Sound (decode table) s z
-  pub asked : advanceOf most table s z₀ out₀ ≡ further (most - events) table s (soFar z events records out)
+  pub asked : advanceOf standard most table s z₀ out₀ ≡ further (most - events) table s (soFar z events records out)
 
 pub going-first : (table s : List ℕ) (z : Session) (out : List ℕ) (most : ℕ) → Sound (decode table) s z → Going table s z out most z out 0 0 0
 going-first table s z out most h =
@@ -67,11 +67,11 @@ going-first table s z out most h =
       counted = omega arith;
       few = omega arith;
       sound = h;
-      asked = let e : most - 0 ≡ most = omega arith in sym (joined-none z out (advanceOf (most - 0) table s z out) ∙ ap (λ (n : ℕ). advanceOf n table s z out) e);
+      asked = let e : most - 0 ≡ most = omega arith in sym (joined-none z out (advanceOf standard (most - 0) table s z out) ∙ ap (λ (n : ℕ). advanceOf standard n table s z out) e);
     }
 
 pub going-last : (table s : List ℕ) (z₀ : Session) (out₀ : List ℕ) (most : ℕ) (z : Session) (out : List ℕ) (used events records : ℕ) → Going table s z₀ out₀ most z out used events records
-    → most ≤ events → soFar z events records out ≡ advanceOf most table s z₀ out₀
+    → most ≤ events → soFar z events records out ≡ advanceOf standard most table s z₀ out₀
 going-last table s z₀ out₀ most z out used events records g h =
     let e : most - events ≡ 0 = omega arith in
     sym (g .asked ∙ ap (λ (n : ℕ). further n table s (soFar z events records out)) e ∙ further-none table s z events records out)
@@ -80,14 +80,14 @@ going-last table s z₀ out₀ most z out used events records g h =
 pub record Turned (table s : List ℕ) (z₀ : Session) (out₀ : List ℕ) (most : ℕ) (out : List ℕ) (used events records : ℕ) (r : Step) : Type 0 where
   pub room : used + 16 * r .answer .records ≤ length out
   pub stops : (out′ : List ℕ) → out′ ≡ take used out ++ r .output → (r .answer .number ≡ 0 → ⊥)
-      → stepAs (r .answer .number) (r .answer .place) (r .session) events records out′ ≡ advanceOf most table s z₀ out₀
+      → stepAs (r .answer .number) (r .answer .place) (r .session) events records out′ ≡ advanceOf standard most table s z₀ out₀
   pub goes : (out′ : List ℕ) → out′ ≡ take used out ++ r .output → r .answer .number ≡ 0
       → Going table s z₀ out₀ most (r .session) out′ (used + 16 * r .answer .records) (events + 1) (records + r .answer .records)
 
 module _ (table s : List ℕ) (z₀ : Session) (out₀ : List ℕ) (most : ℕ) (z : Session) (out : List ℕ) (used events records : ℕ) (g : Going table s z₀ out₀ most z out used events records)
     (more : events < most) (accepted : Accepted table ≡ true) (short : length s ≤ 16777215) (lent : List ℕ) (l : lent ≡ drop used out)
     (r : Step) (q : r ≡ planned (planOf (decode table) s z) z lent) where
-  turn-step : stepOf table s z (drop (16 * records) out) ≡ r
+  turn-step : stepOf standard table s z (drop (16 * records) out) ≡ r
   turn-step =
       sym (q ∙ ap (planned (planOf (decode table) s z) z) (l ∙ ap (λ (n : ℕ). drop n out) (sym (g .counted))) ∙ step-planned table s z (drop (16 * records) out) accepted short (sound-coherent (decode table) s z (g .sound)))
 
@@ -106,7 +106,7 @@ module _ (table s : List ℕ) (z₀ : Session) (out₀ : List ℕ) (most : ℕ) 
   turn-room : used + 16 * r .answer .records ≤ length out
   turn-room = omega (arith, turn-roomed .room, ap length l, length-drop used out, g .used-in)
 
-  turn-asked : advanceOf most table s z₀ out₀ ≡ further (suc left) table s (soFar z events records out)
+  turn-asked : advanceOf standard most table s z₀ out₀ ≡ further (suc left) table s (soFar z events records out)
   turn-asked = g .asked ∙ ap (λ (n : ℕ). further n table s (soFar z events records out)) turn-left
 
   module _ (out′ : List ℕ) (whole : out′ ≡ take used out ++ r .output) where
@@ -117,7 +117,7 @@ module _ (table s : List ℕ) (z₀ : Session) (out₀ : List ℕ) (most : ℕ) 
     turn-length =
         omega (arith, ap length whole, length-append (take used out) (r .output), length-take-le used out (g .used-in), turn-roomed .same, ap length l, length-drop used out, g .used-in)
 
-    turn-stops : (r .answer .number ≡ 0 → ⊥) → stepAs (r .answer .number) (r .answer .place) (r .session) events records out′ ≡ advanceOf most table s z₀ out₀
+    turn-stops : (r .answer .number ≡ 0 → ⊥) → stepAs (r .answer .number) (r .answer .place) (r .session) events records out′ ≡ advanceOf standard most table s z₀ out₀
     turn-stops n = rw turn-out (sym (turn-asked ∙ further-stops left table s z events records out turn-inside r turn-step n))
 
     turn-goes : r .answer .number ≡ 0 → Going table s z₀ out₀ most (r .session) out′ (used + 16 * r .answer .records) (events + 1) (records + r .answer .records)
@@ -142,12 +142,12 @@ loop-sound table index s known head levels bindings r =
 -- ---- a first step that is refused
 -- any advance by some step is it
 module _ (most : ℕ) (some : 1 ≤ most) (table s : List ℕ) (z : Session) (out : List ℕ) where
-  first-stops : (stepOf table s z out .answer .number ≡ 0 → ⊥) → advanceOf most table s z out ≡ stepOf table s z out
+  first-stops : (stepOf standard table s z out .answer .number ≡ 0 → ⊥) → advanceOf standard most table s z out ≡ stepOf standard table s z out
   first-stops k =
       let one : most ≡ suc (most - 1) = omega arith in
-      ap (λ (i : ℕ). advanceOf i table s z out) one ∙ advance-stops (most - 1) table s z out (stepOf table s z out) refl k
+      ap (λ (i : ℕ). advanceOf standard i table s z out) one ∙ advance-stops (most - 1) table s z out (stepOf standard table s z out) refl k
 
-  first-refused : (n p : ℕ) → (n ≡ 0 → ⊥) → refusedStep n p z out ≡ stepOf table s z out → refusedStep n p z out ≡ advanceOf most table s z out
+  first-refused : (n p : ℕ) → (n ≡ 0 → ⊥) → refusedStep n p z out ≡ stepOf standard table s z out → refusedStep n p z out ≡ advanceOf standard most table s z out
   first-refused n p k e = e ∙ sym (first-stops (λ i. k (ap (λ (x : Step). x .answer .number) e ∙ i)))
 
 -- ---- behind judge and 7
@@ -156,7 +156,7 @@ module _ (table s : List ℕ) (header : Header) (z : Session) (head-is : header 
   judged-coherent : r ≡ coherent (decode table) s z
   judged-coherent = q ∙ ap (λ (h : Header). coherent (tableOf table h) s z) head-is
 
-  pub from-refused : (most : ℕ) (out : List ℕ) → 1 ≤ most → not r ≡ true → refusedStep 20 0 z out ≡ advanceOf most table s z out
+  pub from-refused : (most : ℕ) (out : List ℕ) → 1 ≤ most → not r ≡ true → refusedStep 20 0 z out ≡ advanceOf standard most table s z out
   from-refused most out m n =
       first-refused most m table s z out 20 0 (λ e. absurd (omega arith)) (step-incoherent table s z out accepted short (sym judged-coherent ∙ not-true r n))
 
@@ -174,14 +174,14 @@ parted head all levels bindings spaces strands en es ew =
 pub next-advanced : (most : ℕ) (table s : List ℕ) (z : Session) (head : Head) (all : List ℕ) (r : Advanced) (a : Answer) (z′ : Session) (levels bindings out′ out : List ℕ)
     → head ≡ headOf z → levelNames all ≡ z .scope .levels → levelSpaces all ≡ z .spaces → levelStrands all ≡ z .strands
     → a ≡ advancedAnswer r → z′ ≡ sessionAt (r .head) levels bindings
-    → advancedIn r levels bindings out′ ≡ advanceOf most table s (sessionAt head all (z .scope .bindings)) out
-    → handed (record { answer = a; session = z′ }) out′ ≡ advanceOf most table s z out
+    → advancedIn r levels bindings out′ ≡ advanceOf standard most table s (sessionAt head all (z .scope .bindings)) out
+    → handed (record { answer = a; session = z′ }) out′ ≡ advanceOf standard most table s z out
 next-advanced most table s z head all r a z′ levels bindings out′ out eh en es ew ea ez q =
     ap (λ (x : Answer). handed (record { answer = x; session = z′ }) out′) ea
     ∙ ap (λ (x : Session). handed (record { answer = advancedAnswer r; session = x }) out′) ez
     ∙ q
-    ∙ ap (λ (h : Head). advanceOf most table s (sessionAt h all (z .scope .bindings)) out) eh
-    ∙ ap (λ (x : Session). advanceOf most table s x out) (sym (parted (headOf z) all (z .scope .levels) (z .scope .bindings) (z .spaces) (z .strands) (sym en) (sym es) (sym ew)))
+    ∙ ap (λ (h : Head). advanceOf standard most table s (sessionAt h all (z .scope .bindings)) out) eh
+    ∙ ap (λ (x : Session). advanceOf standard most table s x out) (sym (parted (headOf z) all (z .scope .levels) (z .scope .bindings) (z .spaces) (z .strands) (sym en) (sym es) (sym ew)))
 
 -- ---- before that
 module _ (table s : List ℕ) (a : Answer) (q : a ≡ judged table) where
@@ -195,19 +195,19 @@ module _ (table s : List ℕ) (a : Answer) (q : a ≡ judged table) where
   then-accepted e = eq-eqb (judged table .number) 0 (number-zero e)
 
   module _ (most : ℕ) (some : 1 ≤ most) (z : Session) (out : List ℕ) (b : Answer) where
-    pub advance-refused : (a .number ≡ 0 → ⊥) → b ≡ answered (a .number) (a .place) 0 0 → handed (record { answer = b; session = z }) out ≡ advanceOf most table s z out
+    pub advance-refused : (a .number ≡ 0 → ⊥) → b ≡ answered (a .number) (a .place) 0 0 → handed (record { answer = b; session = z }) out ≡ advanceOf standard most table s z out
     advance-refused n e =
         ap (λ (x : Answer). handed (record { answer = x; session = z }) out) (e ∙ ap (λ (x : Answer). answered (x .number) (x .place) 0 0) q)
         ∙ first-refused most some table s z out (judged table .number) (judged table .place) (judged-zero n) (step-judged table s z out (judged-zero n))
 
-    pub advance-too-long : a .number ≡ 0 → 16777215 < length s → b ≡ answered 7 0 0 0 → handed (record { answer = b; session = z }) out ≡ advanceOf most table s z out
+    pub advance-too-long : a .number ≡ 0 → 16777215 < length s → b ≡ answered 7 0 0 0 → handed (record { answer = b; session = z }) out ≡ advanceOf standard most table s z out
     advance-too-long e h f =
         ap (λ (x : Answer). handed (record { answer = x; session = z }) out) f
         ∙ first-refused most some table s z out 7 0 (λ e. absurd (omega arith)) (step-long table s z out (number-zero e) h)
 
-pub advance-none : (table s : List ℕ) (z : Session) (out : List ℕ) (most : ℕ) (b : Answer) → most ≡ 0 → b ≡ answered 0 (z .place) 0 0 → handed (record { answer = b; session = z }) out ≡ advanceOf most table s z out
+pub advance-none : (table s : List ℕ) (z : Session) (out : List ℕ) (most : ℕ) (b : Answer) → most ≡ 0 → b ≡ answered 0 (z .place) 0 0 → handed (record { answer = b; session = z }) out ≡ advanceOf standard most table s z out
 unfolding advanceOf
-advance-none table s z out most b m e = ap (λ (x : Answer). handed (record { answer = x; session = z }) out) e ∙ ap (λ (n : ℕ). advanceOf n table s z out) (sym m)
+advance-none table s z out most b m e = ap (λ (x : Answer). handed (record { answer = x; session = z }) out) e ∙ ap (λ (n : ℕ). advanceOf standard n table s z out) (sym m)
 
 -- no step: numbers and arrays as they were
 pub none-advanced : (r : Advanced) (head : Head) (levels bindings out : List ℕ) (x : Step) → r .head ≡ head
@@ -217,7 +217,7 @@ none-advanced r head levels bindings out x e q =
     ap (λ (h : Head). handed (record { answer = advancedAnswer r; session = sessionAt h levels bindings }) out) e ∙ q
 
 -- ---- a run
-too-long-stops : (table s : List ℕ) (z : Session) (out : List ℕ) → 16777215 < length s → stepOf table s z out .answer .number ≡ 0 → ⊥
+too-long-stops : (table s : List ℕ) (z : Session) (out : List ℕ) → 16777215 < length s → stepOf standard table s z out .answer .number ≡ 0 → ⊥
 unfolding stepOf
 too-long-stops table s z out h =
     rw (lt-ltb 16777215 (length s) h)
@@ -232,18 +232,18 @@ fresh-arrays =
 
 -- a scene that is too long is refused by the first step, so that any number of them will do
 pub run-within : (table s out : List ℕ) (most : ℕ) → 1 ≤ most → (length s ≤ 16777215 → most ≡ 2 * length s + 2) → (head : Head) → head ≡ headOf freshOf → (r : Advanced) (a : Answer) (levels bindings out′ : List ℕ)
-    → a ≡ advancedAnswer r → advancedIn r levels bindings out′ ≡ advanceOf most table s (sessionAt head (replicate 1536 0) (replicate 256 0)) out → ran a out′ ≡ runOf table s out
+    → a ≡ advancedAnswer r → advancedIn r levels bindings out′ ≡ advanceOf standard most table s (sessionAt head (replicate 1536 0) (replicate 256 0)) out → ran a out′ ≡ runOf standard table s out
 unfolding runOf
 run-within table s out most some enough head fresh r a levels bindings out′ ea q =
     ap (λ (x : Answer). ran x out′) ea
     ∙ ap runBy
     (q
-    ∙ ap (λ (h : Head). advanceOf most table s (sessionAt h (replicate 1536 0) (replicate 256 0)) out) fresh
-    ∙ ap (λ (x : Session). advanceOf most table s x out) fresh-arrays
+    ∙ ap (λ (h : Head). advanceOf standard most table s (sessionAt h (replicate 1536 0) (replicate 256 0)) out) fresh
+    ∙ ap (λ (x : Session). advanceOf standard most table s x out) fresh-arrays
     ∙ by (ltb 16777215 (length s)) refl)
   where
-    by : (b : Bool) → ltb 16777215 (length s) ≡ b → advanceOf most table s freshOf out ≡ advanceOf (2 * length s + 2) table s freshOf out
+    by : (b : Bool) → ltb 16777215 (length s) ≡ b → advanceOf standard most table s freshOf out ≡ advanceOf standard (2 * length s + 2) table s freshOf out
     by true e =
         let stops = too-long-stops table s freshOf out (ltb-true 16777215 (length s) e) in
         first-stops most some table s freshOf out stops ∙ sym (first-stops (2 * length s + 2) (omega arith) table s freshOf out stops)
-    by false e = ap (λ (n : ℕ). advanceOf n table s freshOf out) (enough (ltb-false 16777215 (length s) e))
+    by false e = ap (λ (n : ℕ). advanceOf standard n table s freshOf out) (enough (ltb-false 16777215 (length s) e))

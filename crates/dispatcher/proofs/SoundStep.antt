@@ -13,7 +13,7 @@ use lib.Dec.{leb, ltb}
 use Rattle.laws.specs.Members.{All}
 use Rattle.laws.proofs.Elementwise.{each-map}
 use Rattle.laws.proofs.Holds.{holds-cond}
-use Rattle.table.specs.Table.{Table, decode}
+use Rattle.table.specs.Table.{Table, decode, standard}
 use Rattle.table.specs.Judge.{Accepted}
 use Rattle.reader.specs.Events as reading
 use Rattle.reader.specs.Held.{Held}
@@ -145,7 +145,7 @@ module _ (table : List ℕ) (accepted : Accepted table ≡ true) (s : List ℕ) 
       holds-cond (StepKept (decode table) s) (ltb (length out) (16 * length rs)) (λ e. record { not-20 = omega arith; sound = h })
       (λ e. record { not-20 = omega arith; sound = sound-step short p rs z″ q })
 
-  pub step-kept : (out : List ℕ) → StepKept (decode table) s (stepOf table s z out)
+  pub step-kept : (out : List ℕ) → StepKept (decode table) s (stepOf standard table s z out)
   unfolding stepOf
   step-kept out =
       rw (accepted, sound-coherent (decode table) s z h)

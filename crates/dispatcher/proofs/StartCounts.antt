@@ -20,7 +20,6 @@ use Rattle.laws.specs.Members.{All}
 use Rattle.laws.specs.Over.{overwrite}
 use Rattle.laws.specs.Reading.{le-or-lt}
 use Rattle.laws.proofs.Elementwise as elementwise
-use Rattle.laws.proofs.Elementwise.{each-map}
 use Rattle.laws.proofs.Holds.{each-at}
 use Rattle.table.specs.Table.{Table, headerOf, decode}
 use Rattle.table.specs.Index.{indexOf}
@@ -48,6 +47,7 @@ use Rattle.strands.proofs.Entered.{SchemaSmall, EntryPackable, laid-back}
 use Rattle.dispatcher.specs.Sessions.{stateOf}
 use Rattle.dispatcher.specs.declared.Session.{Session}
 use Rattle.openings.proofs.Deciding.{wordsOf, loadUnits, loadRecords}
+use Rattle.dispatcher.proofs.NewStrands.{ModeIn}
 
 -- ---- counts
 counted-few : (n : ℕ) → n ≤ 16 → counted n ≡ n
@@ -115,11 +115,9 @@ module _ (table : List ℕ) (a : Accepted table ≡ true) (s : List ℕ) (z : Se
   unfolding written
   written-length = length-append (attributesFrom (λ (n : ℕ). n) (z .units) (unitsOf (dispatch t) σ es)) (gather (startRecords (dispatch t) σ) (entered (dispatch t) state σ))
 
-  modes-in : (xs : List Entry) → All EntryPackable xs → All (λ (x : Entry). x .strand .mode < 32) xs
-  modes-in = each-map EntryPackable (λ (x : Entry). x .strand .mode < 32) (λ x p. p .mode-in)
-
   -- ---- units and records
-  module _ (pack : All EntryPackable (entriesAt (dispatch (decode table)) (stateOf (decode table) s z .levels) (elementOf (decode table) s e))) where
+  module _ (modes : All (ModeIn (decode table .modes)) (entriesAt (dispatch (decode table)) (stateOf (decode table) s z .levels) (elementOf (decode table) s e)))
+      (pack : All EntryPackable (entriesAt (dispatch (decode table)) (stateOf (decode table) s z .levels) (elementOf (decode table) s e))) where
     abbrev unitsIn : ℕ → List (AttributeUnit Body)
     unitsIn mode = strandUnits index (σ .at) (allOf σ) m mode
 
@@ -128,7 +126,7 @@ module _ (table : List ℕ) (a : Accepted table ≡ true) (s : List ℕ) (z : Se
         gather-map (λ (w : ℕ). unitsIn (strandIn w .mode)) strandWord es
         ∙ elementwise.gather-same EntryPackable (λ (x : Entry). unitsIn (strandIn (strandWord x) .mode)) (λ (x : Entry). unitsIn (x .strand .mode))
         (λ x p. ap (λ (r : HeldStrand ℕ). unitsIn (r .mode)) (packed-back (x .strand) p)) es pack
-        ∙ tag-units-are table (headerOf table) (header-in table a .few-rules) σ (element-classed table a s e) es (modes-in es pack)
+        ∙ tag-units-are table (headerOf table) (header-in table a .few-rules) (header-in table a .few-modes) σ (element-classed table a s e) es modes
 
     pub units-loaded : loadUnits index (allOf σ) m (map strandWord es) ≡ length (unitsOf (dispatch t) σ es)
     units-loaded = sym (tag-length index (σ .at) (allOf σ) m (map strandWord es)) ∙ ap length tag-is
@@ -138,7 +136,7 @@ module _ (table : List ℕ) (a : Accepted table ≡ true) (s : List ℕ) (z : Se
         sym (tag-records index (σ .at) (allOf σ) m (map strandWord es) (z .units))
         ∙ ap (λ (us : List (AttributeUnit Body)). length (attributesFrom (λ (n : ℕ). n) (z .units) us)) tag-is
 
-  pub element-records : (xs : List Entry) → All EntryPackable xs → total (elementCount index (allOf σ)) xs ≡ length (gather (startRecords (dispatch t) σ) xs)
-  element-records xs p =
+  pub element-records : (xs : List Entry) → All (ModeIn (decode table .modes)) xs → total (elementCount index (allOf σ)) xs ≡ length (gather (startRecords (dispatch t) σ) xs)
+  element-records xs modes =
       sym (elements-length index (σ .at) (startBody σ) (allOf σ) xs)
-      ∙ ap length (starts-are table (headerOf table) (header-in table a .few-rules) σ (element-classed table a s e) xs (startBody σ) (modes-in xs p) refl)
+      ∙ ap length (starts-are table (headerOf table) (header-in table a .few-rules) (header-in table a .few-modes) σ (element-classed table a s e) xs (startBody σ) modes refl)

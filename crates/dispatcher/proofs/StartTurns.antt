@@ -18,7 +18,6 @@ use Rattle.laws.specs.Reading.{le-or-lt}
 use Rattle.laws.specs.Lists.{tabulate}
 use Rattle.laws.specs.Gather.{gather}
 use Rattle.laws.specs.Members.{All}
-use Rattle.laws.proofs.Elementwise.{each-map}
 use Rattle.table.specs.Table.{Table, decode, headerOf}
 use Rattle.table.specs.Index.{indexOf}
 use Rattle.table.specs.Judge.{Accepted}
@@ -52,11 +51,11 @@ use Rattle.dispatcher.specs.Turns.{Innermost, TurnReady, Made}
 use Rattle.dispatcher.specs.declared.Session.{Session}
 use Rattle.dispatcher.specs.declared.Head.{Head}
 use Rattle.openings.specs.declared.Decided.{Decided}
-use Rattle.dispatcher.proofs.Sound.{StrandSound, LevelSound}
+use Rattle.dispatcher.proofs.Sound.{LevelSound}
 use Rattle.dispatcher.proofs.SoundCoherent.{strands-counted}
 use Rattle.dispatcher.proofs.Clauses.{Clauses, clauses}
-use Rattle.dispatcher.proofs.CoherentSound.{levels-each, name-held, level-sound, awaited-open}
-use Rattle.dispatcher.proofs.NewStrands.{new-strands}
+use Rattle.dispatcher.proofs.CoherentSound.{name-held, level-sound, levels-sound, awaited-open}
+use Rattle.dispatcher.proofs.NewStrands.{ModeIn, allot-modes, entry-modes}
 use Rattle.dispatcher.proofs.TagMeant.{next-begun}
 
 -- ---- a session that number 20 accepts
@@ -77,9 +76,6 @@ module _ (t : Table) (s : List ℕ) (z : Session) (c : Clauses t s z) where
       none-open l =
           let e : z .scope .depth ≡ 0 = omega arith in
           absurd (awaited-open t s z c (z .awaited) (c .awaited) a (ap (λ (d : ℕ). opensIn (z .scope .levels) (z .scope .bindings) d (z .scope .bound)) e))
-
-  levels-sound : All (LevelSound t s (z .units)) (stateOf t s z .levels)
-  levels-sound = levels-each t s z (LevelSound t s (z .units)) (z .scope .depth) (level-sound t s z c)
 
   bound-few : z .scope .bound ≤ 64
   bound-few = leb-true (z .scope .bound) 64 (c .bound)
@@ -129,9 +125,6 @@ module _ (t : Table) (s : List ℕ) (z₁ : Session) (e : Start) (own : List Bin
   bound-plan h k = rw (lt-leb 64 (z₁ .scope .depth) h, lt-ltb 64 (z₁ .scope .bound + length own) k)
 
 -- ---- what is decided can be written
-map-each : {A B : Type 0} (P : B → Type 0) (f : A → B) (l : List A) → All P (map f l) → All (λ (x : A). P (f x)) l
-map-each P f [] h = tt
-map-each P f (x ∷ l) h = (h .0, map-each P f l (h .1))
 
 -- the strands of words are those of entries
 words-entries : {B : Type 0} (f : ℕ → List B) (words schemas : List ℕ) (k n : ℕ)
@@ -165,11 +158,8 @@ module _ (table : List ℕ) (header : Header) (index s : List ℕ) (z : Session)
   abbrev es : List Entry
   es = entered (dispatch t) (stateOf t s z) σ
 
-  modes-few : All (λ (x : Entry). x .strand .mode < 32) es
-  modes-few =
-      each-map (λ (x : Entry). StrandSound t (after (dispatch t) (stateOf t s z) (start σ) .units) (x .strand)) (λ (x : Entry). x .strand .mode < 32)
-      (λ x k. omega (arith, k .mode-in, header-in table (r .accepted) .few-modes)) es
-      (map-each (StrandSound t (after (dispatch t) (stateOf t s z) (start σ) .units)) (λ (x : Entry). x .strand) es (new-strands table (r .accepted) s (stateOf t s z) σ (levels-sound t s z (clauses t s z (r .coherent′)))))
+  modes-in : All (ModeIn (t .modes)) es
+  modes-in = allot-modes (t .modes) _ (entriesAt (dispatch t) (stateOf t s z .levels) σ) (entry-modes table (r .accepted) s (stateOf t s z) σ (levels-sound t s z (clauses t s z (r .coherent′))))
 
   units-are : arrayUnits index attributes sections words (σ .at) d ≡ unitsOf (dispatch t) σ (entriesAt (dispatch t) (stateOf t s z .levels) σ)
   unfolding entriesIn
@@ -178,7 +168,7 @@ module _ (table : List ℕ) (header : Header) (index s : List ℕ) (z : Session)
       ∙ ap (tagUnits index (σ .at) _ (d .sections)) (m .entries-are)
       ∙ ap₂ (λ (l : List Sorted) (n : ℕ). tagUnits index (σ .at) l n es) (m .attributes-are) (m .sections-are)
       ∙ ap (λ (i : List ℕ). tagUnits i (σ .at) (allOf σ) (length (groupsOf σ)) es) (r .index-is ∙ ap (indexOf table) (r .header-is))
-      ∙ tag-units-are table (headerOf table) (header-in table (r .accepted) .few-rules) σ (element-classed table (r .accepted) s e) es modes-few
+      ∙ tag-units-are table (headerOf table) (header-in table (r .accepted) .few-rules) (header-in table (r .accepted) .few-modes) σ (element-classed table (r .accepted) s e) es modes-in
       ∙ allot-gather (λ (k : ℕ). dispatch t .attributeUnits k σ) _ (entriesAt (dispatch t) (stateOf t s z .levels) σ)
 
   units-fit : z .units + length (arrayUnits index attributes sections words (σ .at) d) ≤ 65536

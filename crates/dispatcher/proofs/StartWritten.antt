@@ -1,6 +1,6 @@
 -- The records that a start writes, from its strands and attributes as the arrays hold them, are the stream's.
 --     numbered-units     numbering the new units leaves the attribute units
---     entered-modes      each strand has a mode of the table
+--     modes-in      each strand has a mode of the table
 --     written-is
 use Prim.Native.Nat.{ℕ, zero, suc, _≤_, _<_}
 use mathlib.Core.Path.{_≡_, refl, ap, ap₂, _∙_}
@@ -38,8 +38,8 @@ use Rattle.openings.specs.Openings.{arrayUnits}
 use Rattle.dispatcher.specs.Turns.{Made}
 use Rattle.dispatcher.specs.declared.Session.{Session}
 use Rattle.openings.specs.declared.Decided.{Decided}
-use Rattle.dispatcher.proofs.Sound.{StrandSound, LevelSound}
-use Rattle.dispatcher.proofs.NewStrands.{new-strands}
+use Rattle.dispatcher.proofs.Sound.{LevelSound}
+use Rattle.dispatcher.proofs.NewStrands.{ModeIn, allot-modes, entry-modes}
 
 -- ---- by modes alone
 module _ {B : Type 0} (f : ℕ → List B) where
@@ -59,10 +59,6 @@ module _ {B : Type 0} (f : ℕ → List B) where
   words-units words schemas k zero = refl
   words-units words schemas k (suc n) = ap (λ (l : List B). f (strandIn (getD words k 0) .mode) ++ l) (words-units words schemas (suc k) n)
 
-entry-modes : (t : Table) (u : ℕ) (es : List Entry) → t .modes ≤ 32 → All (StrandSound t u) (map (λ (e : Entry). e .strand) es) → All (λ (e : Entry). e .strand .mode < 32) es
-entry-modes t u [] m h = tt
-entry-modes t u (e ∷ es) m h = (omega (arith, h .0 .mode-in), entry-modes t u es m (h .1))
-
 module _ (table s : List ℕ) (z : Session) (e : Start) (ok : Accepted table ≡ true) (sound : All (LevelSound (decode table) s (z .units)) (stateOf (decode table) s z .levels)) where
   abbrev t : Table
   t = decode table
@@ -73,8 +69,8 @@ module _ (table s : List ℕ) (z : Session) (e : Start) (ok : Accepted table ≡
   abbrev es : List Entry
   es = entered (dispatch t) (stateOf t s z) σ
 
-  entered-modes : All (λ (x : Entry). x .strand .mode < 32) es
-  entered-modes = entry-modes t _ es (header-in table ok .few-modes) (new-strands table ok s (stateOf t s z) σ sound)
+  modes-in : All (ModeIn (t .modes)) es
+  modes-in = allot-modes (t .modes) _ (entriesAt (dispatch t) (stateOf t s z .levels) σ) (entry-modes table ok s (stateOf t s z) σ sound)
 
   module _ (index attributes sections words schemas : List ℕ) (b : Begun) (r : Decided) (made : Made (decode table) s z (elementOf (decode table) s e) r words schemas attributes sections) (index-is : index ≡ indexOf table (headerOf table)) (tag-is : b .tag ≡ elementOf (decode table) s e .at) (body-is : begunBody b ≡ startBody (elementOf (decode table) s e)) where
     units-written : arrayUnits index attributes sections words (b .tag) r ≡ unitsOf (dispatch t) σ (entriesAt (dispatch t) (stateOf t s z .levels) σ)
@@ -84,7 +80,7 @@ module _ (table s : List ℕ) (z : Session) (e : Start) (ok : Accepted table ≡
         ∙ ap (tagUnits index (b .tag) (allSorted attributes sections (r .attributes)) (r .sections)) (made .entries-are)
         ∙ ap₂ (λ (i : List ℕ) (k : ℕ). tagUnits i k (allSorted attributes sections (r .attributes)) (r .sections) es) index-is tag-is
         ∙ ap₂ (λ (l : List Sorted) (m : ℕ). tagUnits (indexOf table (headerOf table)) (σ .at) l m es) (made .attributes-are) (made .sections-are)
-        ∙ tag-units-are table (headerOf table) (header-in table ok .few-rules) σ (element-classed table ok s e) es entered-modes
+        ∙ tag-units-are table (headerOf table) (header-in table ok .few-rules) (header-in table ok .few-modes) σ (element-classed table ok s e) es modes-in
         ∙ numbered-units (λ (mode : ℕ). attributeUnits t mode σ) _ (entriesAt (dispatch t) (stateOf t s z .levels) σ)
 
     strands-written : strandRecords index attributes sections words schemas b r ≡ gather (startRecords (dispatch t) σ) es
@@ -92,7 +88,7 @@ module _ (table s : List ℕ) (z : Session) (e : Start) (ok : Accepted table ≡
         ap (gather (elementRecords index (b .tag) (begunBody b) (allSorted attributes sections (r .attributes)))) (made .entries-are)
         ∙ ap₂ (λ (i : List ℕ) (k : ℕ). gather (elementRecords i k (begunBody b) (allSorted attributes sections (r .attributes))) es) index-is tag-is
         ∙ ap (λ (l : List Sorted). gather (elementRecords (indexOf table (headerOf table)) (σ .at) (begunBody b) l) es) (made .attributes-are)
-        ∙ starts-are table (headerOf table) (header-in table ok .few-rules) σ (element-classed table ok s e) es (begunBody b) entered-modes body-is
+        ∙ starts-are table (headerOf table) (header-in table ok .few-rules) (header-in table ok .few-modes) σ (element-classed table ok s e) es (begunBody b) modes-in body-is
 
     pub written-is : unitRecords index attributes sections words (b .tag) (z .units) r ++ strandRecords index attributes sections words schemas b r
         ≡ written (dispatch (decode table)) (stateOf (decode table) s z) (start (elementOf (decode table) s e))

@@ -6,7 +6,7 @@ use mathlib.Core.Bool.{Bool, true, false}
 use lib.ListN.{length, drop, replicate, set}
 use Rattle.laws.specs.Gather.{gather}
 use Rattle.laws.specs.Text.{bytes}
-use Rattle.table.specs.Table.{Table, decode}
+use Rattle.table.specs.Table.{Table, standard, decode}
 use Rattle.table.specs.Examples.{T}
 use Rattle.model.specs.Rows.{row}
 use Rattle.dispatcher.specs.Sessions.{freshOf}
@@ -89,7 +89,7 @@ blank = replicate 32 7
 
 -- the session fails this clause alone, and the step gives 20
 abbrev Alone : ℕ → List ℕ → Session → Type 0
-Alone k s z = (clauses (decode T) s z ≡ allBut k) × (stepOf T s z blank ≡ refusedStep 20 0 z blank)
+Alone k s z = (clauses (decode T) s z ≡ allBut k) × (stepOf standard T s z blank ≡ refusedStep 20 0 z blank)
 
 abbrev Passes : Session → Type 0
 Passes z = coherent (decode T) A z ≡ true
@@ -98,14 +98,14 @@ Passes z = coherent (decode T) A z ≡ true
 abbrev Steps : Session → ℕ → List (List ℕ) → ℕ → Type 0
 Steps z place rows depth =
     Passes z
-    × (stepOf T A z blank .answer ≡ answered 0 place 1 (length rows))
-    × (stepOf T A z blank .output ≡ gather (λ (r : List ℕ). r) rows ++ drop (16 * length rows) blank)
-    × (stepOf T A z blank .session .place ≡ place)
-    × (stepOf T A z blank .session .scope .depth ≡ depth)
+    × (stepOf standard T A z blank .answer ≡ answered 0 place 1 (length rows))
+    × (stepOf standard T A z blank .output ≡ gather (λ (r : List ℕ). r) rows ++ drop (16 * length rows) blank)
+    × (stepOf standard T A z blank .session .place ≡ place)
+    × (stepOf standard T A z blank .session .scope .depth ≡ depth)
 
 -- the session that the first step hands back
 abbrev First : Type 0
-First = stepOf T A freshOf blank .session ≡ placedAt 13
+First = stepOf standard T A freshOf blank .session ≡ placedAt 13
 
 -- "depth over 64". The 65th level lies behind arrays of 64 levels, so that arrays of 65 show the clause alone; in arrays of 64 the level has no name
 abbrev deep : List ℕ → List ℕ → List ℕ → Session
@@ -114,7 +114,7 @@ deep levels spaces strands = made 13 1 false false 65 1 levels bindings spaces s
 abbrev Depth : Type 0
 Depth =
     Alone 0 A (deep (1 ∷ 1 ∷ 1 ∷ gather (λ (k : ℕ). 1 ∷ 1 ∷ 0 ∷ []) (replicate 64 0)) (gather (λ (k : ℕ). 1 ∷ 0 ∷ 0 ∷ 1 ∷ []) (replicate 65 0)) (replicate 1040 449))
-    × (stepOf T A (deep levels spaces strands) blank ≡ refusedStep 20 0 (deep levels spaces strands) blank)
+    × (stepOf standard T A (deep levels spaces strands) blank ≡ refusedStep 20 0 (deep levels spaces strands) blank)
 
 -- "over 64 bindings": 64 times xmlns="" behind the first
 abbrev Bound : Type 0
@@ -195,15 +195,19 @@ Ends =
     × Steps (strand 18 417) 22 [] 0
     × Steps (strand 18 129) 22 [] 0
 
+-- <x/> as a section of its own, for which mode 1 has no rule: rejected (N3), in unit 1
+abbrev rejected : List (List ℕ)
+rejected = row 1 0 255 14 0 0 0 ∷ row 1 1 1 15 1 0 0 ∷ []
+
 -- a level's namespace, held against that of <x/>, which is u: the table's for class 1, the bytes of its span for 255, the empty URI for 0, xml's
--- for 254. In its section x is written; as a section of its own, for which mode 1 has no rule, it is not
+-- for 254. In its section x is written to unit 0; as a section of its own it is rejected
 abbrev Namespaces : Type 0
 Namespaces =
     Steps (spaced 14 1 0 0 1) 18 (row 0 1 1 15 1 0 0 ∷ []) 2
     × Steps (spaced 14 255 10 1 1) 18 (row 0 1 1 15 1 0 0 ∷ []) 2
-    × Steps (spaced 14 255 3 5 1) 18 [] 2
-    × Steps (spaced 14 0 0 0 1) 18 [] 2
-    × Steps (spaced 14 254 0 0 1) 18 [] 2
+    × Steps (spaced 14 255 3 5 1) 18 rejected 2
+    × Steps (spaced 14 0 0 0 1) 18 rejected 2
+    × Steps (spaced 14 254 0 0 1) 18 rejected 2
 
 -- an awaited end ends the innermost level, wherever the place is
 abbrev Awaited : Type 0
@@ -217,7 +221,7 @@ Both = Steps (spaced 13 1 0 0 2) 14 (row 0 4 0 13 1 0 0 ∷ row 0 4 0 13 1 0 0 �
 abbrev Twice : Type 0
 Twice =
     Steps (made 14 1 false false 1 2 (1 ∷ 1 ∷ 2 ∷ replicate 189 0) (0 ∷ 0 ∷ 3 ∷ 5 ∷ 0 ∷ 0 ∷ 10 ∷ 1 ∷ replicate 248 0) spaces strands) 18 (row 0 1 1 15 1 0 0 ∷ []) 2
-    × Steps (made 14 1 false false 1 2 (1 ∷ 1 ∷ 2 ∷ replicate 189 0) (0 ∷ 0 ∷ 10 ∷ 1 ∷ 0 ∷ 0 ∷ 3 ∷ 5 ∷ replicate 248 0) spaces strands) 18 [] 2
+    × Steps (made 14 1 false false 1 2 (1 ∷ 1 ∷ 2 ∷ replicate 189 0) (0 ∷ 0 ∷ 10 ∷ 1 ∷ 0 ∷ 0 ∷ 3 ∷ 5 ∷ replicate 248 0) spaces strands) 18 (row 1 0 255 14 0 0 0 ∷ row 1 1 255 15 1 3 5 ∷ []) 2
 
 -- a place inside a tag is read as what stands there: the text x/>
 abbrev Inside : Type 0

@@ -6,7 +6,7 @@ use lib.ListN.{length, take, drop}
 use lib.Dec.{leb, ltb, eqb}
 use Rattle.laws.specs.Over.{overwrite}
 use Rattle.laws.specs.Gather.{gather}
-use Rattle.table.specs.Table.{Table, decode}
+use Rattle.table.specs.Table.{Table, Defaults, decodeBy}
 use Rattle.table.specs.Judge.{judged}
 use Rattle.table.specs.declared.Answer.{Answer}
 use Rattle.reader.specs.declared.Binding.{Binding}
@@ -106,13 +106,14 @@ weighed (event at records next) z = weighedEvent records next
 abbrev pub longest : ℕ
 longest = 16777215
 
--- "Order: 10 short, 11 header, 10, 11, 12, 7, 20; then 2, 3 or 1 by first byte; then 4; 5, 6, 21, 22, 23, 24; 25"
-unfoldable pub stepOf : List ℕ → List ℕ → Session → List ℕ → Step
-stepOf table s z out =
+-- "Order: 10 short, 11 header, 10, 11, 12, 7, 20; then 2, 3 or 1 by first byte; then 4; 5, 6, 21, 22, 23, 24; 25". Under these defaults; the calls are
+-- under the standard's
+unfoldable pub stepOf : Defaults → List ℕ → List ℕ → Session → List ℕ → Step
+stepOf d table s z out =
     cond (not (eqb (judged table .number) 0)) (refusedStep (judged table .number) (judged table .place) z out)
     (cond (ltb longest (length s)) (refusedStep 7 0 z out)
-    (cond (not (coherent (decode table) s z)) (refusedStep 20 0 z out)
-    (planned (planOf (decode table) s z) z out)))
+    (cond (not (coherent (decodeBy d table) s z)) (refusedStep 20 0 z out)
+    (planned (planOf (decodeBy d table) s z) z out)))
 
 -- "lends the rest of the output, from the records written so far, to each step"
 abbrev pub restOf : Step → List ℕ
@@ -129,11 +130,11 @@ joined first later =
     }
 
 -- Advance: steps from a session, "records joined, until a step's number is not 0" or so many were taken; "if 0 the new session's place"
-unfoldable pub advanceOf : ℕ → List ℕ → List ℕ → Session → List ℕ → Step
-advanceOf zero table s z out = record { answer = answered 0 (z .place) 0 0; session = z; output = out }
-advanceOf (suc n) table s z out =
-    let r = stepOf table s z out in
-    cond (eqb (r .answer .number) 0) (joined r (advanceOf n table s (r .session) (restOf r))) r
+unfoldable pub advanceOf : Defaults → ℕ → List ℕ → List ℕ → Session → List ℕ → Step
+advanceOf d zero table s z out = record { answer = answered 0 (z .place) 0 0; session = z; output = out }
+advanceOf d (suc n) table s z out =
+    let r = stepOf d table s z out in
+    cond (eqb (r .answer .number) 0) (joined r (advanceOf d n table s (r .session) (restOf r))) r
 
 -- What a run hands back: the answer and the output
 pub record Run : Type 0 where
@@ -144,8 +145,8 @@ abbrev pub runBy : Step → Run
 runBy r = record { answer = r .answer; output = r .output }
 
 -- "Run: steps from fresh, records joined, until a step's number is not 0": each event reads a byte or ends an awaited end, so that many steps suffice
-unfoldable pub runOf : List ℕ → List ℕ → List ℕ → Run
-runOf table s out = runBy (advanceOf (2 * length s + 2) table s freshOf out)
+unfoldable pub runOf : Defaults → List ℕ → List ℕ → List ℕ → Run
+runOf d table s out = runBy (advanceOf d (2 * length s + 2) table s freshOf out)
 
 -- what the calls hand back, with the output that they were lent
 abbrev pub handed : Stepped → List ℕ → Step

@@ -24,6 +24,7 @@ use table::words::header_of;
 ghost use mathlib.Core.Path.{_≡_};
 ghost use Prim.Native.Nat.{_+_, _*_, _≤_};
 ghost use lib.ListN.{length};
+ghost use Rattle.table.specs.Table.{standard};
 ghost use Rattle.strands.specs.Levels.{levelFree};
 ghost use Rattle.dispatcher.specs.Sessions.{freshOf, headOf, sessionAt};
 ghost use Rattle.dispatcher.specs.Stepping.{answered, stepOf, advanceOf, handed, runOf, ran};
@@ -133,14 +134,14 @@ impl Session {
 
     // One event: its records from the output's first byte on, and the session behind it.
     pub fn step(self, table: &[u8], scene: &[u8], out: &mut [u8]) -> Stepped
-        ensures { λ r. ⌜ handed r (now (out .exit)) ≡ stepOf (now (table .entry)) (now (scene .entry)) self (now (out .entry)) ⌝ }
+        ensures { λ r. ⌜ handed r (now (out .exit)) ≡ stepOf standard (now (table .entry)) (now (scene .entry)) self (now (out .entry)) ⌝ }
     {
         self.advance(table, scene, 1, out)
     }
 
     // At most so many steps, records joined, until a step's number is not 0. With none nothing is judged.
     pub fn advance(self, table: &[u8], scene: &[u8], most: usize, out: &mut [u8]) -> Stepped
-        ensures { λ r. ⌜ handed r (now (out .exit)) ≡ advanceOf most (now (table .entry)) (now (scene .entry)) self (now (out .entry)) ⌝ }
+        ensures { λ r. ⌜ handed r (now (out .exit)) ≡ advanceOf standard most (now (table .entry)) (now (scene .entry)) self (now (out .entry)) ⌝ }
     {
         let names = self.scope.levels;
         let spaces = self.spaces;
@@ -243,7 +244,7 @@ pub fn advance_in(
     ensures { λ r. ⌜ (
         let z = sessionAt head (now (levels .entry)) (now (bindings .entry)) in
         advancedIn r (now (levels .exit)) (now (bindings .exit)) (now (out .exit))
-        ≡ advanceOf most (now (table .entry)) (now (scene .entry)) z (now (out .entry))
+        ≡ advanceOf standard most (now (table .entry)) (now (scene .entry)) z (now (out .entry))
         ) ⌝ }
     ensures { λ _. ⌜ levelFree (now (levels .exit)) ≡ levelFree (now (levels .entry)) ⌝ }
 {
@@ -271,7 +272,7 @@ pub fn advance_in(
 
 // Steps from fresh, records joined, until a step's number is not 0.
 pub fn run(table: &[u8], scene: &[u8], out: &mut [u8]) -> Answer
-    ensures { λ r. ⌜ ran r (now (out .exit)) ≡ runOf (now (table .entry)) (now (scene .entry)) (now (out .entry)) ⌝ }
+    ensures { λ r. ⌜ ran r (now (out .exit)) ≡ runOf standard (now (table .entry)) (now (scene .entry)) (now (out .entry)) ⌝ }
 {
     let mut levels: [u32; LEVELS] = [0; LEVELS];
     let mut bindings: [u32; 4 * Session::BINDINGS] = [0; 4 * Session::BINDINGS];

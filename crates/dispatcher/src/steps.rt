@@ -30,7 +30,7 @@ ghost use mathlib.Core.List.{[]};
 ghost use mathlib.Core.Bool.{true};
 ghost use Prim.Native.Nat.{_≤_};
 ghost use lib.ListN.{length};
-ghost use Rattle.table.specs.Table.{decode, headerOf};
+ghost use Rattle.table.specs.Table.{decode, headerOf, standard};
 ghost use Rattle.table.specs.Judge.{Accepted};
 ghost use Rattle.strands.specs.Levels.{levelFree};
 ghost use Rattle.dispatcher.specs.Sessions.{sessionAt};
@@ -232,7 +232,7 @@ fn judged_steps(
     ensures { λ r. ⌜ (
         let z = sessionAt from (now (levels .entry)) (now (bindings .entry)) in
         advancedIn r (now (levels .exit)) (now (bindings .exit)) (now (out .exit))
-        ≡ advanceOf most (now (table .entry)) (now (scene .entry)) z (now (out .entry))
+        ≡ advanceOf standard most (now (table .entry)) (now (scene .entry)) z (now (out .entry))
         ) ⌝ }
     ensures { λ _. ⌜ levelFree (now (levels .exit)) ≡ levelFree (now (levels .entry)) ⌝ }
 {
@@ -303,7 +303,7 @@ pub(crate) fn steps_from(
     ensures { λ r. ⌜ (
         let z = sessionAt from (now (levels .entry)) (now (bindings .entry)) in
         advancedIn r (now (levels .exit)) (now (bindings .exit)) (now (out .exit))
-        ≡ advanceOf most (now (table .entry)) (now (scene .entry)) z (now (out .entry))
+        ≡ advanceOf standard most (now (table .entry)) (now (scene .entry)) z (now (out .entry))
         ) ⌝ }
     ensures { λ _. ⌜ levelFree (now (levels .exit)) ≡ levelFree (now (levels .entry)) ⌝ }
 {

@@ -13,7 +13,7 @@ use Rattle.laws.specs.Gather.{gather, total}
 use Rattle.laws.specs.Members.{All}
 use Rattle.laws.proofs.Gather.{gather-append, total-append}
 use Rattle.laws.proofs.Holds.{holds-cond}
-use Rattle.table.specs.Table.{Table, decode, rulesOf}
+use Rattle.table.specs.Table.{Table, decode, standard}
 use Rattle.table.specs.Judge.{judged, Accepted}
 use Rattle.reader.specs.Events as scene
 use Rattle.reader.specs.Events.{events}
@@ -135,7 +135,7 @@ module _ (t : Table) (s : List ℕ) where
         ∙ ap (total heldIn) units-pieces
         ∙ total-mapped heldIn unitPieces (attributesAt (dispatch t) (streamAfter t s k) event)
 
-    module _ (one : (m : ℕ) (e : Element) → OneKeeps (rulesOf t m 0 (e .space .class))) where
+    module _ (one : (m : ℕ) (e : Element) → OneKeeps (t .elementRules m (e .space .class))) where
       count-next : modelCount t s (suc k) ≡ modelCount t s k + length (written (dispatch t) (streamAfter t s k) event)
       unfolding modelCount gather
       count-next =
@@ -171,7 +171,7 @@ module _ (table : List ℕ) (ok : Accepted table ≡ true) (s : List ℕ) where
   scene-bound zero le = omega (arith, none-before (decode table) s)
   scene-bound (suc k) le = omega (arith, event-bound k le, scene-bound k (omega arith))
 
-pub records-bound : (table s : List ℕ) → forecastOf table s .records ≤ sceneBound (decode table) s (eventsWithin (decode table) s)
+pub records-bound : (table s : List ℕ) → forecastOf standard table s .records ≤ sceneBound (decode table) s (eventsWithin (decode table) s)
 unfolding forecastOf figuresOf
 records-bound table s = by (Accepted table) refl
   where

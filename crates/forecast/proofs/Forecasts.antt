@@ -15,7 +15,7 @@ use borrow.Author.Tests.{eqb-true, eqb-false, ltb-false}
 use lib.ListN.{length, replicate, length-replicate}
 use lib.Dec.{eqb, ltb}
 use Rattle.laws.specs.Reading.{le-or-lt}
-use Rattle.table.specs.Table.{Table, decode}
+use Rattle.table.specs.Table.{Table, decode, standard}
 use Rattle.table.specs.Judge.{judged, Accepted}
 use Rattle.table.specs.declared.Answer.{Answer}
 use Rattle.reader.specs.Events as scene
@@ -48,10 +48,10 @@ use Rattle.forecast.proofs.ForecastWays.{of-refused, of-long, of-accept
 -- ---- a table that judge refuses, a scene that is too long, and the rest
 -- neither has an event: the run's answer is the forecast
 pub record NoneTaken (table s : List ℕ) (number place : ℕ) : Type 0 where
-  pub is : forecastOf table s ≡ noFigures number place
+  pub is : forecastOf standard table s ≡ noFigures number place
   pub not-0 : number ≡ 0 → ⊥
   pub few : number ≤ 12
-  pub run : (out : List ℕ) → advanceOf (2 * length s + 2) table s freshOf out ≡ handed (record { answer = answered number place 0 0; session = freshOf }) out
+  pub run : (out : List ℕ) → advanceOf standard (2 * length s + 2) table s freshOf out ≡ handed (record { answer = answered number place 0 0; session = freshOf }) out
 
 abbrev Way : List ℕ → List ℕ → Type 0
 Way table s = ((number : ℕ) × (place : ℕ) × NoneTaken table s number place) ⊎ ((Accepted table ≡ true) × (length s ≤ 16777215))
@@ -91,7 +91,7 @@ way table s = by (eqb (judged table .number) 0) refl
     by false q = inl (judged table .number, judged table .place, refused (eqb-false (judged table .number) 0 q))
     by true q = ⊎-elim (λ le. inr (q, le)) (λ lt. inl (7, 0, long (eqb-true (judged table .number) 0 q) lt)) (le-or-lt (length s) 16777215)
 
-none-run : (table s : List ℕ) (number place : ℕ) → NoneTaken table s number place → (out : List ℕ) → runOf table s out .answer ≡ answered number place 0 0
+none-run : (table s : List ℕ) (number place : ℕ) → NoneTaken table s number place → (out : List ℕ) → runOf standard table s out .answer ≡ answered number place 0 0
 unfolding runOf
 none-run table s number place w out = ap (λ (r : Step). r .answer) (w .run out)
 
@@ -99,28 +99,28 @@ none-run table s number place w out = ap (λ (r : Step). r .answer) (w .run out)
 abbrev SameIn : Answer → Forecast → Type 0
 SameIn a f = (a .number ≡ f .number) × (a .place ≡ f .place) × (a .records ≡ f .records)
 
-pub forecast-run : (table s out : List ℕ) → 16 * forecastOf table s .records ≤ length out →
-    (runOf table s out .answer .number ≡ forecastOf table s .number) × (runOf table s out .answer .place ≡ forecastOf table s .place) × (runOf table s out .answer .records ≡ forecastOf table s .records)
+pub forecast-run : (table s out : List ℕ) → 16 * forecastOf standard table s .records ≤ length out →
+    (runOf standard table s out .answer .number ≡ forecastOf standard table s .number) × (runOf standard table s out .answer .place ≡ forecastOf standard table s .place) × (runOf standard table s out .answer .records ≡ forecastOf standard table s .records)
 unfolding figuresOf
 forecast-run table s out = ⊎-elim (λ w. none-taken (w .0) (w .1) (w .2)) (λ w. taken (w .0) (w .1)) (way table s)
   where
-    none-taken : (number place : ℕ) → NoneTaken table s number place → 16 * forecastOf table s .records ≤ length out → SameIn (runOf table s out .answer) (forecastOf table s)
-    none-taken number place w room = subst (SameIn (runOf table s out .answer)) (sym (w .is)) (let r = none-run table s number place w out in (ap (λ (a : Answer). a .number) r, ap (λ (a : Answer). a .place) r, ap (λ (a : Answer). a .records) r))
+    none-taken : (number place : ℕ) → NoneTaken table s number place → 16 * forecastOf standard table s .records ≤ length out → SameIn (runOf standard table s out .answer) (forecastOf standard table s)
+    none-taken number place w room = subst (SameIn (runOf standard table s out .answer)) (sym (w .is)) (let r = none-run table s number place w out in (ap (λ (a : Answer). a .number) r, ap (λ (a : Answer). a .place) r, ap (λ (a : Answer). a .records) r))
 
-    taken : Accepted table ≡ true → length s ≤ 16777215 → 16 * forecastOf table s .records ≤ length out → SameIn (runOf table s out .answer) (forecastOf table s)
+    taken : Accepted table ≡ true → length s ≤ 16777215 → 16 * forecastOf standard table s .records ≤ length out → SameIn (runOf standard table s out .answer) (forecastOf standard table s)
     taken ok short room =
         let f = of-accepted table s ok short in
         let r = run-ends table s out ok short (subst (λ (x : Forecast). 16 * x .records ≤ length out) f room) in
-        subst (SameIn (runOf table s out .answer)) (sym f) (r .0, r .1, scenes table s out .counted ∙ ap (modelCount (decode table) s) (r .2))
+        subst (SameIn (runOf standard table s out .answer)) (sym f) (r .0, r .1, scenes table s out .counted ∙ ap (modelCount (decode table) s) (r .2))
 
-pub forecast-short : (table s out : List ℕ) → length out < 16 * forecastOf table s .records → runOf table s out .answer .number ≡ 25
+pub forecast-short : (table s out : List ℕ) → length out < 16 * forecastOf standard table s .records → runOf standard table s out .answer .number ≡ 25
 unfolding figuresOf
 forecast-short table s out = ⊎-elim (λ w. none-taken (w .0) (w .1) (w .2)) (λ w. taken (w .0) (w .1)) (way table s)
   where
-    none-taken : (number place : ℕ) → NoneTaken table s number place → length out < 16 * forecastOf table s .records → runOf table s out .answer .number ≡ 25
+    none-taken : (number place : ℕ) → NoneTaken table s number place → length out < 16 * forecastOf standard table s .records → runOf standard table s out .answer .number ≡ 25
     none-taken number place w short = absurd (omega (arith, ap (λ (f : Forecast). f .records) (w .is)))
 
-    taken : Accepted table ≡ true → length s ≤ 16777215 → length out < 16 * forecastOf table s .records → runOf table s out .answer .number ≡ 25
+    taken : Accepted table ≡ true → length s ≤ 16777215 → length out < 16 * forecastOf standard table s .records → runOf standard table s out .answer .number ≡ 25
     taken ok short full =
         let r = run-full table s out ok short (subst (λ (x : Forecast). length out < 16 * x .records) (of-accepted table s ok short) full) (scene.text (span 0 0)) in
         ap (λ (x : Run). x .answer .number) (r .4)
@@ -151,21 +151,21 @@ end-number t s = by (firstPast t s (length (events s)) 0) (first-past t s)
     by none f = read-number s
     by (some k) f = let i = passed-number t s k (f .1) in (f .1, λ e. absurd (omega (arith, i .0)), λ e. absurd (omega (arith, i .1)))
 
-pub forecast-number : (table s : List ℕ) → (forecastOf table s .number ≡ 0 → ⊥) × (forecastOf table s .number ≡ 20 → ⊥) × (forecastOf table s .number ≡ 25 → ⊥)
+pub forecast-number : (table s : List ℕ) → (forecastOf standard table s .number ≡ 0 → ⊥) × (forecastOf standard table s .number ≡ 20 → ⊥) × (forecastOf standard table s .number ≡ 25 → ⊥)
 unfolding figuresOf
 forecast-number table s = ⊎-elim (λ w. none-taken (w .0) (w .1) (w .2)) (λ w. taken (w .0) (w .1)) (way table s)
   where
-    none-taken : (number place : ℕ) → NoneTaken table s number place → Ends (forecastOf table s .number)
+    none-taken : (number place : ℕ) → NoneTaken table s number place → Ends (forecastOf standard table s .number)
     none-taken number place w = subst (λ (f : Forecast). Ends (f .number)) (sym (w .is)) (w .not-0, λ e. absurd (omega (arith, w .few)), λ e. absurd (omega (arith, w .few)))
 
-    taken : Accepted table ≡ true → length s ≤ 16777215 → Ends (forecastOf table s .number)
+    taken : Accepted table ≡ true → length s ≤ 16777215 → Ends (forecastOf standard table s .number)
     taken ok short = subst (λ (f : Forecast). Ends (f .number)) (sym (of-accepted table s ok short)) (end-number (decode table) s)
 
 -- ---- units
 -- the session behind the run's steps
 module _ (table s out : List ℕ) (ok : Accepted table ≡ true) (short : length s ≤ 16777215) (room : 16 * modelCount (decode table) s (eventsWithin (decode table) s) ≤ length out) where
   abbrev behind : Step
-  behind = advanceOf (2 * length s + 2) table s freshOf out
+  behind = advanceOf standard (2 * length s + 2) table s freshOf out
 
   behind-units : (behind .session .units ≡ unitCount (decode table) s (eventsWithin (decode table) s)) × (behind .session .units ≤ 65536)
   unfolding runOf
@@ -175,14 +175,14 @@ module _ (table s out : List ℕ) (ok : Accepted table ≡ true) (short : length
       let same : behind .session .units ≡ a .session .units = ap (λ (r : Step). r .session .units) (a .is) in
       (same ∙ units-counted (decode table) s (a .session) (0 + a .events) (a .records) (a .reached) ∙ ap (unitCount (decode table) s) all, omega (arith, same, a .reached .sound .few-units))
 
-pub forecast-units : (table s out : List ℕ) → 16 * forecastOf table s .records ≤ length out → advanceOf (2 * length s + 2) table s freshOf out .session .units ≡ forecastOf table s .units
+pub forecast-units : (table s out : List ℕ) → 16 * forecastOf standard table s .records ≤ length out → advanceOf standard (2 * length s + 2) table s freshOf out .session .units ≡ forecastOf standard table s .units
 unfolding figuresOf
 forecast-units table s out = ⊎-elim (λ w. none-taken (w .0) (w .1) (w .2)) (λ w. taken (w .0) (w .1)) (way table s)
   where
-    none-taken : (number place : ℕ) → NoneTaken table s number place → 16 * forecastOf table s .records ≤ length out → advanceOf (2 * length s + 2) table s freshOf out .session .units ≡ forecastOf table s .units
+    none-taken : (number place : ℕ) → NoneTaken table s number place → 16 * forecastOf standard table s .records ≤ length out → advanceOf standard (2 * length s + 2) table s freshOf out .session .units ≡ forecastOf standard table s .units
     none-taken number place w room = ap (λ (r : Step). r .session .units) (w .run out) ∙ sym (ap (λ (f : Forecast). f .units) (w .is))
 
-    taken : Accepted table ≡ true → length s ≤ 16777215 → 16 * forecastOf table s .records ≤ length out → advanceOf (2 * length s + 2) table s freshOf out .session .units ≡ forecastOf table s .units
+    taken : Accepted table ≡ true → length s ≤ 16777215 → 16 * forecastOf standard table s .records ≤ length out → advanceOf standard (2 * length s + 2) table s freshOf out .session .units ≡ forecastOf standard table s .units
     taken ok short room =
         let f = of-accepted table s ok short in
         behind-units table s out ok short (subst (λ (x : Forecast). 16 * x .records ≤ length out) f room) .0 ∙ sym (ap (λ (x : Forecast). x .units) f)
@@ -217,14 +217,14 @@ greatest-few f (suc n) most h = greater-least (greatest f n) (f n) most (greates
 abbrev Few : Forecast → Type 0
 Few f = (f .units ≤ 65536) × (f .strands ≤ 16) × (f .depth ≤ 64)
 
-pub forecast-limits : (table s : List ℕ) → (forecastOf table s .units ≤ 65536) × (forecastOf table s .strands ≤ 16) × (forecastOf table s .depth ≤ 64)
+pub forecast-limits : (table s : List ℕ) → (forecastOf standard table s .units ≤ 65536) × (forecastOf standard table s .strands ≤ 16) × (forecastOf standard table s .depth ≤ 64)
 unfolding figuresOf
 forecast-limits table s = ⊎-elim (λ w. none-taken (w .0) (w .1) (w .2)) (λ w. taken (w .0) (w .1)) (way table s)
   where
-    none-taken : (number place : ℕ) → NoneTaken table s number place → Few (forecastOf table s)
+    none-taken : (number place : ℕ) → NoneTaken table s number place → Few (forecastOf standard table s)
     none-taken number place w = subst Few (sym (w .is)) (omega arith, omega arith, omega arith)
 
-    taken : Accepted table ≡ true → length s ≤ 16777215 → Few (forecastOf table s)
+    taken : Accepted table ≡ true → length s ≤ 16777215 → Few (forecastOf standard table s)
     taken ok short =
         let t = decode table in
         let n = eventsWithin t s in

@@ -1,4 +1,4 @@
--- Worked examples of the bound, by computation: vectors of request N2, the number behind the bar.
+-- Worked examples of the bound, by computation: vectors of requests N2 and N3, the number behind the bar.
 use Prim.Native.Nat.{ℕ}
 use mathlib.Core.Path.{_≡_, refl}
 use mathlib.Core.List.{List, [], _∷_}
@@ -29,6 +29,11 @@ strands-only :
     × (boundOf T (bytes "<r><x/></r>") ≡ 136)
 unfolding computing sumOf eventsWithin
 strands-only = (refl, refl, refl, refl, refl, refl)
+
+-- N3-10: a rejected section has one strand, as an unwrapped one
+rejected-strands : (boundOf T (bytes "<r/>") ≡ 68) × (boundOf T (bytes "<r xmlns=\"u\"><w xmlns=\"q\"><x xmlns=\"u\"/></w></r>") ≡ 204)
+unfolding computing sumOf eventsWithin
+rejected-strands = (refl, refl)
 
 -- more strands at each v; the fifth is refused and not counted
 many-strands : boundOf T2 (bytes "<r xmlns=\"u\"><v xmlns=\"v\"><q xmlns=\"q\"><v xmlns=\"v\"><q xmlns=\"q\"><v xmlns=\"v\"><q xmlns=\"q\"><v xmlns=\"v\"><q xmlns=\"q\"><v xmlns=\"v\"><q xmlns=\"q\">") ≡ 2074

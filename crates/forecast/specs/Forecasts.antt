@@ -6,7 +6,7 @@ use mathlib.Core.Bool.{cond, not}
 use lib.ListN.{length, take}
 use lib.Dec.{ltb, eqb}
 use Rattle.laws.specs.Gather.{gather}
-use Rattle.table.specs.Table.{Table, decode}
+use Rattle.table.specs.Table.{Table, Defaults, decodeBy}
 use Rattle.table.specs.Judge.{judged}
 use Rattle.reader.specs.Events.{events}
 use Rattle.model.specs.Model.{unitsOpened, cutModel}
@@ -47,11 +47,11 @@ figuresOf t s =
 abbrev pub noFigures : ℕ → ℕ → Forecast
 noFigures number place = record { number = number; place = place; records = 0; units = 0; strands = 0; depth = 0 }
 
--- "Order: 10 short, 11 header, 10, 11, 12, 7"; then the events
-unfoldable pub forecastOf : List ℕ → List ℕ → Forecast
-forecastOf table s =
+-- "Order: 10 short, 11 header, 10, 11, 12, 7"; then the events, under these defaults
+unfoldable pub forecastOf : Defaults → List ℕ → List ℕ → Forecast
+forecastOf d table s =
     cond (not (eqb (judged table .number) 0)) (noFigures (judged table .number) (judged table .place))
-    (cond (ltb longest (length s)) (noFigures 7 0) (figuresOf (decode table) s))
+    (cond (ltb longest (length s)) (noFigures 7 0) (figuresOf (decodeBy d table) s))
 
 -- for hosts: "number, place, records, units, strands, depth"
 abbrev pub figureNumbers : Forecast → List ℕ

@@ -8,6 +8,7 @@ use table::index::load;
 use table::judge;
 use table::words::header_of;
 ghost use mathlib.Core.Path.{_≡_};
+ghost use Rattle.table.specs.Table.{standard};
 ghost use Rattle.forecast.specs.Forecasts.{noFigures, forecastOf, figureNumbers};
 
 // No event taken.
@@ -26,7 +27,7 @@ fn none_taken(number: u8, place: usize) -> Forecast
 
 // The figures of a run over the whole scene.
 pub fn forecast(table: &[u8], scene: &[u8]) -> Forecast
-    ensures { λ r. ⌜ r ≡ forecastOf (now (table .entry)) (now (scene .entry)) ⌝ }
+    ensures { λ r. ⌜ r ≡ forecastOf standard (now (table .entry)) (now (scene .entry)) ⌝ }
 {
     let judged = judge(table);
     if judged.number != 0 {
@@ -42,8 +43,8 @@ pub fn forecast(table: &[u8], scene: &[u8]) -> Forecast
 // The same for hosts: six numbers.
 #[no_mangle]
 pub extern "C" fn calcivorne_forecast(table: &[u8], scene: &[u8], figures: &mut [u64; 6]) -> u8
-    ensures { λ r. ⌜ r ≡ forecastOf (now (table .entry)) (now (scene .entry)) .number ⌝ }
-    ensures { λ _. ⌜ now (figures .exit) ≡ figureNumbers (forecastOf (now (table .entry)) (now (scene .entry))) ⌝ }
+    ensures { λ r. ⌜ r ≡ forecastOf standard (now (table .entry)) (now (scene .entry)) .number ⌝ }
+    ensures { λ _. ⌜ now (figures .exit) ≡ figureNumbers (forecastOf standard (now (table .entry)) (now (scene .entry))) ⌝ }
 {
     let f = forecast(table, scene);
     *figures = [

@@ -7,6 +7,7 @@ use native.Mathlib.Omega.{arith}
 use borrow.Author.Tests.{eqb-true}
 use lib.Dec.{eqb}
 use Rattle.laws.proofs.Holds.{holds-cond}
+use Rattle.table.specs.Table.{standard}
 use Rattle.dispatcher.specs.declared.Session.{Session}
 use Rattle.dispatcher.specs.Stepping.{Step, stepOf, restOf, advanceOf}
 use Rattle.demands.specs.Answers.{Answered, bad-table, long-scene, bad-session, unread, all-read, limited, no-room, wrote}
@@ -33,16 +34,16 @@ module _ (table s : List ℕ) where
   few-numbers z out (no-room r p rs z″ q l) = (omega arith, λ e. refl)
   few-numbers z out (wrote r p rs z″ q l) = (omega arith, λ e. absurd (omega arith))
 
-  step-answers : (z : Session) (out : List ℕ) → Answers z (stepOf table s z out)
+  step-answers : (z : Session) (out : List ℕ) → Answers z (stepOf standard table s z out)
   step-answers z out =
       let a = few-numbers z out (answered-by table s z out) in
       record { few = a .0; keeps = a .1; storable = next-storable table s z out; packs = next-held table s z out }
 
-  advance-answers : (most : ℕ) (z : Session) (out : List ℕ) → Answers z (advanceOf most table s z out)
+  advance-answers : (most : ℕ) (z : Session) (out : List ℕ) → Answers z (advanceOf standard most table s z out)
   unfolding advanceOf
   advance-answers zero z out = record { few = omega arith; keeps = λ e. refl; storable = λ h. h; packs = λ h. h }
   advance-answers (suc n) z out =
-      let r = stepOf table s z out in
+      let r = stepOf standard table s z out in
       let a = step-answers z out in
       let i = advance-answers n (r .session) (restOf r) in
       holds-cond (Answers z) (eqb (r .answer .number) 0)

@@ -8,7 +8,7 @@ use Prim.Native.Nat.{ℕ, suc}
 use native.Mathlib.Omega.{arith}
 use lib.ListN.{length, getD, length-map, List·getD-map}
 use Rattle.laws.specs.Gather.{gather}
-use Rattle.model.specs.Theory.{Action, Attach, Unwrap, Validate, Rule, AttributeUnit, Piece, Theory, taken}
+use Rattle.model.specs.Theory.{Action, Attach, Unwrap, Validate, Rule, AttributeUnit, Piece, Theory}
 use Rattle.model.specs.Tree.{TreeEvent, start, text, end, Items, Tree, eventsThen, treeEvents, stillOpen, completed, treeOf}
 use Rattle.model.specs.Sections.{Tags, Content, empty, ownText, ownElement, slot, attributeSections, size, divideTree}
 use Rattle.model.specs.Stream as stream
@@ -58,7 +58,7 @@ module _ (Θ : Theory) where
 
   -- A device: the stream's modes alone.
   abbrev nextModes : Θ .StartInfo → List ℕ → List ℕ
-  nextModes σ = gather (λ m. map (λ q. q .next) (taken Θ m σ))
+  nextModes σ = gather (λ m. map (λ q. q .next) (Θ .elementRules m σ))
 
   abbrev enterModes : List (Moded Θ) → Θ .StartInfo → List ℕ
   enterModes [] σ = nextModes σ (0 ∷ [])
@@ -105,9 +105,9 @@ module _ (Θ : Theory) where
 
   take-modes : (σ : Θ .StartInfo) (ss : List (stream.HeldStrand ℕ)) → entryModes (takeRules Θ σ ss) ≡ nextModes σ (map (λ s. s .mode) ss)
   take-modes σ ss =
-      map-gather (λ (e : Entry). e .strand .mode) (λ (s : stream.HeldStrand ℕ). map (λ q. record { strand = byRule (q .action) (q .next) none (s .target); schema = q .schema }) (taken Θ (s .mode) σ)) ss
-      ∙ gather-same _ (λ s. map (λ q. q .next) (taken Θ (s .mode) σ)) (λ s. rule-modes (s .target) (taken Θ (s .mode) σ)) ss
-      ∙ sym (gather-map (λ m. map (λ q. q .next) (taken Θ m σ)) (λ (s : stream.HeldStrand ℕ). s .mode) ss)
+      map-gather (λ (e : Entry). e .strand .mode) (λ (s : stream.HeldStrand ℕ). map (λ q. record { strand = byRule (q .action) (q .next) none (s .target); schema = q .schema }) (Θ .elementRules (s .mode) σ)) ss
+      ∙ gather-same _ (λ s. map (λ q. q .next) (Θ .elementRules (s .mode) σ)) (λ s. rule-modes (s .target) (Θ .elementRules (s .mode) σ)) ss
+      ∙ sym (gather-map (λ m. map (λ q. q .next) (Θ .elementRules m σ)) (λ (s : stream.HeldStrand ℕ). s .mode) ss)
 
   enter-modes : (ls : List (Level Θ)) (σ : Θ .StartInfo) → entryModes (stream.entriesAt Θ ls σ) ≡ enterModes (map moded ls) σ
   enter-modes [] σ = take-modes σ (stream.heldBeforeRoot ∷ [])
@@ -174,9 +174,9 @@ module _ (Θ : Theory) where
 
   new-modes : (e : Tags Θ) (inner : Content Θ) (ss : List (Strand (Θ .Body))) → nextModes (e .start) (modesOf ss) ≡ modesOf (enter Θ e inner ss)
   new-modes e inner ss =
-      gather-map (λ m. map (λ q. q .next) (taken Θ m (e .start))) (λ (s : Strand (Θ .Body)). s .mode) ss
-      ∙ sym (gather-same _ (λ s. map (λ q. q .next) (taken Θ (s .mode) (e .start))) (λ s. along-modes e inner s 0 (taken Θ (s .mode) (e .start))) ss)
-      ∙ sym (map-gather (λ (s : Strand (Θ .Body)). s .mode) (λ s. along Θ e inner s 0 (taken Θ (s .mode) (e .start))) ss)
+      gather-map (λ m. map (λ q. q .next) (Θ .elementRules m (e .start))) (λ (s : Strand (Θ .Body)). s .mode) ss
+      ∙ sym (gather-same _ (λ s. map (λ q. q .next) (Θ .elementRules (s .mode) (e .start))) (λ s. along-modes e inner s 0 (Θ .elementRules (s .mode) (e .start))) ss)
+      ∙ sym (map-gather (λ (s : Strand (Θ .Body)). s .mode) (λ s. along Θ e inner s 0 (Θ .elementRules (s .mode) (e .start))) ss)
 
   unmarked : (i : ℕ) (ps : List (Piece (Θ .Body))) → map (λ p. p .piece) (marked i ps) ≡ ps
   unmarked i [] = refl

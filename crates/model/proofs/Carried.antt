@@ -7,13 +7,13 @@ use mathlib.Core.Option.{some, Option·some-injective}
 use Prim.Native.Nat.{ℕ, suc, _+_, _≤_, _<_}
 use native.Mathlib.Omega.{arith}
 use Rattle.laws.specs.Gather.{gather, total}
-use Rattle.model.specs.Theory.{Action, Attach, Unwrap, Validate, Rule, holds, Theory, taken}
+use Rattle.model.specs.Theory.{Action, Attach, Unwrap, Validate, Rule, holds, Theory}
 use Rattle.model.specs.Sections.{Tags, Content, empty, ownText, ownElement, slot}
 use Rattle.model.specs.Model.{Marked, WholeUnit, startPieces, startOf, endOf, filling, unitOf, Strand, assignedAt, along, enter, attributesOf, assign, OneKeeps}
 use Rattle.model.proofs.Lists.{All, all-append, all-weaken, OneAt, one-none, one-weaken, one-gather}
 use Rattle.model.proofs.Events.{atEvent, bracket-inside}
 use Rattle.model.proofs.Divide.{Divided, divided-up}
-use Rattle.model.proofs.Slots.{keeps, none-keeps, slotFilled, filling-within, kept-filling, text-behind, own-here, own-behind, slot-here, slot-behind, one-of}
+use Rattle.model.proofs.Slots.{keeps, none-keeps, slotFilled, filling-within, kept-filling, text-behind, own-here, own-behind, slot-here, slot-behind}
 use Rattle.model.proofs.Keys.{eventOf}
 use Rattle.model.proofs.Shown.{Shown, Other, ForTarget, Nothing, Elsewhere, shown-by-strand, attributes-keyed, Made, made-target, made, along-made}
 
@@ -84,16 +84,16 @@ module _ (Θ : Theory) where
               validated (suc j) qs v,
             )
 
-    module _ (one : (m : ℕ) (σ : Θ .StartInfo) → OneKeeps (Θ .rulesFor m σ)) where
+    module _ (one : (m : ℕ) (σ : Θ .StartInfo) → OneKeeps (Θ .elementRules m σ)) where
       enter-carried : (e : Tags Θ) (inner rest : Content Θ) (κ : Θ .Kept) (i n : ℕ) → Divided Θ κ i n (slot e inner rest) → Elsewhere u i n → (ss : List (Strand (Θ .Body))) → Carried (slot e inner rest) i n ss
           → OneAt NotFor (Holder inner (suc (e .startAt)) (e .endAt)) (Nothing u (e .startAt) (suc (e .endAt))) (enter Θ e inner ss)
       enter-carried e inner rest κ i n d away ss o =
           let l = divided-up Θ inner (Θ .keptOf (e .start)) (suc (e .startAt)) (e .endAt) (d .2) in
           let up = divided-up Θ rest κ (suc (e .endAt)) n (d .3) in
           let apart : ¬ (eventOf (u .key) ≡ e .startAt) = away (e .startAt) (omega (arith, d .0)) (omega (arith, l, up)) in
-          one-gather NotFor (Holder (slot e inner rest) i n) (Nothing u i n) NotFor (Holder inner (suc (e .startAt)) (e .endAt)) (Nothing u (e .startAt) (suc (e .endAt))) (λ s. along Θ e inner s 0 (taken Θ (s .mode) (e .start)))
-          (λ s h. all-weaken (Made Θ e inner (Other u)) NotFor (made-target Θ e inner (Other u) (Other u) (λ v x. x) (λ cs q p. apart (ap eventOf p))) (along Θ e inner s 0 (taken Θ (s .mode) (e .start))) (along-made Θ e inner (Other u) s h 0 (taken Θ (s .mode) (e .start))))
-          (λ s h. slot-carried e inner (d .2) apart s (h .target) 0 (taken Θ (s .mode) (e .start)) (one-of Θ one (s .mode) (e .start))
+          one-gather NotFor (Holder (slot e inner rest) i n) (Nothing u i n) NotFor (Holder inner (suc (e .startAt)) (e .endAt)) (Nothing u (e .startAt) (suc (e .endAt))) (λ s. along Θ e inner s 0 (Θ .elementRules (s .mode) (e .start)))
+          (λ s h. all-weaken (Made Θ e inner (Other u)) NotFor (made-target Θ e inner (Other u) (Other u) (λ v x. x) (λ cs q p. apart (ap eventOf p))) (along Θ e inner s 0 (Θ .elementRules (s .mode) (e .start))) (along-made Θ e inner (Other u) s h 0 (Θ .elementRules (s .mode) (e .start))))
+          (λ s h. slot-carried e inner (d .2) apart s (h .target) 0 (Θ .elementRules (s .mode) (e .start)) (one (s .mode) (e .start))
           (λ k a b. h .has k (omega (arith, d .0)) (omega (arith, up)) ∙ slot-here Θ e inner rest κ i n (h .own) (s .mode) d k b))
           (λ z k a b. z k (omega (arith, d .0)) (omega (arith, up))) ss o
 

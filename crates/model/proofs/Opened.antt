@@ -10,7 +10,7 @@ use native.Mathlib.Omega.{arith}
 use lib.ListN.{length, take, length-append}
 use Rattle.laws.specs.Gather.{gather, total}
 use Rattle.laws.proofs.Gather.{gather-append}
-use Rattle.model.specs.Theory.{Action, Attach, Unwrap, Validate, Rule, AttributeUnit, opens, holds, Record, Theory, taken}
+use Rattle.model.specs.Theory.{Action, Attach, Unwrap, Validate, Rule, AttributeUnit, opens, holds, Record, Theory}
 use Rattle.model.specs.Tree.{TreeEvent, start, text, end, stillOpen, completed, treeOf}
 use Rattle.model.specs.Stream.{Level, State, Entry, allot, newUnits, takeRules, entriesAt, unitsOf, entered, startRecords, textRecords, endRecords, written, after, fresh, reached, streamFrom, streamOf, HeldStrand, heldBeforeRoot, stay, byRule, receiver, give, attributesFrom, opening, closing}
 use Rattle.model.specs.Model.{unitsOpened, modelOf, OneKeeps}
@@ -61,7 +61,7 @@ module _ (Θ : Theory) where
   take-opens : (σ : Θ .StartInfo) (ss : List (HeldStrand ℕ)) → All Opens (takeRules Θ σ ss)
   unfolding gather
   take-opens σ [] = tt
-  take-opens σ (s ∷ ss) = all-append Opens (map (λ q. record { strand = byRule (q .action) (q .next) none (s .target); schema = q .schema }) (taken Θ (s .mode) σ)) (takeRules Θ σ ss) (rule-opens (s .target) (taken Θ (s .mode) σ)) (take-opens σ ss)
+  take-opens σ (s ∷ ss) = all-append Opens (map (λ q. record { strand = byRule (q .action) (q .next) none (s .target); schema = q .schema }) (Θ .elementRules (s .mode) σ)) (takeRules Θ σ ss) (rule-opens (s .target) (Θ .elementRules (s .mode) σ)) (take-opens σ ss)
 
   stay-opens : (ss : List (HeldStrand ℕ)) → All Opens (map (λ s. record { strand = stay s; schema = 0 }) ss)
   stay-opens [] = tt
@@ -135,7 +135,7 @@ module _ (Θ : Theory) where
   unfolding streamOf
   reached-units es = omega (arith, units-from es (fresh Θ))
 
-  module _ (one : (m : ℕ) (σ : Θ .StartInfo) → OneKeeps (Θ .rulesFor m σ)) (agree : Agree Θ) where
+  module _ (one : (m : ℕ) (σ : Θ .StartInfo) → OneKeeps (Θ .elementRules m σ)) (agree : Agree Θ) where
     pub model-units : (es fs : List (TreeEvent Θ)) → IsPrefix Θ (es ++ fs) → length (unitsOpened (gather (λ x. x) (take (length es) (modelOf Θ (treeOf Θ (completed Θ (es ++ fs))))))) ≡ (reached Θ es) .units
     model-units es fs p =
         let ends : List (TreeEvent Θ) = addedEnds Θ (stillOpen Θ [] (es ++ fs)) in

@@ -4,7 +4,7 @@ use mathlib.Core.Bool.{Bool, true, false, cond, true≢false}
 use mathlib.Core.List.{List, [], _∷_, _++_, map}
 use Prim.Native.Nat.{ℕ}
 use Rattle.laws.specs.Gather.{gather}
-use Rattle.model.specs.Theory.{Action, Attach, Unwrap, Validate, Rule, Piece, opens, holds, Record, Theory, taken}
+use Rattle.model.specs.Theory.{Action, Attach, Unwrap, Validate, Rule, Piece, opens, holds, Record, Theory}
 use Rattle.model.specs.Sections.{Tags, Content, empty, ownText, ownElement, slot}
 use Rattle.model.specs.Model.{Key, sameKey, Marked, marked, keptBodies, startOf, textOf, endOf, filling, unitOf, unitsOpened}
 use Rattle.model.specs.Units.{IsHeld, OpensOnce}
@@ -49,8 +49,8 @@ module _ (Θ : Theory) where
       (all-append HeldAt (starts ++ filling Θ inner own m) ends (all-append HeldAt starts (filling Θ inner own m) (held-cond own (startOf Θ e m) (held-start e m)) (filling-held inner own m)) (held-cond own (endOf Θ e) (tt, tt)))
       (filling-held rest own m)
   filling-held (slot e inner rest) own m =
-      all-append HeldAt (gather (λ q. slotFilled Θ e inner (q .action) (q .next)) (taken Θ m (e .start))) (filling Θ rest own m)
-      (all-gather HeldAt (λ q. slotFilled Θ e inner (q .action) (q .next)) (taken Θ m (e .start)) (every (λ q. go (q .next) (filling-held inner true (q .next)) (filling-held inner false (q .next)) (q .action)) (taken Θ m (e .start))))
+      all-append HeldAt (gather (λ q. slotFilled Θ e inner (q .action) (q .next)) (Θ .elementRules m (e .start))) (filling Θ rest own m)
+      (all-gather HeldAt (λ q. slotFilled Θ e inner (q .action) (q .next)) (Θ .elementRules m (e .start)) (every (λ q. go (q .next) (filling-held inner true (q .next)) (filling-held inner false (q .next)) (q .action)) (Θ .elementRules m (e .start))))
       (filling-held rest own m)
     where
       go : (next : ℕ) → All HeldAt (filling Θ inner true next) → All HeldAt (filling Θ inner false next) → (a : Action) → All HeldAt (slotFilled Θ e inner a next)

@@ -7,7 +7,7 @@ use mathlib.Core.Option.{Option, none, some, Option·some-injective}
 use Prim.Native.Nat.{ℕ, suc, _+_, _≤_, _<_}
 use Rattle.laws.specs.Gather.{gather}
 use Rattle.laws.proofs.Gather.{gather-append}
-use Rattle.model.specs.Theory.{Action, Attach, Unwrap, Validate, Rule, Piece, Record, Theory, taken}
+use Rattle.model.specs.Theory.{Action, Attach, Unwrap, Validate, Rule, Piece, Record, Theory}
 use Rattle.model.specs.Stream.{give}
 use Rattle.model.specs.Sections.{Tags, Content}
 use Rattle.model.specs.Model.{Key, attributeUnit, sameKey, WholeUnit, attributeUnitsFrom, attributePieces, unitOf, Strand, Assigned, assignedAt, along, enter, attributesOf, ofEvent, recordsAt}
@@ -124,5 +124,5 @@ module _ (Θ : Theory) where
         go Validate = inr (q, refl, refl)
 
     pub enter-made : (Q : WholeUnit (Θ .Body) → Type 0) (ss : List (Strand (Θ .Body))) → All (ForTarget Q) ss → All (Made Q) (enter Θ e inner ss)
-    enter-made Q ss h = all-gather (Made Q) (λ s. along Θ e inner s 0 (taken Θ (s .mode) (e .start))) ss
-        (all-weaken (ForTarget Q) (λ s. All (Made Q) (along Θ e inner s 0 (taken Θ (s .mode) (e .start)))) (λ s g. along-made Q s g 0 (taken Θ (s .mode) (e .start))) ss h)
+    enter-made Q ss h = all-gather (Made Q) (λ s. along Θ e inner s 0 (Θ .elementRules (s .mode) (e .start))) ss
+        (all-weaken (ForTarget Q) (λ s. All (Made Q) (along Θ e inner s 0 (Θ .elementRules (s .mode) (e .start)))) (λ s g. along-made Q s g 0 (Θ .elementRules (s .mode) (e .start))) ss h)

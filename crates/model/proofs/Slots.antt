@@ -5,8 +5,7 @@ use mathlib.Core.List.{List, [], _∷_, _++_, append-assoc, append-nil}
 use Prim.Native.Nat.{ℕ, suc, _+_, _≤_, _<_}
 use native.Mathlib.Omega.{arith}
 use Rattle.laws.specs.Gather.{gather, total}
-use Rattle.table.specs.Table.{orElse}
-use Rattle.model.specs.Theory.{Action, Attach, Unwrap, Validate, Rule, Piece, opens, holds, Theory, taken}
+use Rattle.model.specs.Theory.{Action, Attach, Unwrap, Validate, Rule, Piece, opens, holds, Theory}
 use Rattle.model.specs.Sections.{Tags, Content, empty, ownText, ownElement, slot}
 use Rattle.model.specs.Model.{Marked, startPieces, startOf, textOf, endOf, slotFilling, filling, unitOf, OneKeeps}
 use Rattle.model.proofs.Lists.{All}
@@ -27,16 +26,6 @@ none-keeps (q ∷ qs) h = go (q .action) h (none-keeps qs)
     go Attach h ih = absurd (omega arith)
     go Unwrap h ih = absurd (omega arith)
     go Validate h ih = (refl, ih (omega arith))
-
-pub one-taken : (q : Rule) (qs : List Rule) → OneKeeps qs → OneKeeps (orElse qs (q ∷ []))
-unfolding total
-one-taken q [] h = go (q .action)
-  where
-    go : (a : Action) → keeps a + 0 ≤ 1
-    go Attach = omega arith
-    go Unwrap = omega arith
-    go Validate = omega arith
-one-taken q (p ∷ ps) h = h
 
 module _ (Θ : Theory) where
   -- What fills a slot by a rule.
@@ -82,9 +71,9 @@ module _ (Θ : Theory) where
   filling-within (slot e inner rest) κ i n d own m =
       let l = divided-up Θ inner (Θ .keptOf (e .start)) (suc (e .startAt)) (e .endAt) (d .2) in
       let up = divided-up Θ rest κ (suc (e .endAt)) n (d .3) in
-      let gs : List (Marked (Θ .Body)) = gather (λ q. slotFilled e inner (q .action) (q .next)) (taken Θ m (e .start)) in
+      let gs : List (Marked (Θ .Body)) = gather (λ q. slotFilled e inner (q .action) (q .next)) (Θ .elementRules m (e .start)) in
       within-append i n gs (filling Θ rest own m)
-      (within-widen (e .startAt) (suc (e .endAt)) i n (omega (arith, d .0)) up gs (slot-within e inner (filling-within inner (Θ .keptOf (e .start)) (suc (e .startAt)) (e .endAt) (d .2)) l (taken Θ m (e .start))))
+      (within-widen (e .startAt) (suc (e .endAt)) i n (omega (arith, d .0)) up gs (slot-within e inner (filling-within inner (Θ .keptOf (e .start)) (suc (e .startAt)) (e .endAt) (d .2)) l (Θ .elementRules m (e .start))))
       (within-widen (suc (e .endAt)) n i n (omega (arith, d .0, l)) (omega arith) (filling Θ rest own m) (filling-within rest κ (suc (e .endAt)) n (d .3) own m))
 
   validated-filling : (e : Tags Θ) (inner : Content Θ) (qs : List Rule) → All (λ q. q .action ≡ Validate) qs → gather (λ q. slotFilled e inner (q .action) (q .next)) qs ≡ []
@@ -108,7 +97,7 @@ module _ (Θ : Theory) where
     later = filling Θ rest own m
 
     abbrev slots : List (Marked (Θ .Body))
-    slots = gather (λ q. slotFilled e inner (q .action) (q .next)) (taken Θ m (e .start))
+    slots = gather (λ q. slotFilled e inner (q .action) (q .next)) (Θ .elementRules m (e .start))
 
     pub own-here : Divided Θ κ i n (ownElement e inner rest) → (k : ℕ) → k ≤ e .endAt → atEvent k (filling Θ (ownElement e inner rest) own m) ≡ atEvent k (elementFilling own e m fs)
     own-here d k l = ap (atEvent k) (own-filling own e m fs later) ∙ at-first k (suc (e .endAt)) n (elementFilling own e m fs) later (omega arith) (filling-within rest κ (suc (e .endAt)) n (d .3) own m)
@@ -123,7 +112,7 @@ module _ (Θ : Theory) where
 
     pub slot-behind : Divided Θ κ i n (slot e inner rest) → (k : ℕ) → suc (e .endAt) ≤ k → atEvent k (filling Θ (slot e inner rest) own m) ≡ atEvent k later
     slot-behind d k l = at-second k (e .startAt) (suc (e .endAt)) slots later l
-        (slot-within e inner (filling-within inner (Θ .keptOf (e .start)) (suc (e .startAt)) (e .endAt) (d .2)) (divided-up Θ inner (Θ .keptOf (e .start)) (suc (e .startAt)) (e .endAt) (d .2)) (taken Θ m (e .start)))
+        (slot-within e inner (filling-within inner (Θ .keptOf (e .start)) (suc (e .startAt)) (e .endAt) (d .2)) (divided-up Θ inner (Θ .keptOf (e .start)) (suc (e .startAt)) (e .endAt) (d .2)) (Θ .elementRules m (e .start)))
 
   -- A new unit's pieces: the section round what stands in its root.
   pub new-pieces : (e : Tags Θ) (inner : Content Θ) (cs : List ℕ) (q : Rule)
@@ -149,10 +138,7 @@ module _ (Θ : Theory) where
       go Attach one ih = alone (slotFilled e inner Attach (q .next)) (none-keeps qs (omega arith)) (subst (Rising (e .startAt)) (sym (append-assoc (startOf Θ e (q .next)) (filling Θ inner true (q .next)) (endOf Θ e)))
           (bracket-rising true (e .startAt) (e .endAt) (startPieces Θ (q .next) (e .start) (e .attributes)) (filling Θ inner true (q .next)) (holds (Θ .endBody (Θ .keptOf (e .start)) (e .end)) ∷ []) l (w true (q .next)) (r true (q .next))))
 
-  module _ (one : (m : ℕ) (σ : Θ .StartInfo) → OneKeeps (Θ .rulesFor m σ)) where
-    pub one-of : (m : ℕ) (σ : Θ .StartInfo) → OneKeeps (taken Θ m σ)
-    one-of m σ = one-taken (Θ .fallback m) (Θ .rulesFor m σ) (one m σ)
-
+  module _ (one : (m : ℕ) (σ : Θ .StartInfo) → OneKeeps (Θ .elementRules m σ)) where
     pub filling-rising : (c : Content Θ) (κ : Θ .Kept) (i n : ℕ) → Divided Θ κ i n c → (own : Bool) (m : ℕ) → Rising i (filling Θ c own m)
     filling-rising empty κ i n d own m = tt
     filling-rising (ownText k τ rest) κ i n d own m = rising-from k i (omega (arith, d .0)) (filling Θ (ownText k τ rest) own m)
@@ -171,8 +157,8 @@ module _ (Θ : Theory) where
     filling-rising (slot e inner rest) κ i n d own m =
         let l = divided-up Θ inner (Θ .keptOf (e .start)) (suc (e .startAt)) (e .endAt) (d .2) in
         let w = filling-within inner (Θ .keptOf (e .start)) (suc (e .startAt)) (e .endAt) (d .2) in
-        let qs : List Rule = taken Θ m (e .start) in
+        let qs : List Rule = Θ .elementRules m (e .start) in
         let gs : List (Marked (Θ .Body)) = gather (λ q. slotFilled e inner (q .action) (q .next)) qs in
         rising-from (e .startAt) i (omega (arith, d .0)) (gs ++ filling Θ rest own m)
         (rising-append (e .startAt) (suc (e .endAt)) (e .startAt) (omega (arith, l)) gs (filling Θ rest own m) (slot-within e inner w l qs)
-        (slot-rising e inner l w (filling-rising inner (Θ .keptOf (e .start)) (suc (e .startAt)) (e .endAt) (d .2)) qs (one-of m (e .start))) (filling-rising rest κ (suc (e .endAt)) n (d .3) own m))
+        (slot-rising e inner l w (filling-rising inner (Θ .keptOf (e .start)) (suc (e .startAt)) (e .endAt) (d .2)) qs (one m (e .start))) (filling-rising rest κ (suc (e .endAt)) n (d .3) own m))

@@ -5,7 +5,7 @@ use mathlib.Core.List.{List, [], _∷_, _++_, map, tail}
 use Prim.Native.Nat.{ℕ, suc, _≤_, _<_}
 use native.Mathlib.Omega.{arith}
 use Rattle.laws.specs.Gather.{gather}
-use Rattle.model.specs.Theory.{Attach, Unwrap, Validate, Action, Rule, Piece, Theory, taken}
+use Rattle.model.specs.Theory.{Attach, Unwrap, Validate, Action, Rule, Piece, Theory}
 use Rattle.model.specs.Sections.{AttributeSection, Tags, Content}
 use Rattle.model.specs.Model.{attributeUnit, WholeUnit, attributeUnitsFrom, virtualPieces, attributePieces, Strand, Assigned, along, enter, attributesOf}
 use Rattle.model.proofs.Lists.{map-gather, All, Distinct, all-weaken, all-gather, every, gather-distinct, keysFrom, from-all}
@@ -96,7 +96,7 @@ module _ (Θ : Theory) where
   along-choices e inner s j (q ∷ qs) = rw (along-choices e inner s (suc j) qs)
 
   pub enter-differs : (e : Tags Θ) (inner : Content Θ) (ss : List (Strand (Θ .Body))) → Distinct (map choicesOn ss) → Distinct (map choicesOn (enter Θ e inner ss))
-  enter-differs e inner ss d = rw (map-gather choicesOn (λ s. along Θ e inner s 0 (taken Θ (s .mode) (e .start))) ss)
-      (gather-distinct (λ s. map choicesOn (along Θ e inner s 0 (taken Θ (s .mode) (e .start)))) choicesOn (λ c. tail c)
-      (λ s. rw (along-choices e inner s 0 (taken Θ (s .mode) (e .start))) (choices-bear (s .choices) (taken Θ (s .mode) (e .start))))
-      (λ s. rw (along-choices e inner s 0 (taken Θ (s .mode) (e .start))) (choices-distinct (s .choices) (taken Θ (s .mode) (e .start)))) ss d)
+  enter-differs e inner ss d = rw (map-gather choicesOn (λ s. along Θ e inner s 0 (Θ .elementRules (s .mode) (e .start))) ss)
+      (gather-distinct (λ s. map choicesOn (along Θ e inner s 0 (Θ .elementRules (s .mode) (e .start)))) choicesOn (λ c. tail c)
+      (λ s. rw (along-choices e inner s 0 (Θ .elementRules (s .mode) (e .start))) (choices-bear (s .choices) (Θ .elementRules (s .mode) (e .start))))
+      (λ s. rw (along-choices e inner s 0 (Θ .elementRules (s .mode) (e .start))) (choices-distinct (s .choices) (Θ .elementRules (s .mode) (e .start)))) ss d)

@@ -9,8 +9,7 @@ use native.Mathlib.Omega.{arith}
 use lib.ListN.{length}
 use Rattle.laws.specs.Gather.{gather, total}
 use Rattle.laws.proofs.Gather.{total-append}
-use Rattle.table.specs.Table.{orElse}
-use Rattle.model.specs.Theory.{Action, Attach, Unwrap, Validate, Rule, Theory, taken}
+use Rattle.model.specs.Theory.{Action, Attach, Unwrap, Validate, Rule, Theory}
 use Rattle.model.specs.Tree.{TreeEvent, start, text, end, stillOpen}
 use Rattle.model.specs.Stream.{Level, State, Entry, allot, newUnits, takeRules, entriesAt, unitsOf, textRecords, endRecords, written, after, fresh, reached, streamFrom, streamOf, HeldStrand, heldBeforeRoot, stay, byRule}
 use Rattle.model.proofs.Lists.{All, all-append, all-weaken}
@@ -107,10 +106,6 @@ HasTarget Validate (some u) = Unit {0}
 abbrev pub StrandOk : ℕ → HeldStrand ℕ → Type 0
 StrandOk u s = Below u (s .target) × HasTarget (s .action) (s .target)
 
-abbrev pub NonEmpty : {A : Type 0} → List A → Type 0
-NonEmpty [] = ⊥
-NonEmpty (x ∷ xs) = Unit {0}
-
 below-more : (u v : ℕ) (t : Option ℕ) → u ≤ v → Below u t → Below v t
 below-more u v none h b = tt
 below-more u v (some t) h b = omega arith
@@ -164,7 +159,7 @@ rule-ok u t Validate schema next b = refl
 
 module _ (Θ : Theory) where
   abbrev pub LevelOk : ℕ → Level Θ → Type 0
-  LevelOk u l = All (StrandOk u) (l .strands) × NonEmpty (l .strands)
+  LevelOk u l = All (StrandOk u) (l .strands)
 
   abbrev pub Coherent : State Θ → Type 0
   Coherent z = All (LevelOk (z .units)) (z .levels)
@@ -179,7 +174,7 @@ module _ (Θ : Theory) where
   take-ok : (u : ℕ) (σ : Θ .StartInfo) (ss : List (HeldStrand ℕ)) → All (StrandOk u) ss → All (Ok u) (takeRules Θ σ ss)
   unfolding gather
   take-ok u σ [] a = tt
-  take-ok u σ (s ∷ ss) a = all-append (Ok u) (map (made (s .target)) (taken Θ (s .mode) σ)) (takeRules Θ σ ss) (rules-ok u (s .target) (taken Θ (s .mode) σ) (a .0 .0)) (take-ok u σ ss (a .1))
+  take-ok u σ (s ∷ ss) a = all-append (Ok u) (map (made (s .target)) (Θ .elementRules (s .mode) σ)) (takeRules Θ σ ss) (rules-ok u (s .target) (Θ .elementRules (s .mode) σ) (a .0 .0)) (take-ok u σ ss (a .1))
 
   stay-ok : (u : ℕ) (ss : List (HeldStrand ℕ)) → All (StrandOk u) ss → All (Ok u) (map (λ s. record { strand = stay s; schema = 0 }) ss)
   stay-ok u [] a = tt
@@ -190,51 +185,18 @@ module _ (Θ : Theory) where
   enter-ok u (l ∷ ls) σ a = go (Θ .sameSection (l .at) σ)
     where
       go : (b : Bool) → All (Ok u) (cond b (map (λ s. record { strand = stay s; schema = 0 }) (l .strands)) (takeRules Θ σ (l .strands)))
-      go true = stay-ok u (l .strands) (a .0 .0)
-      go false = take-ok u σ (l .strands) (a .0 .0)
-
-  -- An element has a strand: the fallback makes it so.
-  some-rule : (q : Rule) (qs : List Rule) (t : Option ℕ) (es : List Entry) → NonEmpty (map (made t) (orElse qs (q ∷ [])) ++ es)
-  some-rule q [] t es = tt
-  some-rule q (p ∷ ps) t es = tt
-
-  take-some : (σ : Θ .StartInfo) (ss : List (HeldStrand ℕ)) → NonEmpty ss → NonEmpty (takeRules Θ σ ss)
-  unfolding gather
-  take-some σ [] n = absurd n
-  take-some σ (s ∷ ss) n = some-rule (Θ .fallback (s .mode)) (Θ .rulesFor (s .mode) σ) (s .target) (takeRules Θ σ ss)
-
-  map-some : {A B : Type 0} (f : A → B) (xs : List A) → NonEmpty xs → NonEmpty (map f xs)
-  map-some f [] n = absurd n
-  map-some f (x ∷ xs) n = tt
-
-  enter-some : (u : ℕ) (ls : List (Level Θ)) (σ : Θ .StartInfo) → All (LevelOk u) ls → NonEmpty (entriesAt Θ ls σ)
-  enter-some u [] σ a = take-some σ (heldBeforeRoot ∷ []) tt
-  enter-some u (l ∷ ls) σ a = go (Θ .sameSection (l .at) σ)
-    where
-      go : (b : Bool) → NonEmpty (cond b (map (λ s. record { strand = stay s; schema = 0 }) (l .strands)) (takeRules Θ σ (l .strands)))
-      go true = map-some (λ s. record { strand = stay s; schema = 0 }) (l .strands) (a .0 .1)
-      go false = take-some σ (l .strands) (a .0 .1)
-
-  allot-some : (u : ℕ) (es : List Entry) → NonEmpty es → NonEmpty (allot u es)
-  allot-some u [] n = absurd n
-  allot-some u (e ∷ es) n = go (e .strand .mode) (e .strand .action) (e .strand .target) (e .strand .here) (e .schema)
-    where
-      go : (m : ℕ) (c : Action) (t : Option ℕ) (b : Bool) (n : ℕ) → NonEmpty (allot u (entry m c t b n ∷ es))
-      go m c t false n = tt
-      go m c t true n = tt
+      go true = stay-ok u (l .strands) (a .0)
+      go false = take-ok u σ (l .strands) (a .0)
 
   levels-more : (u v : ℕ) (ls : List (Level Θ)) → u ≤ v → All (LevelOk u) ls → All (LevelOk v) ls
-  levels-more u v ls h a = all-weaken (LevelOk u) (LevelOk v) (λ l b. (strands-more u v (l .strands) h (b .0), b .1)) ls a
+  levels-more u v ls h a = all-weaken (LevelOk u) (LevelOk v) (λ l b. strands-more u v (l .strands) h b) ls a
 
   pub after-coherent : (z : State Θ) (e : TreeEvent Θ) → Coherent z → Coherent (after Θ z e)
   unfolding after
   after-coherent z (start σ) c =
       let es = entriesAt Θ (z .levels) σ in
       let u : ℕ = z .units + length (unitsOf Θ σ es) in (
-        (
-          allot-ok (z .units) u (u + newUnits es) es (omega arith) (omega arith) (enter-ok (z .units) (z .levels) σ c),
-          map-some (λ e. e .strand) (allot u es) (allot-some u es (enter-some (z .units) (z .levels) σ c)),
-        ),
+        allot-ok (z .units) u (u + newUnits es) es (omega arith) (omega arith) (enter-ok (z .units) (z .levels) σ c),
         levels-more (z .units) (u + newUnits es) (z .levels) (omega arith) c,
       )
   after-coherent z (text τ) c = c

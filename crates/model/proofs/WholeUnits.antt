@@ -57,7 +57,7 @@ module _ (Θ : Theory) where
     pub spans : Spans 0 (suc (suc (size Θ (t .inside)))) u
     pub shown : All (Shown u) (assigned Θ t)
 
-  module _ (one : (m : ℕ) (σ : Θ .StartInfo) → OneKeeps (Θ .rulesFor m σ)) where
+  module _ (one : (m : ℕ) (σ : Θ .StartInfo) → OneKeeps (Θ .elementRules m σ)) where
     -- An element with the strands es, and what stands behind it with the strands ss.
     module _ (e : Tags Θ) (inner rest : Content Θ) (κ : Θ .Kept) (n : ℕ) (di : Divided Θ (Θ .keptOf (e .start)) (suc (e .startAt)) (e .endAt) inner) (dr : Divided Θ κ (suc (e .endAt)) n rest)
         (es ss : List (Strand (Θ .Body))) (oe : All (ForTarget (Old (suc (e .startAt)))) es) (os : All (ForTarget (Old (e .startAt))) ss) where

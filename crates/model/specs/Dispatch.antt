@@ -1,10 +1,10 @@
 -- The model of a table and a scene: the parameters of Theory.antt, by document 01's records; the records of a scene's events, and their bytes.
 -- Definitions.
 use Prim.Native.Nat.{ℕ}
-use mathlib.Core.List.{List, [], _∷_, map}
+use mathlib.Core.List.{List, map}
 use lib.ListN.{take}
 use Rattle.laws.specs.Gather.{gather}
-use Rattle.table.specs.Table.{Table, orElse, rulesOf, fallback}
+use Rattle.table.specs.Table.{Table}
 use Rattle.reader.specs.declared.Span.{Span}
 use Rattle.reader.specs.Events as scene
 use Rattle.model.specs.Theory.{Piece, opens, holds, Record, Theory}
@@ -30,9 +30,8 @@ dispatch t =
       attributes = λ (e : Element). e .attributes;
       stays = stays;
       sameSpace = λ (a b : Attribute). sameSpace (a .space) (b .space);
-      rulesFor = λ (mode : ℕ) (e : Element). rulesOf t mode 0 (e .space .class);
-      fallback = fallback 0;
-      attributeRules = λ (mode : ℕ) (a : Attribute). orElse (rulesOf t mode 1 (a .space .class)) (fallback 1 mode ∷ []);
+      elementRules = λ (mode : ℕ) (e : Element). t .elementRules mode (e .space .class);
+      attributeRules = λ (mode : ℕ) (a : Attribute). t .attributeRules mode (a .space .class);
       openBody = openBody;
       openAttributes = openAttributes;
       startBody = startBody;

@@ -4,7 +4,7 @@ use Prim.Native.Nat.{ℕ, _+_}
 use mathlib.Core.Path.{_≡_, refl}
 use mathlib.Core.List.{List, [], _∷_, _++_, map}
 use Rattle.laws.specs.Text.{bytes}
-use Rattle.table.specs.Table.{decode}
+use Rattle.table.specs.Table.{Table, decode}
 use Rattle.table.specs.Examples.{T, T2, ruleBytes, listed}
 use Rattle.reader.specs.Events.{events}
 use Rattle.model.specs.Theory.{Record, holds}
@@ -20,7 +20,7 @@ pub record Row : Type 0 where
   pub unit : ℕ
   pub body : Body
 
-abbrev row : ℕ → ℕ → ℕ → ℕ → ℕ → ℕ → ℕ → Row
+abbrev pub row : ℕ → ℕ → ℕ → ℕ → ℕ → ℕ → ℕ → Row
 row unit kind class at len uriAt uriLen =
     record { unit = unit; body = record { kind = kind; class = class; at = at; len = len; uriAt = uriAt; uriLen = uriLen } }
 
@@ -28,11 +28,18 @@ abbrev rowsOf : List (Record Body ℕ) → List Row
 rowsOf = map (λ (r : Record Body ℕ). record { unit = r .unit; body = pieceBody (r .piece) })
 
 -- what the model and the stream give for a table and a scene
+abbrev pub modelBy : Table → List ℕ → List (List Row)
+modelBy t s = map rowsOf (cutModel (dispatch t) (map (told t s) (events s)))
+
+abbrev pub streamBy : Table → List ℕ → List (List Row)
+streamBy t s = map rowsOf (streamOf (dispatch t) (map (told t s) (events s)))
+
+-- for a table's bytes, under the standard's defaults
 abbrev modelRows : List ℕ → List ℕ → List (List Row)
-modelRows t s = map rowsOf (cutModel (dispatch (decode t)) (map (told (decode t) s) (events s)))
+modelRows t = modelBy (decode t)
 
 abbrev streamRows : List ℕ → List ℕ → List (List Row)
-streamRows t s = map rowsOf (streamOf (dispatch (decode t)) (map (told (decode t) s) (events s)))
+streamRows t = streamBy (decode t)
 
 -- what the model gives with the ends that a cut adds
 abbrev completedRows : List ℕ → List ℕ → List (List Row)
@@ -40,14 +47,16 @@ completedRows t s =
     let Θ = dispatch (decode t) in
     map rowsOf (modelOf Θ (treeOf Θ (completed Θ (map (told (decode t) s) (events s)))))
 
--- the Mealy machine of fig. 9 of document 001: ns validated; below it ns2 attributes validated, ns1 unwrapped; below that ns attached
+-- the Mealy machine of fig. 9 of document 001: ns validated; below it ns2 attributes validated, ns1 unwrapped; below that ns attached. And a rule that
+-- fig. 11 does not meet: below ns any other unwrapped
 abbrev figureTable : List ℕ
 figureTable =
-    (3 ∷ 3 ∷ 2 ∷ 4 ∷ [])
+    (3 ∷ 3 ∷ 2 ∷ 5 ∷ [])
     ++ ruleBytes 0 0 1 2 0 1
     ++ ruleBytes 1 1 3 2 1 1
     ++ ruleBytes 1 0 2 1 0 2
     ++ ruleBytes 2 0 1 0 0 2
+    ++ ruleBytes 1 0 255 1 0 1
     ++ listed (bytes "ns")
     ++ listed (bytes "ns1")
     ++ listed (bytes "ns2")
@@ -105,12 +114,13 @@ xmlTable =
 abbrev validatingTable : List ℕ
 validatingTable = 0x01 ∷ 0x01 ∷ 0x02 ∷ 0x02 ∷ 0x03 ∷ 0xFE ∷ 0x00 ∷ 0x00 ∷ 0x07 ∷ 0xFE ∷ 0x01 ∷ 0x00 ∷ 0x01 ∷ 0x75 ∷ []
 
--- below a u root every section attached, and of its elements every attribute
+-- below a u root every section attached, and of its elements every attribute; of the root's attributes no section kept
 abbrev attachingTable : List ℕ
 attachingTable =
-    (1 ∷ 3 ∷ 1 ∷ 3 ∷ [])
+    (1 ∷ 3 ∷ 1 ∷ 4 ∷ [])
     ++ ruleBytes 0 0 1 2 0 1
     ++ ruleBytes 1 0 255 0 0 2
+    ++ ruleBytes 1 1 255 1 0 1
     ++ ruleBytes 2 1 255 0 0 0
     ++ listed (bytes "u")
 
@@ -263,7 +273,7 @@ naming-hides-any-streamed : streamRows namingTable (bytes "<r xmlns=\"u\"><x xml
 unfolding computing
 naming-hides-any-streamed = refl
 
--- D12: a grandchild in its grandparent's namespace starts a section; D1: with no rule the strand unwraps and its target stays
+-- D12: an element in the namespace of an ancestor, but not of its parent, starts a section; the unwrapped ones above it pass the target on
 abbrev grandchild-records : List (List Row)
 grandchild-records =
     (row 0 0 0 0 0 0 0 ∷ row 0 1 1 1 2 0 0 ∷ [])
@@ -302,21 +312,6 @@ xml-stays = refl
 xml-stays-streamed : streamRows xmlTable (bytes "<xml:r xml:a='v'><x xml:b=''/></xml:r>") ≡ xml-stays-records
 unfolding computing
 xml-stays-streamed = refl
-
--- An attribute section without rule is not kept, and opens no unit
-abbrev no-attribute-rule-records : List (List Row)
-no-attribute-rule-records =
-    (row 0 0 0 0 0 0 0 ∷ row 0 1 1 1 1 0 0 ∷ [])
-    ∷ (row 0 5 1 1 1 0 0 ∷ row 0 6 0 0 0 0 0 ∷ [])
-    ∷ []
-
-no-attribute-rule : modelRows T (bytes "<r xmlns=\"u\" xmlns:q=\"w\" q:a=\"1\"/>") ≡ no-attribute-rule-records
-unfolding computing
-no-attribute-rule = refl
-
-no-attribute-rule-streamed : streamRows T (bytes "<r xmlns=\"u\" xmlns:q=\"w\" q:a=\"1\"/>") ≡ no-attribute-rule-records
-unfolding computing
-no-attribute-rule-streamed = refl
 
 -- D10: attribute sections are formed by URIs, not by classes: P and Q, both unlisted, are two
 abbrev unlisted-sections-records : List (List Row)

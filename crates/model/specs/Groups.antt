@@ -4,7 +4,7 @@ use mathlib.Core.List.{List, [], _∷_, _++_}
 use mathlib.Core.Bool.{Bool, true, false, cond, _&&_, _||_, not}
 use Rattle.laws.specs.Lists.{keep, any}
 use Rattle.laws.specs.Gather.{gather}
-use Rattle.table.specs.Table.{Table, orElse, rulesOf, fallback}
+use Rattle.table.specs.Table.{Table}
 use Rattle.table.specs.declared.Action.{Action}
 use Rattle.table.specs.declared.Action.the-variants.{Attach, Unwrap, Validate}
 use Rattle.table.specs.declared.Rule.{Rule}
@@ -33,7 +33,7 @@ groupsOf e = groupsFrom [] (keep (λ (a : Attribute). not (stays e a)) (e .attri
 
 -- "with that strand's mode and kind 1, naming rules before any": the rules that a strand in a mode takes at an attribute section
 abbrev pub groupRules : Table → ℕ → AttributeGroup → List Rule
-groupRules t mode c = orElse (rulesOf t mode 1 (c .space .class)) (fallback 1 mode ∷ [])
+groupRules t mode c = t .attributeRules mode (c .space .class)
 
 -- "each validate rule opens a unit holding a virtual element with these attributes"
 abbrev pub unitBy : Element → AttributeGroup → Action → ℕ → List (AttributeUnit Body)

@@ -5,7 +5,7 @@ use mathlib.Core.Option.{Option, none, some}
 use Prim.Native.Nat.{ℕ, suc, _+_}
 use lib.ListN.{length}
 use Rattle.laws.specs.Gather.{gather, total}
-use Rattle.model.specs.Theory.{Action, Attach, Unwrap, Validate, AttributeUnit, Piece, opens, holds, Record, Theory, taken}
+use Rattle.model.specs.Theory.{Action, Attach, Unwrap, Validate, AttributeUnit, Piece, opens, holds, Record, Theory}
 use Rattle.model.specs.Tree.{TreeEvent, start, text, end}
 
 -- "A strand is one reading of the path from the root: a mode, an action and a target unit or none"; and "whether the unit opened at this element".
@@ -86,7 +86,7 @@ newUnits = total (λ e. cond (e .strand .here) 1 0)
 module _ (Θ : Theory) where
   -- "At a new section each strand, in order, takes the rules". A new unit has no number yet.
   abbrev pub takeRules : Θ .StartInfo → List (HeldStrand ℕ) → List Entry
-  takeRules σ = gather (λ s. map (λ q. record { strand = byRule (q .action) (q .next) none (s .target); schema = q .schema }) (taken Θ (s .mode) σ))
+  takeRules σ = gather (λ s. map (λ q. record { strand = byRule (q .action) (q .next) none (s .target); schema = q .schema }) (Θ .elementRules (s .mode) σ))
 
   -- The strands of an element that starts. "Inside a section strands stay."
   abbrev pub entriesAt : List (Level Θ) → Θ .StartInfo → List Entry

@@ -1,8 +1,7 @@
 -- What the model and the stream take from a table and a scene; a record and its unit. Definitions.
 use mathlib.Core.Bool.{Bool}
-use mathlib.Core.List.{List, [], _∷_}
+use mathlib.Core.List.{List}
 use Prim.Native.Nat.{ℕ}
-use Rattle.table.specs.Table.{orElse}
 pub use Rattle.table.specs.declared.Action.{Action}
 pub use Rattle.table.specs.declared.Action.the-variants.{Attach, Unwrap, Validate}
 pub use Rattle.table.specs.declared.Rule.{Rule}
@@ -29,9 +28,8 @@ pub record Theory : Type 1 where
   pub attributes : StartInfo → List Attribute
   pub stays : StartInfo → Attribute → Bool
   pub sameSpace : Attribute → Attribute → Bool
-  -- "the rules of (its mode, kind 0, class)", in table order; with "No rule" the fallback
-  pub rulesFor : ℕ → StartInfo → List Rule
-  pub fallback : ℕ → Rule
+  -- "takes the rules of (its mode, kind 0, class)", in table order: those that a strand in this mode takes at the section whose root this is
+  pub elementRules : ℕ → StartInfo → List Rule
   -- "with that strand's mode and kind 1, naming rules before any as above": those taken at the section of which this is an attribute
   pub attributeRules : ℕ → Attribute → List Rule
   -- an open, with its schema, of an element's unit and of an attribute unit; a start; an attribute and its value; a virtual element's start and end; a text; an end; a close
@@ -58,8 +56,3 @@ pub data Piece (Body : Type 0) : Type 0 where
 pub record Record (Body U : Type 0) : Type 0 where
   pub unit : U
   pub piece : Piece Body
-
-module _ (Θ : Theory) where
-  -- The rules that a strand in mode m takes at the section whose root is σ.
-  abbrev pub taken : ℕ → Θ .StartInfo → List Rule
-  taken m σ = orElse (Θ .rulesFor m σ) (Θ .fallback m ∷ [])

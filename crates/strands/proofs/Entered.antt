@@ -22,14 +22,13 @@ use Rattle.laws.proofs.Flags.{differ}
 use Rattle.laws.proofs.Holds.{each-at}
 use Rattle.laws.proofs.Lists.{length-tabulate, getD-tabulate}
 use Rattle.laws.proofs.Over.{take-over}
-use Rattle.table.specs.Table.{ruleOf, tableOf, orElse, fallback}
+use Rattle.table.specs.Table.{ruleOf, orElse, standard, fallback, tableOf}
 use Rattle.table.specs.Index.{indexOf, chosenOf}
 use Rattle.table.specs.declared.Action.{Action}
 use Rattle.table.specs.declared.Action.the-variants.{Attach, Unwrap, Validate}
 use Rattle.table.specs.declared.Header.{Header}
 use Rattle.table.specs.declared.Rule.{Rule}
 use Rattle.table.proofs.Indexed.{those}
-use Rattle.model.specs.Theory.{taken}
 use Rattle.model.specs.Stream.{Entry, allot, newUnits, takeRules, HeldStrand, heldBeforeRoot, stay, byRule}
 use Rattle.model.specs.Elements.{Element}
 use Rattle.model.specs.Dispatch.{dispatch}
@@ -37,7 +36,7 @@ use Rattle.strands.specs.Packed.{strandIn, packed}
 use Rattle.strands.specs.Rules.{rulesIn}
 use Rattle.strands.specs.Entries.{madeBy, entriesBy, entriesFrom, stayEntry, strandWord, schemaWord, entryIn, entriesIn, aimedAt, hereCount, Unnumbered}
 use Rattle.strands.proofs.Packing.{Below, Packable, packed-back}
-use Rattle.strands.proofs.StartRecords.{rules-in}
+use Rattle.strands.proofs.StartRecords.{taken-in}
 use Rattle.strands.proofs.UnitNumbers.{here-back, allot-yes, allot-no}
 
 -- five bits for a mode, sixteen for a target
@@ -58,21 +57,21 @@ unfolding strandIn
 root-back = refl
 
 -- ---- the model's
-module _ (table : List ℕ) (h : Header) (few : h .rules ≤ 128) where
+module _ (table : List ℕ) (h : Header) (few : h .rules ≤ 128) (few-modes : h .modes ≤ 32) where
   module _ (σ : Element) (c : σ .space .class < 256) where
     -- of a strand
-    pub entries-are : (r : HeldStrand ℕ) → r .mode < 32 → entriesBy (indexOf table h) (σ .space .class) r ≡ map (madeBy r) (taken (dispatch (tableOf table h)) (r .mode) σ)
+    pub entries-are : (r : HeldStrand ℕ) → r .mode < h .modes → entriesBy (indexOf table h) (σ .space .class) r ≡ map (madeBy r) (tableOf table h .elementRules (r .mode) (σ .space .class))
     unfolding entriesBy
-    entries-are r m = ap (λ (rs : List Rule). map (madeBy r) (orElse rs (fallback 0 (r .mode) ∷ []))) (rules-in table h few (r .mode) 0 (σ .space .class) m (omega arith) c)
+    entries-are r m = ap (map (madeBy r)) (taken-in table h few few-modes (standard .element) (r .mode) 0 (σ .space .class) m (omega arith) c)
 
-    pub take-rules-are : (words : List ℕ) → entriesFrom (indexOf table h) (σ .space .class) words ≡ takeRules (dispatch (tableOf table h)) σ (map strandIn words)
+    pub take-rules-are : (words : List ℕ) → All (λ (w : ℕ). strandIn w .mode < h .modes) words → entriesFrom (indexOf table h) (σ .space .class) words ≡ takeRules (dispatch (tableOf table h)) σ (map strandIn words)
     unfolding gather
-    take-rules-are [] = refl
-    take-rules-are (w ∷ words) = ap₂ _++_ (entries-are (strandIn w) (mode-few w)) (take-rules-are words)
+    take-rules-are [] m = refl
+    take-rules-are (w ∷ words) m = ap₂ _++_ (entries-are (strandIn w) (m .0)) (take-rules-are words (m .1))
 
-    pub before-root : entriesBy (indexOf table h) (σ .space .class) (strandIn 32) ≡ takeRules (dispatch (tableOf table h)) σ (heldBeforeRoot ∷ [])
+    pub before-root : 1 ≤ h .modes → entriesBy (indexOf table h) (σ .space .class) (strandIn 32) ≡ takeRules (dispatch (tableOf table h)) σ (heldBeforeRoot ∷ [])
     unfolding gather
-    before-root = ap (entriesBy (indexOf table h) (σ .space .class)) root-back ∙ entries-are heldBeforeRoot (omega arith) ∙ sym (append-nil (map (madeBy heldBeforeRoot) (taken (dispatch (tableOf table h)) 0 σ)))
+    before-root m = ap (entriesBy (indexOf table h) (σ .space .class)) root-back ∙ entries-are heldBeforeRoot (omega arith) ∙ sym (append-nil (map (madeBy heldBeforeRoot) (tableOf table h .elementRules 0 (σ .space .class))))
 
 pub stay-are : (words : List ℕ) → map stayEntry words ≡ map (λ (s : HeldStrand ℕ). record { strand = stay s; schema = 0 }) (map strandIn words)
 stay-are [] = refl
@@ -97,7 +96,7 @@ in-small : (index : List ℕ) (mode kind class : ℕ) → All Small (rulesIn ind
 unfolding rulesIn
 in-small index mode kind class = let c = chosenOf index mode kind class in rules-small (those index (c .end) (c .key) (c .first))
 
-taken-small : (rs : List Rule) (mode : ℕ) → All Small rs → mode < 32 → All Small (orElse rs (fallback 0 mode ∷ []))
+taken-small : (rs : List Rule) (mode : ℕ) → All Small rs → mode < 32 → All Small (orElse rs (fallback (standard .element) 0 mode ∷ []))
 taken-small [] mode a m = ((m, omega arith), tt)
 taken-small (q ∷ rs) mode a m = a
 
@@ -109,7 +108,7 @@ module _ (P : Entry → Type 0) (index : List ℕ) (class : ℕ) where
 
   all-by : (r : HeldStrand ℕ) → r .mode < 32 → ((q : Rule) → Small q → P (madeBy r q)) → All P (entriesBy index class r)
   unfolding entriesBy
-  all-by r m f = all-made r f (orElse (rulesIn index (r .mode) 0 class) (fallback 0 (r .mode) ∷ [])) (taken-small (rulesIn index (r .mode) 0 class) (r .mode) (in-small index (r .mode) 0 class) m)
+  all-by r m f = all-made r f (orElse (rulesIn index (r .mode) 0 class) (fallback (standard .element) 0 (r .mode) ∷ [])) (taken-small (rulesIn index (r .mode) 0 class) (r .mode) (in-small index (r .mode) 0 class) m)
 
   all-from : ((w : ℕ) → All P (entriesBy index class (strandIn w))) → (words : List ℕ) → All P (entriesFrom index class words)
   unfolding gather

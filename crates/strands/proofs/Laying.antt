@@ -16,7 +16,7 @@ use Rattle.laws.specs.Gather.{gather}
 use Rattle.laws.specs.Over.{overwrite}
 use Rattle.laws.specs.Reading.{le-or-lt}
 use Rattle.laws.proofs.Over.{over-none, over-set, over-over}
-use Rattle.table.specs.Table.{fallback}
+use Rattle.table.specs.Table.{standard, fallback}
 use Rattle.table.specs.declared.Rule.{Rule}
 use Rattle.model.specs.Stream.{Entry, HeldStrand, stay}
 use Rattle.strands.specs.Packed.{strandIn, packed, wordsAt}
@@ -159,7 +159,7 @@ module _ (strands : List ℕ) (level n : ℕ) where
 
 -- ---- what the rules of a section make of a strand
 module _ (index : List ℕ) (class : ℕ) (r : HeldStrand ℕ) where
-  pub rules-none : rulesIn index (r .mode) 0 class ≡ [] → entriesBy index class r ≡ madeBy r (fallback 0 (r .mode)) ∷ []
+  pub rules-none : rulesIn index (r .mode) 0 class ≡ [] → entriesBy index class r ≡ madeBy r (fallback (standard .element) 0 (r .mode)) ∷ []
   unfolding entriesBy
   rules-none e = rw e
 

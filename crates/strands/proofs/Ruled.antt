@@ -13,13 +13,13 @@ use lib.ListN.{length, getD}
 use Rattle.laws.specs.Lists.{any}
 use Rattle.laws.specs.Gather.{total}
 use Rattle.laws.specs.Reading.{le-or-lt}
-use Rattle.table.specs.Table.{ruleOf}
+use Rattle.table.specs.Table.{ruleOf, orElse, standard, fallback}
 use Rattle.table.specs.Index.{bucket, firstOf, nextRule, chosenOf}
 use Rattle.table.specs.declared.Rule.{Rule}
 use Rattle.table.specs.declared.Chosen.{Chosen}
 use Rattle.table.proofs.Indexed.{those, those-none, chosen-says, next-few, next-found, next-here, next-those}
 use Rattle.model.specs.Groups.{isAttach}
-use Rattle.strands.specs.Rules.{rulesIn, opened}
+use Rattle.strands.specs.Rules.{rulesIn, keepsClass, opened}
 
 -- the rules from the i-th on that are chosen
 unfoldable pub left : List ℕ → Chosen → ℕ → List Rule
@@ -93,6 +93,18 @@ attaches r = isAttach (r .action)
 
 abbrev pub opens : Rule → ℕ
 opens r = opened (r .action)
+
+-- there are none, or some
+module _ (l : List ℕ) (mode class : ℕ) (c : Chosen) (size : length l ≡ 256) (e : c ≡ chosenOf l mode 1 class) where
+  pub keeps-none : c .end ≤ c .first → true ≡ keepsClass l mode class
+  unfolding any
+  keeps-none h = rw (sym (left-first l mode 1 class c size e) ∙ at-end l c (c .first) (at-first l mode 1 class c size e) h)
+
+  pub keeps-first : c .first < c .end → any attaches (left l c (c .first)) ≡ keepsClass l mode class
+  keeps-first h =
+      let p : rulesIn l mode 1 class ≡ left l c (c .first) = sym (left-first l mode 1 class c size e) in
+      let q = at-first l mode 1 class c size e .here h in
+      sym (ap (λ (rs : List Rule). any attaches (orElse rs (fallback (standard .attribute) 1 mode ∷ []))) (p ∙ q) ∙ ap (any attaches) (sym q))
 
 module _ (l : List ℕ) (c : Chosen) (i : ℕ) (a : At l c i) where
   module _ (v : Bool) (inv : any attaches (left l c i) ≡ v) where

@@ -1,5 +1,5 @@
 -- The records of a start, from its strands and its attributes with the numbers of their sections, are the model's.
---     rules-in                    the rules of a mode, kind and class
+--     taken-in                    the rules taken in a mode, of a kind, for a class
 --     units-are, tag-units-are    the attribute units along a strand, and along all
 --     kept-are                    the attributes kept along a strand
 --     start-are, starts-are       the records of the element along a strand, and along all
@@ -8,6 +8,7 @@ use mathlib.Core.Path.{_≡_, refl, sym, ap, ap₂, _∙_}
 use mathlib.Core.List.{List, [], _∷_, _++_, map}
 use mathlib.Core.Bool.{Bool, true, false, cond, not, _&&_, _||_}
 use native.Mathlib.Omega.{arith}
+use borrow.Author.Tests.{lt-ltb}
 use lib.ListN.{length, getD}
 use lib.Dec.{eqb}
 use Rattle.laws.specs.Lists.{any, keep}
@@ -17,7 +18,7 @@ use Rattle.laws.proofs.Lists.{keep-map}
 use Rattle.laws.proofs.Elementwise as elementwise
 use Rattle.laws.proofs.Elementwise.{any-same}
 use Rattle.laws.proofs.Members.{all-by, in-kept}
-use Rattle.table.specs.Table.{Table, tableOf, orElse, rulesOf, fallback}
+use Rattle.table.specs.Table.{Table, orElse, rulesOf, Default, standard, fallback, takenOf, allRules, tableOf}
 use Rattle.table.specs.Index.{indexOf}
 use Rattle.table.specs.declared.Header.{Header}
 use Rattle.table.specs.declared.Action.{Action}
@@ -39,17 +40,15 @@ use Rattle.strands.proofs.ListLaws.{gather-places, keep-each, any-and}
 use Rattle.strands.proofs.Grouped.{has, Formed, leaving, sections-of}
 use Rattle.strands.proofs.Numbered.{place-some, allOf, first-in, formed-at, section-members, section-class, Classed}
 
--- ---- the rules: the fallback opens no unit and attaches nothing
-units-orElse : (f : Action → ℕ → List (AttributeUnit Body)) → ((n : ℕ) → f Unwrap n ≡ []) → (mode : ℕ) (rs : List Rule)
-    → gather (λ (r : Rule). f (r .action) (r .schema)) (orElse rs (fallback 1 mode ∷ [])) ≡ gather (λ (r : Rule). f (r .action) (r .schema)) rs
+-- ---- the rules: the default of attributes opens no unit
+abbrev attached : ℕ → Rule
+attached mode = fallback (standard .attribute) 1 mode
+
+units-orElse : (f : Action → ℕ → List (AttributeUnit Body)) → ((n : ℕ) → f Attach n ≡ []) → (mode : ℕ) (rs : List Rule)
+    → gather (λ (r : Rule). f (r .action) (r .schema)) (orElse rs (attached mode ∷ [])) ≡ gather (λ (r : Rule). f (r .action) (r .schema)) rs
 unfolding gather
 units-orElse f e mode [] = simp (e 0)
 units-orElse f e mode (r ∷ rs) = refl
-
-attach-orElse : (mode : ℕ) (rs : List Rule) → any (λ (r : Rule). isAttach (r .action)) (orElse rs (fallback 1 mode ∷ [])) ≡ any (λ (r : Rule). isAttach (r .action)) rs
-unfolding any
-attach-orElse mode [] = refl
-attach-orElse mode (r ∷ rs) = refl
 
 -- the unit of a section
 unit-is : (σ : Element) (c : AttributeGroup) (action : Action) (schema : ℕ) → unitFor (σ .at) (map (sortedOf σ) (c .members)) action schema ≡ unitBy σ c action schema
@@ -57,10 +56,15 @@ unit-is σ c Attach schema = refl
 unit-is σ c Unwrap schema = refl
 unit-is σ c Validate schema = rw (gather-map sortedBodies (sortedOf σ) (c .members))
 
-module _ (table : List ℕ) (h : Header) (few : h .rules ≤ 128) where
-  pub rules-in : (mode kind class : ℕ) → mode < 32 → kind < 2 → class < 256 → rulesIn (indexOf table h) mode kind class ≡ rulesOf (tableOf table h) mode kind class
+module _ (table : List ℕ) (h : Header) (few : h .rules ≤ 128) (few-modes : h .modes ≤ 32) where
+  rules-in : (mode kind class : ℕ) → mode < h .modes → kind < 2 → class < 256 → rulesIn (indexOf table h) mode kind class ≡ rulesOf (allRules table h) mode kind class
   unfolding rulesIn
-  rules-in mode kind class m k c = chosen-rules table h few mode kind class m k c
+  rules-in mode kind class m k c = chosen-rules table h few mode kind class (omega arith) k c
+
+  pub taken-in : (d : Default) (mode kind class : ℕ) → mode < h .modes → kind < 2 → class < 256
+      → orElse (rulesIn (indexOf table h) mode kind class) (fallback d kind mode ∷ []) ≡ takenOf h (allRules table h) d kind mode class
+  unfolding takenOf
+  taken-in d mode kind class m k c = rw (rules-in mode kind class m k c, lt-ltb mode (h .modes) m)
 
   module _ (σ : Element) (v : Classed σ) where
     abbrev t : Table
@@ -72,16 +76,16 @@ module _ (table : List ℕ) (h : Header) (few : h .rules ≤ 128) where
     class-few : (c : AttributeGroup) → Formed (leaving σ) c → c .space .class < 256
     class-few c f = rw (f .space-is) (v .few-classes (f .first) (first-in σ c f))
 
-    module _ (mode : ℕ) (m : mode < 32) where
+    module _ (mode : ℕ) (m : mode < h .modes) where
       -- ---- attribute units
       section-units : (d : AttributeGroup) (i : ℕ) → i < length (groupsOf σ)
           → sectionUnits index mode (σ .at) (allOf σ) (1 + i) ≡ (gather (λ (r : Rule). unitBy σ (getD (groupsOf σ) i d) (r .action) (r .schema)) (groupRules t mode (getD (groupsOf σ) i d)))
       unfolding sectionUnits
       section-units d i l =
           ap₂ (λ (ms : List Sorted) (class : ℕ). gather (λ (r : Rule). unitFor (σ .at) ms (r .action) (r .schema)) (rulesIn index mode 1 class)) (section-members σ d i l) (section-class σ d i l)
-          ∙ ap (gather (λ (r : Rule). unitFor (σ .at) (map (sortedOf σ) (c .members)) (r .action) (r .schema))) (rules-in mode 1 (c .space .class) m (omega arith) (class-few c (formed-at σ d i l)))
-          ∙ gather-same (λ (r : Rule). unitFor (σ .at) (map (sortedOf σ) (c .members)) (r .action) (r .schema)) (λ (r : Rule). unitBy σ c (r .action) (r .schema)) (λ r. unit-is σ c (r .action) (r .schema)) (rulesOf t mode 1 (c .space .class))
-          ∙ sym (units-orElse (unitBy σ c) (λ n. refl) mode (rulesOf t mode 1 (c .space .class)))
+          ∙ gather-same (λ (r : Rule). unitFor (σ .at) (map (sortedOf σ) (c .members)) (r .action) (r .schema)) (λ (r : Rule). unitBy σ c (r .action) (r .schema)) (λ r. unit-is σ c (r .action) (r .schema)) (rulesIn index mode 1 (c .space .class))
+          ∙ sym (units-orElse (unitBy σ c) (λ n. refl) mode (rulesIn index mode 1 (c .space .class)))
+          ∙ ap (gather (λ (r : Rule). unitBy σ c (r .action) (r .schema))) (taken-in (standard .attribute) mode 1 (c .space .class) m (omega arith) (class-few c (formed-at σ d i l)))
         where
           c : AttributeGroup
           c = getD (groupsOf σ) i d
@@ -94,10 +98,10 @@ module _ (table : List ℕ) (h : Header) (few : h .rules ≤ 128) where
 
       -- ---- kept attributes
       abbrev attaches : ℕ → Bool
-      attaches class = any (λ (r : Rule). isAttach (r .action)) (rulesOf t mode 1 class)
+      attaches class = any (λ (r : Rule). isAttach (r .action)) (t .attributeRules mode class)
 
       class-attaches : (class : ℕ) → class < 256 → keepsClass index mode class ≡ attaches class
-      class-attaches class l = ap (any (λ (r : Rule). isAttach (r .action))) (rules-in mode 1 class m (omega arith) l)
+      class-attaches class l = ap (any (λ (r : Rule). isAttach (r .action))) (taken-in (standard .attribute) mode 1 class m (omega arith) l)
 
       section-keeps : (a : Attribute) → In a (σ .attributes) → (c : AttributeGroup) → Formed (leaving σ) c → (has c a && keepsGroup t mode c) ≡ (has c a && attaches (a .space .class))
       section-keeps a i c f = by (has c a) refl
@@ -105,8 +109,7 @@ module _ (table : List ℕ) (h : Header) (few : h .rules ≤ 128) where
           by : (z : Bool) → z ≡ has c a → (z && keepsGroup t mode c) ≡ (z && attaches (a .space .class))
           by true e =
               let s : sameSpace (f .first .space) (a .space) ≡ true = ap (λ (w : Space). sameSpace w (a .space)) (sym (f .space-is)) ∙ sym e in
-              attach-orElse mode (rulesOf t mode 1 (c .space .class))
-              ∙ ap attaches (ap (λ (w : Space). w .class) (f .space-is) ∙ v .one-class (f .first) a (first-in σ c f) i s)
+              ap attaches (ap (λ (w : Space). w .class) (f .space-is) ∙ v .one-class (f .first) a (first-in σ c f) i s)
           by false e = refl
 
       pub kept-are : (a : Attribute) → In a (σ .attributes) → keeps (indexOf table h) mode (sortedOf σ a) ≡ kept (tableOf table h) mode σ a
@@ -138,21 +141,21 @@ module _ (table : List ℕ) (h : Header) (few : h .rules ≤ 128) where
           ∙ gather-map sortedBodies (sortedOf σ) (keep (kept t mode σ) (σ .attributes))
 
     -- ---- along a strand, and along all
-    pub start-are : (e : Entry) (begun : Body) → e .strand .mode < 32 → begun ≡ startBody σ
+    pub start-are : (e : Entry) (begun : Body) → e .strand .mode < h .modes → begun ≡ startBody σ
         → elementRecords (indexOf table h) (σ .at) begun (allOf σ) e ≡ startRecords (dispatch (tableOf table h)) σ e
     unfolding elementRecords startBodies
     start-are e begun m d =
         ap₂ (λ (b : Body) (bs : List Body). give (receives (e .strand)) (opensWith (σ .at) (e .schema) (e .strand .here) ++ map holds (b ∷ bs))) d
         (kept-bodies (e .strand .mode) m)
 
-    pub starts-are : (es : List Entry) (begun : Body) → All (λ (e : Entry). e .strand .mode < 32) es → begun ≡ startBody σ
+    pub starts-are : (es : List Entry) (begun : Body) → All (λ (e : Entry). e .strand .mode < h .modes) es → begun ≡ startBody σ
         → gather (elementRecords (indexOf table h) (σ .at) begun (allOf σ)) es ≡ gather (startRecords (dispatch (tableOf table h)) σ) es
     starts-are es begun a d =
-        elementwise.gather-same (λ (e : Entry). e .strand .mode < 32) (elementRecords index (σ .at) begun (allOf σ)) (startRecords (dispatch t) σ) (λ e m. start-are e begun m d) es a
+        elementwise.gather-same (λ (e : Entry). e .strand .mode < h .modes) (elementRecords index (σ .at) begun (allOf σ)) (startRecords (dispatch t) σ) (λ e m. start-are e begun m d) es a
 
-    pub tag-units-are : (es : List Entry) → All (λ (e : Entry). e .strand .mode < 32) es
+    pub tag-units-are : (es : List Entry) → All (λ (e : Entry). e .strand .mode < h .modes) es
         → tagUnits (indexOf table h) (σ .at) (allOf σ) (length (groupsOf σ)) es ≡ unitsOf (dispatch (tableOf table h)) σ es
     tag-units-are es a =
-        elementwise.gather-same (λ (e : Entry). e .strand .mode < 32) (λ (e : Entry). strandUnits index (σ .at) (allOf σ) (length (groupsOf σ)) (e .strand .mode))
+        elementwise.gather-same (λ (e : Entry). e .strand .mode < h .modes) (λ (e : Entry). strandUnits index (σ .at) (allOf σ) (length (groupsOf σ)) (e .strand .mode))
         (λ (e : Entry). attributeUnits t (e .strand .mode) σ)
         (λ e m. units-are (e .strand .mode) m) es a

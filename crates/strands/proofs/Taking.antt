@@ -4,7 +4,7 @@ use mathlib.Core.Path.{_≡_, refl, sym, ap, _∙_}
 use mathlib.Core.List.{List, [], _∷_, map}
 use native.Mathlib.Omega.{arith}
 use lib.ListN.{length, getD, set}
-use Rattle.table.specs.Table.{ruleOf, fallback}
+use Rattle.table.specs.Table.{ruleOf, standard, fallback}
 use Rattle.table.specs.Index.{nextRule, chosenOf}
 use Rattle.table.specs.declared.Rule.{Rule}
 use Rattle.table.specs.declared.Chosen.{Chosen}
@@ -19,22 +19,22 @@ use Rattle.strands.proofs.Laying.{Laying, Ended, laying-start, laying-o
 pub rule-next : (q : Rule) (w : ℕ) → q ≡ ruleOf w → q .next < 32
 rule-next q w e = omega (arith, ap (λ (r : Rule). r .next) e)
 
-pub fallback-next : (q : Rule) (mode : ℕ) → q ≡ fallback 0 mode → mode < 32 → q .next < 32
+pub fallback-next : (q : Rule) (mode : ℕ) → q ≡ fallback (standard .element) 0 mode → mode < 32 → q .next < 32
 fallback-next q mode e h = omega (arith, ap (λ (r : Rule). r .next) e)
 
 -- where no rule fits
 module _ (w mode : ℕ) (words₀ schemas₀ : List ℕ) (n : ℕ) where
   abbrev one : Entry
-  one = madeBy (strandIn w) (fallback 0 mode)
+  one = madeBy (strandIn w) (fallback (standard .element) 0 mode)
 
   pub one-full : 16 ≤ n → Ended (one ∷ []) words₀ schemas₀ n words₀ schemas₀ 17
   one-full h = laying-full (one ∷ []) words₀ schemas₀ n words₀ schemas₀ n (one ∷ []) (laying-start (one ∷ []) words₀ schemas₀ n) one [] refl h
 
-  pub one-laid : n < 16 → length words₀ ≡ 16 → length schemas₀ ≡ 16 → (q : Rule) → q ≡ fallback 0 mode → (v : ℕ) → v ≡ packed (madeBy (strandIn w) q .strand)
-      → Ended (one ∷ []) words₀ schemas₀ n (set words₀ n v) (set schemas₀ n 0) (n + 1)
+  pub one-laid : n < 16 → length words₀ ≡ 16 → length schemas₀ ≡ 16 → (q : Rule) → q ≡ fallback (standard .element) 0 mode → (v : ℕ) → v ≡ packed (madeBy (strandIn w) q .strand)
+      → Ended (one ∷ []) words₀ schemas₀ n (set words₀ n v) (set schemas₀ n (q .schema)) (n + 1)
   one-laid h lw ls q e v ev =
-      laying-end (one ∷ []) words₀ schemas₀ n (set words₀ n v) (set schemas₀ n 0) (n + 1) []
-      (laying-one (one ∷ []) words₀ schemas₀ n words₀ schemas₀ n (one ∷ []) (laying-start (one ∷ []) words₀ schemas₀ n) one [] refl (omega arith) (omega arith) v 0 (ev ∙ ap (λ (r : Rule). packed (madeBy (strandIn w) r .strand)) e) refl)
+      laying-end (one ∷ []) words₀ schemas₀ n (set words₀ n v) (set schemas₀ n (q .schema)) (n + 1) []
+      (laying-one (one ∷ []) words₀ schemas₀ n words₀ schemas₀ n (one ∷ []) (laying-start (one ∷ []) words₀ schemas₀ n) one [] refl (omega arith) (omega arith) v (q .schema) (ev ∙ ap (λ (r : Rule). packed (madeBy (strandIn w) r .strand)) e) (ap (λ (r : Rule). r .schema) e))
       refl
       (omega arith)
 
@@ -53,13 +53,13 @@ module _ (index : List ℕ) (class w mode : ℕ) (em : mode ≡ strandIn w .mode
     start-at = at-first index mode 0 class c size ec
 
     -- there is none
-    only : c .end ≤ c .first → es ≡ made (fallback 0 mode) ∷ []
+    only : c .end ≤ c .first → es ≡ made (fallback (standard .element) 0 mode) ∷ []
     only h =
         rules-none index class (strandIn w) (sym all-left ∙ at-end index c (c .first) start-at h)
-        ∙ ap (λ (m : ℕ). made (fallback 0 m) ∷ []) (sym em)
+        ∙ ap (λ (m : ℕ). made (fallback (standard .element) 0 m) ∷ []) (sym em)
 
     module _ (words₀ schemas₀ : List ℕ) (n : ℕ) where
-      pub none-taken : c .end ≤ c .first → (words schemas : List ℕ) (r : ℕ) → Ended (made (fallback 0 mode) ∷ []) words₀ schemas₀ n words schemas r → Ended es words₀ schemas₀ n words schemas r
+      pub none-taken : c .end ≤ c .first → (words schemas : List ℕ) (r : ℕ) → Ended (made (fallback (standard .element) 0 mode) ∷ []) words₀ schemas₀ n words schemas r → Ended es words₀ schemas₀ n words schemas r
       none-taken h words schemas r z = rw (only h) z
 
       -- there are some

@@ -9,7 +9,7 @@ use lib.ListN.{length, getD}
 use lib.Dec.{leb}
 use Rattle.laws.specs.Lists.{tabulate}
 use Rattle.laws.specs.Gather.{gather, total}
-use Rattle.table.specs.Table.{orElse, fallback}
+use Rattle.table.specs.Table.{orElse, standard, fallback}
 use Rattle.table.specs.declared.Rule.{Rule}
 use Rattle.model.specs.Stream.{Entry, HeldStrand, byRule, stay}
 use Rattle.strands.specs.Packed.{strandIn, packed}
@@ -19,9 +19,9 @@ use Rattle.strands.specs.Rules.{rulesIn}
 abbrev pub madeBy : HeldStrand ℕ → Rule → Entry
 madeBy r q = record { strand = byRule (q .action) (q .next) none (r .target); schema = q .schema }
 
--- "each strand .. takes the rules of (its mode, kind 0, class)"; "No rule: one unwrap strand, same mode"
+-- "each strand .. takes the rules of (its mode, kind 0, class)"; with no rule "it is validated against reject", N3
 unfoldable pub entriesBy : List ℕ → ℕ → HeldStrand ℕ → List Entry
-entriesBy index class r = map (madeBy r) (orElse (rulesIn index (r .mode) 0 class) (fallback 0 (r .mode) ∷ []))
+entriesBy index class r = map (madeBy r) (orElse (rulesIn index (r .mode) 0 class) (fallback (standard .element) 0 (r .mode) ∷ []))
 
 -- of all strands, packed in numbers
 abbrev pub entriesFrom : List ℕ → ℕ → List ℕ → List Entry

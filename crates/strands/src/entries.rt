@@ -16,23 +16,26 @@ ghost use mathlib.Core.List.{List, [], _∷_, map};
 ghost use Prim.Native.Nat.{_+_, _≤_, _<_};
 ghost use lib.ListN.{length, take};
 ghost use Rattle.laws.specs.Members.{All};
-ghost use Rattle.table.specs.Table.{fallback};
+ghost use Rattle.table.specs.Table.{standard, fallback};
 ghost use Rattle.laws.specs.Over.{overwrite};
 ghost use Rattle.model.specs.Stream.{Entry, allot};
 ghost use Rattle.strands.specs.Packed.{strandIn, wordsAt};
 ghost use Rattle.strands.specs.Levels.{levelStrands};
 ghost use Rattle.strands.specs.Entries.{madeBy, entriesBy, entriesFrom, stayEntry, counted, strandWord, schemaWord, hereCount, Unnumbered};
 
-// What is taken where no rule fits: one unwrap strand in the same mode.
+// The schema of reject.
+const REJECT: u8 = 255;
+
+// What is taken where no rule fits: validate against reject, in the same mode.
 fn fallback_of(mode: u8) -> Rule
-    ensures { λ r. ⌜ r ≡ fallback 0 mode ⌝ }
+    ensures { λ r. ⌜ r ≡ fallback (standard .element) 0 mode ⌝ }
 {
     Rule {
         mode,
         kind: 0,
         class: 255,
-        action: Action::Unwrap,
-        schema: 0,
+        action: Action::Validate,
+        schema: REJECT,
         next: mode,
     }
 }
@@ -47,7 +50,7 @@ fn take_fallback(
 ) -> usize
     requires { ⌜ (n ≤ 16) × (mode < 32) ⌝ }
     ensures { λ r. ⌜ (
-        let es = madeBy (strandIn w) (fallback 0 mode) ∷ [] in
+        let es = madeBy (strandIn w) (fallback (standard .element) 0 mode) ∷ [] in
         (r ≡ counted (n + length es))
         × (n + length es ≤ 16 → now (words .exit) ≡ overwrite (now (words .entry)) n (map strandWord es))
         × (n + length es ≤ 16 → now (schemas .exit) ≡ overwrite (now (schemas .entry)) n (map schemaWord es))
@@ -58,8 +61,9 @@ fn take_fallback(
     }
     let strand_words: &mut [u32] = words;
     let schema_words: &mut [u32] = schemas;
-    strand_words[n] = made_by(w, fallback_of(mode));
-    schema_words[n] = 0;
+    let rule = fallback_of(mode);
+    strand_words[n] = made_by(w, rule);
+    schema_words[n] = rule.schema as u32;
     n + 1
 }
 

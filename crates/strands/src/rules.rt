@@ -28,13 +28,16 @@ fn opened(a: Action) -> usize
     }
 }
 
-// Does one keep them with the element?
+// Does one keep them with the element? Where there is none, they are kept.
 pub(crate) fn keeps_class(index: &[u32; 256], mode: u8, class: u8) -> bool
     ensures { λ r. ⌜ r ≡ keepsClass (now (index .entry)) mode class ⌝ }
 {
     let c = choose(index, mode, 1, class);
     let rules: &[u32] = index;
     let mut i = c.first;
+    if c.end <= i {
+        return true;
+    }
     while i < c.end {
         let rule = rule_of(rules[i]);
         let action = rule.action;

@@ -22,7 +22,7 @@ use Rattle.laws.proofs.Lists.{length-tabulate, keep-map, all-kept, pair-kept}
 use Rattle.laws.proofs.Members.{in-at, all-in, none-in, map-in, all-by}
 use Rattle.compare.specs.Compare.{xmlUri}
 use Rattle.compare.proofs.Equal.{same-refl}
-use Rattle.table.specs.Table.{headerOf, wordAt, wordsOf, fieldsOf, actionOf, ruleOf, urisFrom, urisOf, decode, namesClass, orElse, rulesOf, anyClass as anyClass}
+use Rattle.table.specs.Table.{headerOf, wordAt, wordsOf, fieldsOf, actionOf, ruleOf, urisFrom, urisOf, allRules, namesClass, orElse, rulesOf, anyClass as anyClass}
 use Rattle.table.specs.Judge.{said, judged, Accepted, headerFits, lengthFits, urisFill, wordFits, isEmpty, keeps, sameRuleKey, rulesClash, urisClash}
 use Rattle.table.specs.declared.Header.{Header}
 use Rattle.table.specs.declared.Fields.{Fields}
@@ -227,7 +227,7 @@ module _ (h : Header) (w : ℕ) where
         next-in = ltb-true (fields .next) (h .modes) (and-left next zeros e₃);
       }
 
-pub rule-in : (t : List ℕ) → Accepted t ≡ true → (r : Rule) → In r (decode t .rules) → RuleIn (headerOf t) r
+pub rule-in : (t : List ℕ) → Accepted t ≡ true → (r : Rule) → In r (allRules t (headerOf t)) → RuleIn (headerOf t) r
 rule-in t a r m =
     let h : Header = headerOf t in
     let g = map-in ruleOf r (wordsOf t h) m in
@@ -286,7 +286,7 @@ either-one : (a b : List Rule) → OneKept a → OneKept b → OneKept (orElse a
 either-one [] b h k = k
 either-one (r ∷ a) b h k = h
 
-pub one-kept : (t : List ℕ) → Accepted t ≡ true → (mode kind class : ℕ) → OneKept (rulesOf (decode t) mode kind class)
+pub one-kept : (t : List ℕ) → Accepted t ≡ true → (mode kind class : ℕ) → OneKept (rulesOf (allRules t (headerOf t)) mode kind class)
 unfolding rulesOf
 one-kept t a mode kind class =
     let ws : List ℕ = wordsOf t (headerOf t) in

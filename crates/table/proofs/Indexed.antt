@@ -17,7 +17,7 @@ use Rattle.laws.specs.Lists.{any, keep, tabulate}
 use Rattle.laws.specs.Reading.{le-or-lt, slice-here}
 use Rattle.laws.proofs.Flags.{flag-same}
 use Rattle.laws.proofs.Lists.{length-tabulate, keep-same, keep-none, keep-append, keep-map, any-append, any-stronger}
-use Rattle.table.specs.Table.{wordAt, wordsOf, ruleOf, tableOf, namesClass, orElse, rulesOf, anyClass as anyClass}
+use Rattle.table.specs.Table.{wordAt, wordsOf, ruleOf, allRules, namesClass, orElse, rulesOf, anyClass as anyClass}
 use Rattle.table.specs.Index.{keyOf, bucketOf, bucket, indexed, indexFrom, upTo, indexOf, nextFrom, nextRule, wordIn, firstOf, endOf, chosenOf}
 use Rattle.table.specs.declared.Header.{Header}
 use Rattle.table.specs.declared.Rule.{Rule}
@@ -371,13 +371,13 @@ module _ (t : List ℕ) (h : Header) (few : h .rules ≤ 128) (mode kind class :
 
   -- where those that name the class are some, or none
   some-naming : (w : ℕ) (rest : List ℕ) → those l high (bucket mode kind * 256 + class) low ≡ w ∷ rest
-      → keep (namesClass mode kind class) (map ruleOf ws) ≡ rulesOf (tableOf t h) mode kind class
+      → keep (namesClass mode kind class) (map ruleOf ws) ≡ rulesOf (allRules t h) mode kind class
   unfolding rulesOf
   some-naming w rest e =
       let d : keep (namesClass mode kind class) (map ruleOf ws) ≡ ruleOf w ∷ map ruleOf rest = kept-words mode kind class hm hk hc ws ∙ ap (map ruleOf) (sym (all-those class hc) ∙ e) in
       d ∙ sym (ap (λ (rs : List Rule). orElse rs (keep (namesClass mode kind anyClass) (map ruleOf ws))) d)
 
-  no-naming : those l high (bucket mode kind * 256 + class) low ≡ [] → keep (namesClass mode kind anyClass) (map ruleOf ws) ≡ rulesOf (tableOf t h) mode kind class
+  no-naming : those l high (bucket mode kind * 256 + class) low ≡ [] → keep (namesClass mode kind anyClass) (map ruleOf ws) ≡ rulesOf (allRules t h) mode kind class
   unfolding rulesOf
   no-naming e =
       let d : keep (namesClass mode kind class) (map ruleOf ws) ≡ [] = kept-words mode kind class hm hk hc ws ∙ ap (map ruleOf) (sym (all-those class hc) ∙ e) in
@@ -386,7 +386,7 @@ module _ (t : List ℕ) (h : Header) (few : h .rules ≤ 128) (mode kind class :
   -- the rules of the chosen key in the chosen window
   pub chosen-rules : map ruleOf
       (keep (hasKey (chosenOf (indexOf t h) mode kind class .key)) (slice (chosenOf (indexOf t h) mode kind class .first) (chosenOf (indexOf t h) mode kind class .end) (indexOf t h)))
-      ≡ rulesOf (tableOf t h) mode kind class
+      ≡ rulesOf (allRules t h) mode kind class
   unfolding chosenOf
   chosen-rules = by (ltb naming high) refl
     where
@@ -396,7 +396,7 @@ module _ (t : List ℕ) (h : Header) (few : h .rules ≤ 128) (mode kind class :
       c : Bool → Chosen
       c z = cond z (record { key = bucket mode kind * 256 + class; first = naming; end = high }) (record { key = bucket mode kind * 256 + 255; first = nextRule l low high (bucket mode kind * 256 + 255); end = high })
 
-      by : (z : Bool) → z ≡ ltb naming high → map ruleOf (keep (hasKey (c z .key)) (slice (c z .first) (c z .end) l)) ≡ rulesOf (tableOf t h) mode kind class
+      by : (z : Bool) → z ≡ ltb naming high → map ruleOf (keep (hasKey (c z .key)) (slice (c z .first) (c z .end) l)) ≡ rulesOf (allRules t h) mode kind class
       by true e =
           next-rules class hc
           ∙ some-naming (getD l naming 0) (those l high (bucket mode kind * 256 + class) (naming + 1))

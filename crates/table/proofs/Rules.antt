@@ -14,16 +14,16 @@ use Rattle.laws.specs.Members.{In}
 use Rattle.laws.proofs.Flags.{and-left, and-right}
 use Rattle.laws.proofs.Lists.{keep-same, keep-none, keep-other}
 use Rattle.laws.proofs.Members.{in-kept, kept-in}
-use Rattle.table.specs.Table.{Table, namesClass, orElse, rulesOf, anyClass as anyClass}
+use Rattle.table.specs.Table.{namesClass, orElse, rulesOf, anyClass as anyClass}
 use Rattle.table.specs.declared.Rule.{Rule}
 
--- a rule of the table names the class
-abbrev pub named : Table → ℕ → ℕ → ℕ → Bool
-named t mode kind class = any (namesClass mode kind class) (t .rules)
+-- a rule of these names the class
+abbrev pub named : List Rule → ℕ → ℕ → ℕ → Bool
+named rs mode kind class = any (namesClass mode kind class) rs
 
 -- the rule names the class; or it is any, and no rule names the class
-abbrev pub taken : Table → ℕ → ℕ → ℕ → Rule → Bool
-taken t mode kind class r = namesClass mode kind class r || (namesClass mode kind anyClass r && not (named t mode kind class))
+abbrev pub taken : List Rule → ℕ → ℕ → ℕ → Rule → Bool
+taken rs mode kind class r = namesClass mode kind class r || (namesClass mode kind anyClass r && not (named rs mode kind class))
 
 module _ (p q : Rule → Bool) where
   -- where one passes, the others stay
@@ -46,16 +46,16 @@ module _ (p q : Rule → Bool) where
           ap (λ (k : List Rule). orElse k (keep q l)) (keep-none p l (sym e))
           ∙ sym (keep-other p (λ (r : Rule). q r && true) l (sym e) ∙ keep-same (λ (r : Rule). q r && true) q (λ r. and-true (q r)) l)
 
-module _ (t : Table) (mode kind class : ℕ) where
-  pub rules-kept : rulesOf t mode kind class ≡ keep (taken t mode kind class) (t .rules)
+module _ (rs : List Rule) (mode kind class : ℕ) where
+  pub rules-kept : rulesOf rs mode kind class ≡ keep (taken rs mode kind class) rs
   unfolding rulesOf
-  rules-kept = either-kept (namesClass mode kind class) (namesClass mode kind anyClass) (t .rules)
+  rules-kept = either-kept (namesClass mode kind class) (namesClass mode kind anyClass) rs
 
-  pub taken-in : (r : Rule) → In r (rulesOf t mode kind class) → In r (t .rules) × (taken t mode kind class r ≡ true)
-  taken-in r m = kept-in (taken t mode kind class) r (t .rules) (subst (In r) rules-kept m)
+  pub taken-in : (r : Rule) → In r (rulesOf rs mode kind class) → In r rs × (taken rs mode kind class r ≡ true)
+  taken-in r m = kept-in (taken rs mode kind class) r rs (subst (In r) rules-kept m)
 
-  pub in-taken : (r : Rule) → In r (t .rules) → taken t mode kind class r ≡ true → In r (rulesOf t mode kind class)
-  in-taken r m e = subst (In r) (sym rules-kept) (in-kept (taken t mode kind class) r (t .rules) m e)
+  pub in-taken : (r : Rule) → In r rs → taken rs mode kind class r ≡ true → In r (rulesOf rs mode kind class)
+  in-taken r m e = subst (In r) (sym rules-kept) (in-kept (taken rs mode kind class) r rs m e)
 
 -- what the test says
 pub record Written (mode kind class : ℕ) (r : Rule) : Type 0 where
@@ -76,19 +76,19 @@ module _ (mode kind class : ℕ) (r : Rule) where
   pub says-written : Written mode kind class r → namesClass mode kind class r ≡ true
   says-written w = simp (eq-eqb (r .mode) mode (w .mode-is), eq-eqb (r .kind) kind (w .kind-is), eq-eqb (r .class) class (w .class-is))
 
-module _ (t : Table) (mode kind class : ℕ) (r : Rule) where
-  pub taken-says : taken t mode kind class r ≡ true → Written mode kind class r ⊎ (Written mode kind anyClass r × (named t mode kind class ≡ false))
+module _ (rs : List Rule) (mode kind class : ℕ) (r : Rule) where
+  pub taken-says : taken rs mode kind class r ≡ true → Written mode kind class r ⊎ (Written mode kind anyClass r × (named rs mode kind class ≡ false))
   taken-says = by (namesClass mode kind class r) refl
     where
-      by : (b : Bool) → b ≡ namesClass mode kind class r → (b || (namesClass mode kind anyClass r && not (named t mode kind class))) ≡ true
-          → Written mode kind class r ⊎ (Written mode kind anyClass r × (named t mode kind class ≡ false))
+      by : (b : Bool) → b ≡ namesClass mode kind class r → (b || (namesClass mode kind anyClass r && not (named rs mode kind class))) ≡ true
+          → Written mode kind class r ⊎ (Written mode kind anyClass r × (named rs mode kind class ≡ false))
       by true e h = inl (written-says mode kind class r (sym e))
       by false e h =
           inr (
-            written-says mode kind anyClass r (and-left (namesClass mode kind anyClass r) (not (named t mode kind class)) h),
-            not-true (named t mode kind class) (and-right (namesClass mode kind anyClass r) (not (named t mode kind class)) h),
+            written-says mode kind anyClass r (and-left (namesClass mode kind anyClass r) (not (named rs mode kind class)) h),
+            not-true (named rs mode kind class) (and-right (namesClass mode kind anyClass r) (not (named rs mode kind class)) h),
           )
 
-  pub says-taken : Written mode kind class r ⊎ (Written mode kind anyClass r × (named t mode kind class ≡ false)) → taken t mode kind class r ≡ true
+  pub says-taken : Written mode kind class r ⊎ (Written mode kind anyClass r × (named rs mode kind class ≡ false)) → taken rs mode kind class r ≡ true
   says-taken (inl w) = simp (says-written mode kind class r w)
   says-taken (inr w) = simp (says-written mode kind anyClass r (w .0), w .1, or-true)

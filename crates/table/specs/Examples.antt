@@ -6,7 +6,7 @@ use mathlib.Core.Bool.{true, false}
 use lib.ListN.{length}
 use Rattle.laws.specs.Text.{bytes}
 use Rattle.compare.specs.Compare.{xmlUri, xmlnsUri}
-use Rattle.table.specs.Table.{decode, rulesOf, classOf}
+use Rattle.table.specs.Table.{former, decodeBy, decode, classOf}
 use Rattle.table.specs.Judge.{judged, said, Accepted}
 use Rattle.table.specs.declared.Action.{Action}
 use Rattle.table.specs.declared.Action.the-variants.{Attach, Unwrap, Validate}
@@ -175,33 +175,47 @@ rule m k c a s n = record { mode = m; kind = k; class = c; action = a; schema = 
 abbrev wide : List ℕ
 wide = 0 ∷ 32 ∷ 64 ∷ 1 ∷ 0xFF ∷ 0xFA ∷ 0x3F ∷ 0xF0 ∷ []
 
-wide-fields : (judged wide ≡ said 0 8) × (rulesOf (decode wide) 31 1 254 ≡ rule 31 1 254 Validate 63 30 ∷ [])
+wide-fields : (judged wide ≡ said 0 8) × (decode wide .attributeRules 31 254 ≡ rule 31 1 254 Validate 63 30 ∷ [])
 unfolding computing
 wide-fields = (refl, refl)
 
--- of T2 a naming rule hides the any rule beside it; any takes every other class, 0 and 254 too (A7); another mode, another kind: none
-naming : rulesOf (decode T2) 1 0 2 ≡ rule 1 0 2 Validate 1 1 ∷ rule 1 0 2 Attach 0 1 ∷ []
+-- of T2 a naming rule hides the any rule beside it; any takes every other class, 0 and 254 too (A7)
+naming : decode T2 .elementRules 1 2 ≡ rule 1 0 2 Validate 1 1 ∷ rule 1 0 2 Attach 0 1 ∷ []
 unfolding computing
 naming = refl
 
-any-for-none : rulesOf (decode T2) 1 0 0 ≡ rule 1 0 255 Unwrap 0 1 ∷ []
+any-for-none : decode T2 .elementRules 1 0 ≡ rule 1 0 255 Unwrap 0 1 ∷ []
 unfolding computing
 any-for-none = refl
 
-any-for-xml : rulesOf (decode T2) 1 0 254 ≡ rule 1 0 255 Unwrap 0 1 ∷ []
+any-for-xml : decode T2 .elementRules 1 254 ≡ rule 1 0 255 Unwrap 0 1 ∷ []
 unfolding computing
 any-for-xml = refl
 
-no-rule : rulesOf (decode T2) 0 0 2 ≡ []
+-- N3-1: another mode, another kind: the default, in the strand's mode; N3-8: whatever S is; a mode that the table lacks takes nothing
+no-rule : (decode T2 .elementRules 0 2 ≡ rule 0 0 255 Validate 255 0 ∷ []) × (decode T .elementRules 1 1 ≡ rule 1 0 255 Validate 255 1 ∷ [])
 unfolding computing
-no-rule = refl
+no-rule = (refl, refl)
 
-no-rule-for-attributes : rulesOf (decode T2) 1 1 2 ≡ []
+no-rule-for-attributes : decode T2 .attributeRules 1 2 ≡ rule 1 1 255 Attach 0 1 ∷ []
 unfolding computing
 no-rule-for-attributes = refl
 
+reject-without-schemas : decode (0 ∷ 1 ∷ 0 ∷ 0 ∷ []) .elementRules 0 0 ≡ rule 0 0 255 Validate 255 0 ∷ []
+unfolding computing
+reject-without-schemas = refl
+
+mode-lacking : (decode T2 .elementRules 2 2 ≡ []) × (decode T2 .attributeRules 2 2 ≡ [])
+unfolding computing
+mode-lacking = (refl, refl)
+
+-- before N3
+no-rule-before : (decodeBy former T .elementRules 1 1 ≡ rule 1 0 255 Unwrap 0 1 ∷ []) × (decodeBy former T2 .attributeRules 1 2 ≡ rule 1 1 255 Unwrap 0 1 ∷ [])
+unfolding computing
+no-rule-before = (refl, refl)
+
 -- A7: one naming rule, even unwrap, hides every any rule
-unwrap-hides : rulesOf (decode (ruled (ruleBytes 0 0 255 2 0 0 ∷ ruleBytes 0 0 0 1 0 0 ∷ ruleBytes 0 0 255 0 0 0 ∷ []))) 0 0 0 ≡ rule 0 0 0 Unwrap 0 0 ∷ []
+unwrap-hides : decode (ruled (ruleBytes 0 0 255 2 0 0 ∷ ruleBytes 0 0 0 1 0 0 ∷ ruleBytes 0 0 255 0 0 0 ∷ [])) .elementRules 0 0 ≡ rule 0 0 0 Unwrap 0 0 ∷ []
 unfolding computing
 unwrap-hides = refl
 

@@ -3,7 +3,7 @@ use Prim.Native.Nat.{ℕ, zero, suc, _+_, _*_, _/_, _%_, _^_}
 use mathlib.Core.List.{List, [], _∷_, map}
 use mathlib.Core.Bool.{Bool, true, false, cond, _&&_}
 use lib.ListN.{length, take, drop, getD}
-use lib.Dec.{leb, eqb}
+use lib.Dec.{leb, ltb, eqb}
 use Rattle.laws.specs.Lists.{sameList, keep, tabulate}
 use Rattle.compare.specs.Compare.{xmlUri}
 use Rattle.table.specs.declared.Header.{Header}
@@ -64,20 +64,6 @@ urisFrom (suc n) (k ∷ l) = cond (leb k (length l)) (take k l ∷ urisFrom n (d
 abbrev pub urisOf : List ℕ → Header → List (List ℕ)
 urisOf t h = urisFrom (h .namespaces) (drop (4 + 4 * h .rules) t)
 
--- A table as everything above this layer sees it
-pub record Table : Type 0 where
-  pub modes : ℕ
-  pub schemas : ℕ
-  pub rules : List Rule
-  pub uris : List (List ℕ)
-
--- a table with this header
-abbrev pub tableOf : List ℕ → Header → Table
-tableOf t h = record { modes = h .modes; schemas = h .schemas; rules = map ruleOf (wordsOf t h); uris = urisOf t h }
-
-abbrev pub decode : List ℕ → Table
-decode t = tableOf t (headerOf t)
-
 -- "255 in a rule means any"
 abbrev pub anyClass : ℕ
 anyClass = 255
@@ -92,12 +78,66 @@ orElse [] other = other
 orElse (r ∷ rs) other = r ∷ rs
 
 -- "the rules of (its mode, kind, class): those naming the class if there is one, else those naming any", in table order
-unfoldable pub rulesOf : Table → ℕ → ℕ → ℕ → List Rule
-rulesOf t mode kind class = orElse (keep (namesClass mode kind class) (t .rules)) (keep (namesClass mode kind anyClass) (t .rules))
+unfoldable pub rulesOf : List Rule → ℕ → ℕ → ℕ → List Rule
+rulesOf rules mode kind class = orElse (keep (namesClass mode kind class) rules) (keep (namesClass mode kind anyClass) rules)
 
--- What is taken where no rule fits. "No rule: one unwrap strand, same mode"; of an attribute section "otherwise they are not kept"
-abbrev pub fallback : ℕ → ℕ → Rule
-fallback kind mode = record { mode = mode; kind = kind; class = anyClass; action = Unwrap; schema = 0; next = mode }
+-- What is done with a section for which there is no rule: an action, and for validate a schema
+pub record Default : Type 0 where
+  pub action : Action
+  pub schema : ℕ
+
+-- of an element section, and of an attribute section
+pub record Defaults : Type 0 where
+  pub element : Default
+  pub attribute : Default
+
+-- N3: "Where a mode has no rule for an element section, it is validated against reject; for an attribute section, it is attached. Reject is schema
+-- 255, whatever S is"
+abbrev pub standard : Defaults
+standard = record { element = record { action = Validate; schema = 255 }; attribute = record { action = Attach; schema = 0 } }
+
+-- Before N3. "No rule: one unwrap strand, same mode"; of an attribute section "otherwise they are not kept"
+abbrev pub former : Defaults
+former = record { element = record { action = Unwrap; schema = 0 }; attribute = record { action = Unwrap; schema = 0 } }
+
+-- What a strand takes where no rule is taken, of a kind, in its mode: "the mode stays"
+abbrev pub fallback : Default → ℕ → ℕ → Rule
+fallback d kind mode = record { mode = mode; kind = kind; class = anyClass; action = d .action; schema = d .schema; next = mode }
+
+-- the rules that a strand takes in a mode, of a kind, for a class. "Modes are below M": in any other it takes none
+unfoldable pub takenOf : Header → List Rule → Default → ℕ → ℕ → ℕ → List Rule
+takenOf h rules d kind mode class = cond (ltb mode (h .modes)) (orElse (rulesOf rules mode kind class) (fallback d kind mode ∷ [])) []
+
+-- A table as everything above this layer sees it: what is taken in a mode for a class, at an element section and at an attribute section
+pub record Table : Type 0 where
+  pub modes : ℕ
+  pub uris : List (List ℕ)
+  pub elementRules : ℕ → ℕ → List Rule
+  pub attributeRules : ℕ → ℕ → List Rule
+
+-- the rules of a table with this header
+abbrev pub allRules : List ℕ → Header → List Rule
+allRules t h = map ruleOf (wordsOf t h)
+
+-- a table with this header, under these defaults
+abbrev pub tableBy : Defaults → List ℕ → Header → Table
+tableBy d t h =
+    record {
+      modes = h .modes;
+      uris = urisOf t h;
+      elementRules = takenOf h (allRules t h) (d .element) 0;
+      attributeRules = takenOf h (allRules t h) (d .attribute) 1;
+    }
+
+abbrev pub decodeBy : Defaults → List ℕ → Table
+decodeBy d t = tableBy d t (headerOf t)
+
+-- "Streams are compared with the model under these defaults from here on": the standard's
+abbrev pub tableOf : List ℕ → Header → Table
+tableOf = tableBy standard
+
+abbrev pub decode : List ℕ → Table
+decode = decodeBy standard
 
 -- the place of a URI in a list, its first place being k; 255 where it is not there
 unfoldable pub listedFrom : List (List ℕ) → ℕ → List ℕ → ℕ

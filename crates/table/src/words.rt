@@ -5,7 +5,7 @@ use crate::Header;
 use crate::Rule;
 ghost use mathlib.Core.Path.{_≡_};
 ghost use lib.ListN.{getD};
-ghost use Rattle.table.specs.Table.{headerOf, wordOf, wordAt, fieldsOf, actionOf, ruleOf, tableOf};
+ghost use Rattle.table.specs.Table.{headerOf, wordOf, wordAt, fieldsOf, actionOf, ruleOf, allRules};
 
 // The i-th byte; 0 past the end.
 pub fn byte_at(table: &[u8], i: usize) -> u8
@@ -95,7 +95,7 @@ pub fn rule_of(w: u32) -> Rule
 
 // The i-th rule; that of a word of zeros past the last.
 pub fn rule_at(table: &[u8], header: Header, i: u8) -> Rule
-    ensures { λ r. ⌜ r ≡ getD (tableOf (now (table .entry)) header .rules) i (ruleOf 0) ⌝ }
+    ensures { λ r. ⌜ r ≡ getD (allRules (now (table .entry)) header) i (ruleOf 0) ⌝ }
 {
     if i < header.rules {
         return rule_of(word_at(table, i));

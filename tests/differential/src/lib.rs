@@ -17,5 +17,7 @@ pub use case::Case;
 pub use pace::Pace;
 
 // The rest of a vector's words are the reference's: tests/rulings.rs asks the dispatcher the reference's own vectors.
-pub use reference::{accepted_events, events, forecast_by_event, prefix_records, record_bound, records_by_event, records_of_event};
+pub use reference::{accepted_events, events, forecast_by_event, plus, prefix_records, record_bound, records_by_event, records_of_event};
+pub use reference::{accepted_events_under, forecast_by_event_under, forecast_under, program_under, records_by_event_under, run_under};
 pub use reference::{generate, table, Action, Answer, Binding, Event, EventCounts, Forecast, Level, Reading, Record, Session, Span, Strand, What};
+pub use reference::{session_after_under, step_under, Defaults, REJECT};

@@ -2,7 +2,7 @@
 
 use reference::generate::{pack, rule, scene_of, Plan, Profile, Random};
 use reference::table::{Rule, ANY, ELEMENT_SECTION};
-use reference::Action;
+use reference::{plus, Action};
 
 pub const SAMPLE: &[u8] = b"<r xmlns=\"u\">a<x/></r>";
 
@@ -20,6 +20,11 @@ pub fn t2() -> Vec<u8> {
     table.extend([0x0B, 0xFD, 0x00, 0x08]);
     table.extend([1, b'u', 1, b'v']);
     table
+}
+
+/// The table that keeps a table's former results: t+ of page N3. Answers of the time before request N3 are asked of it.
+pub fn former(table: &[u8]) -> Vec<u8> {
+    plus(table).expect("an accepted table with room for the rules")
 }
 
 pub fn table(uris: &[&str], modes: u8, schemas: u8, rules: Vec<Rule>) -> Vec<u8> {

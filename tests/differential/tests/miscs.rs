@@ -1,7 +1,7 @@
 //! Comments, processing instructions, the declaration and ]]> in text (request N1): scenes of little else, whole and damaged, in short outputs, with
 //! every byte changed, and from every place. tests/steps.rs and tests/advances.rs have them in scenes that grow.
 
-use differential::shapes::{every_change, t, validating};
+use differential::shapes::{every_change, former, t, validating};
 use differential::{asked, checked, layout, Case, Pace};
 use reference::generate::{boundary, boundary_of_25, misc_scene, soup, table, Random, BOUNDARIES};
 use reference::{events, session_after, Session};
@@ -108,8 +108,10 @@ fn the_longest_misc() {
         (longest("<?xml version='1.", "0", "'?><r/>"), 2),
         (longest("<r/><!---->", " ", "<?p?>"), 2),
     ] {
-        let answer = asked::run(&t(), &scene, 0).0;
-        assert_eq!((answer.number, answer.place, answer.events), (9, 16_777_215, events));
-        assert_eq!(asked::run(&t(), &scene[1..], 0).0, reference::run(&t(), &scene[1..], 0).0);
+        for (table, out_len) in [(former(&t()), 0), (t(), 80)] {
+            let answer = asked::run(&table, &scene, out_len).0;
+            assert_eq!((answer.number, answer.place, answer.events), (9, 16_777_215, events));
+            assert_eq!(asked::run(&table, &scene[1..], out_len), reference::run(&table, &scene[1..], out_len));
+        }
     }
 }

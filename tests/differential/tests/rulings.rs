@@ -22,6 +22,9 @@ mod n01;
 #[path = "../../reference/tests/rulings/n02.rs"]
 #[rustfmt::skip]
 mod n02;
+#[path = "../../reference/tests/rulings/n03.rs"]
+#[rustfmt::skip]
+mod n03;
 #[path = "../../reference/tests/rulings/names.rs"]
 #[rustfmt::skip]
 mod names;

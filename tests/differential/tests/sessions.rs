@@ -3,7 +3,7 @@
 
 use differential::calls::{self, Lent, NO_ANSWER};
 use differential::layout::{self, declaration, level, put4, put8, strand};
-use differential::shapes::{bound, shaped, t, t2, table, validating};
+use differential::shapes::{bound, former, shaped, t, t2, table, validating};
 use differential::{asked, checked, Case, Pace};
 use reference::generate::{damaged_scene, damaged_table, numbered_case, odd_session, rule, scene, Random};
 use reference::{session_after, Action, Session};
@@ -13,9 +13,9 @@ const SCENE: &[u8] =
     b"<p:r xmlns:p='u' xmlns='v'><x a='&amp;' b=''/> xml xmlns http://www.w3.org/XML/1998/namespace http://www.w3.org/2000/xmlns/ a:b:c 9 \
     nnnnnnnnnnnnnnnnnnnnnnnnnnnnnnnnnnnnnnnnnnnnnnnnnnnnnnnnnnnnnnnnn ";
 
-/// Modes 0 to 2, classes 1 and 2.
+/// Modes 0 to 2, classes 1 and 2; unwrap where no rule names the class.
 fn two() -> Vec<u8> {
-    table(&["u", "v"], 3, 1, vec![rule(0, 0, 1, Action::Validate, 0, 1)])
+    former(&table(&["u", "v"], 3, 1, vec![rule(0, 0, 1, Action::Validate, 0, 1)]))
 }
 
 /// Inside the root's child: two declarations, two levels, one unit.
@@ -411,7 +411,7 @@ fn odd_sessions() {
             }
         }
     }
-    pace.finish(&[0, 1, 2, 4, 20, 25]);
+    pace.finish(&[0, 1, 2, 4, 20, 24, 25]);
 }
 
 /// A place in the bytes: of the header, of open or closed declarations and levels, or any.

@@ -1,6 +1,7 @@
 //! The forecast of request N2: the figures of a run with an output that suffices, and the bound
 //! on its records.
 
+use crate::defaults::Defaults;
 use crate::limits;
 use crate::model::Model;
 use crate::reader::{self, Reading};
@@ -49,7 +50,11 @@ impl EventCounts {
 }
 
 pub fn forecast(table: &[u8], scene: &[u8]) -> Forecast {
-    forecast_by_event(table, scene).0
+    forecast_under(Defaults::Standard, table, scene)
+}
+
+pub fn forecast_under(defaults: Defaults, table: &[u8], scene: &[u8]) -> Forecast {
+    forecast_by_event_under(defaults, table, scene).0
 }
 
 /// At most so many records: the events' bounds, summed.
@@ -60,7 +65,15 @@ pub fn record_bound(table: &[u8], scene: &[u8]) -> u64 {
 
 /// The forecast, and the counts of every accepted event; none with 10 to 12 and 7.
 pub fn forecast_by_event(table: &[u8], scene: &[u8]) -> (Forecast, Vec<EventCounts>) {
-    let (table, reading) = match read(table, scene) {
+    forecast_by_event_under(Defaults::Standard, table, scene)
+}
+
+pub fn forecast_by_event_under(
+    defaults: Defaults,
+    table: &[u8],
+    scene: &[u8],
+) -> (Forecast, Vec<EventCounts>) {
+    let (table, reading) = match read(defaults, table, scene) {
         Ok(read) => read,
         Err(number) => return (Forecast::bare(number), Vec::new()),
     };
@@ -93,8 +106,8 @@ impl Forecast {
 }
 
 /// The table and the scene's events, or the number that refuses one of them.
-fn read<'a>(table: &'a [u8], scene: &[u8]) -> Result<(Table<'a>, Reading), u8> {
-    let table = table::read(table)?;
+fn read<'a>(defaults: Defaults, table: &'a [u8], scene: &[u8]) -> Result<(Table<'a>, Reading), u8> {
+    let table = table::read_under(defaults, table)?;
     if scene.len() > limits::SCENE {
         return Err(limits::TOO_LONG);
     }

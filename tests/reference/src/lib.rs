@@ -1,6 +1,6 @@
 //! A tree-building implementation of document 01, the Rig scene section dispatcher.
 //!
-//! It was written from document 01, requests N1 and N2 of document 02 and their rulings alone, to
+//! It was written from document 01, requests N1 to N3 of document 02 and their rulings alone, to
 //! be matched byte for byte with the dispatcher. The way a scene goes:
 //!
 //! 1. `lexical`, `misc` and `reader`: the whole scene becomes a list of events;
@@ -12,11 +12,15 @@
 //! 7. `limits`: numbers 21 to 25, found on the tree and on the list;
 //! 8. `forecast`: the figures of request N2, counted on both.
 //!
+//! What holds where a table has no rule is a parameter, `defaults`: every call is under the
+//! standard's defaults of request N3, and one whose name ends in `_under` under those it is given.
+//!
 //! No session and no step takes part in that. `session` derives the session after some accepted
 //! steps from the tree's open path; `step` stands apart from the model and is there only for
 //! sessions that no scene leads to.
 
 pub mod answer;
+pub mod defaults;
 pub mod forecast;
 pub mod generate;
 pub mod lexical;
@@ -39,14 +43,18 @@ pub mod tree;
 pub mod uri;
 
 pub use answer::Answer;
+pub use defaults::{plus, Defaults, REJECT};
 pub use forecast::{forecast, forecast_by_event, record_bound, EventCounts, Forecast};
+pub use forecast::{forecast_by_event_under, forecast_under};
 pub use prefixes::{accepted_events, prefix_records, records_by_event, records_of_event};
-pub use program::program;
+pub use prefixes::{accepted_events_under, records_by_event_under};
+pub use program::{program, program_under};
 pub use reader::{events, Event, Reading, What};
 pub use records::Record;
-pub use run::run;
-pub use session::{coherent, session_after, Binding, Level, Session, Strand};
+pub use run::{run, run_under};
+pub use session::{coherent, session_after, session_after_under};
+pub use session::{Binding, Level, Session, Strand};
 pub use span::Span;
-pub use step::step;
+pub use step::{step, step_under};
 pub use table::{judge, Action};
 pub use uri::uri;

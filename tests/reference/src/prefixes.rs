@@ -8,6 +8,7 @@
 //! the fields of records keep their last 16 or 24 bits, a section with over 65,536 strands is a
 //! panic, and sections nested by the ten thousand are too deep for the recursion.
 
+use crate::defaults::Defaults;
 use crate::limits;
 use crate::model::{self, Model};
 use crate::reader::{self, Event};
@@ -39,7 +40,11 @@ pub fn records_of_event(table: &[u8], scene: &[u8], k: usize) -> Vec<u8> {
 
 /// By event, the records of all events before the first limit of 21 to 24.
 pub fn records_by_event(table: &[u8], scene: &[u8]) -> Vec<Vec<u8>> {
-    let Ok(table) = table::read(table) else {
+    records_by_event_under(Defaults::Standard, table, scene)
+}
+
+pub fn records_by_event_under(defaults: Defaults, table: &[u8], scene: &[u8]) -> Vec<Vec<u8>> {
+    let Ok(table) = table::read_under(defaults, table) else {
         return Vec::new();
     };
     let reading = reader::events(scene);
@@ -51,7 +56,11 @@ pub fn records_by_event(table: &[u8], scene: &[u8]) -> Vec<Vec<u8>> {
 
 /// How many of a scene's events come before the first limit of 21 to 24.
 pub fn accepted_events(table: &[u8], scene: &[u8]) -> usize {
-    let Ok(table) = table::read(table) else {
+    accepted_events_under(Defaults::Standard, table, scene)
+}
+
+pub fn accepted_events_under(defaults: Defaults, table: &[u8], scene: &[u8]) -> usize {
+    let Ok(table) = table::read_under(defaults, table) else {
         return 0;
     };
     let events = reader::events(scene).list;

@@ -1,6 +1,7 @@
 //! Run: what steps from fresh hand back for a whole scene, with one output or a new one each.
 
 use crate::answer::{Answer, Refusal};
+use crate::defaults::Defaults;
 use crate::limits;
 use crate::model::{self, Model};
 use crate::reader::{self, Reading};
@@ -12,18 +13,29 @@ use crate::tree::Tree;
 /// Number, place, events, records, and the joined records' bytes; the output past them keeps
 /// its values.
 pub fn run(table: &[u8], scene: &[u8], out_len: usize) -> (Answer, Vec<u8>) {
-    let (answer, list) = listed(table, scene, |list| limits::overflow(list, out_len));
+    run_under(Defaults::Standard, table, scene, out_len)
+}
+
+pub fn run_under(
+    defaults: Defaults,
+    table: &[u8],
+    scene: &[u8],
+    out_len: usize,
+) -> (Answer, Vec<u8>) {
+    let overflow = |list: &List| limits::overflow(list, out_len);
+    let (answer, list) = listed(defaults, table, scene, overflow);
     let bytes = list.map_or(Vec::new(), |list| records::joined(&list.records));
     (answer, bytes)
 }
 
 /// The same for an output rule of its own: `overflow` gives the first event that 25 refuses.
 pub fn listed(
+    defaults: Defaults,
     table: &[u8],
     scene: &[u8],
     overflow: impl Fn(&List) -> Option<usize>,
 ) -> (Answer, Option<List>) {
-    let table = match table::read(table) {
+    let table = match table::read_under(defaults, table) {
         Ok(table) => table,
         Err(number) => return (Answer::bare(number, 0), None),
     };

@@ -1,5 +1,6 @@
 //! Sessions: their shape, number 20, and the session after some accepted steps.
 
+use crate::defaults::Defaults;
 use crate::lexical;
 use crate::limits;
 use crate::model::{self, Model};
@@ -137,7 +138,11 @@ fn coherent_strand(table: &Table, units: u64, strand: &Strand) -> bool {
 /// the first k events. A refused table leaves the fresh session; a k past the scene's events
 /// means all of them.
 pub fn session_after(table: &[u8], scene: &[u8], k: usize) -> Session {
-    let Ok(table) = table::read(table) else {
+    session_after_under(Defaults::Standard, table, scene, k)
+}
+
+pub fn session_after_under(defaults: Defaults, table: &[u8], scene: &[u8], k: usize) -> Session {
+    let Ok(table) = table::read_under(defaults, table) else {
         return Session::fresh();
     };
     let events = reader::events(scene).list;

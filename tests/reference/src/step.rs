@@ -4,6 +4,7 @@
 //! the records of one event straight from the innermost level, so that the two can be matched.
 
 use crate::answer::{Answer, Refusal};
+use crate::defaults::Defaults;
 use crate::lexical::{self, Name, Token, TokenKind, WrittenTag};
 use crate::limits;
 use crate::model::class_and_uri;
@@ -28,7 +29,17 @@ pub fn step(
     session: &Session,
     out_len: usize,
 ) -> (Answer, Session, Vec<u8>) {
-    match attempt(table, scene, session, out_len) {
+    step_under(Defaults::Standard, table, scene, session, out_len)
+}
+
+pub fn step_under(
+    defaults: Defaults,
+    table: &[u8],
+    scene: &[u8],
+    session: &Session,
+    out_len: usize,
+) -> (Answer, Session, Vec<u8>) {
+    match attempt(defaults, table, scene, session, out_len) {
         Ok((next, written)) => {
             let answer = Answer {
                 number: 0,
@@ -46,17 +57,19 @@ pub fn step(
 }
 
 fn attempt(
+    defaults: Defaults,
     table: &[u8],
     scene: &[u8],
     session: &Session,
     out_len: usize,
 ) -> Result<(Session, Vec<Record>), Refusal> {
-    let table = table::read(table).map_err(|number| Refusal::new(number, 0))?;
+    let refuse = |number| Refusal::new(number, 0);
+    let table = table::read_under(defaults, table).map_err(refuse)?;
     if scene.len() > limits::SCENE {
-        return Err(Refusal::new(limits::TOO_LONG, 0));
+        return Err(refuse(limits::TOO_LONG));
     }
     if !coherent_with(&table, scene, session) {
-        return Err(Refusal::new(NOT_COHERENT, 0));
+        return Err(refuse(NOT_COHERENT));
     }
     let stepper = Stepper {
         table: &table,

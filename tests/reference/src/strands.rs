@@ -1,5 +1,6 @@
 //! Rules assigned along strands.
 
+use crate::defaults::{Defaults, REJECT};
 use crate::sections::{Attributes, Division};
 use crate::table::{Action, Table, ATTRIBUTE_SECTION, ELEMENT_SECTION};
 
@@ -52,13 +53,22 @@ pub fn successors(table: &Table, mode: u8, class: u8) -> Vec<Successor> {
         })
         .collect();
     if list.is_empty() {
-        list.push(Successor {
-            mode,
-            action: Action::Unwrap,
-            schema: 0,
-        });
+        list.push(without_rule(table.defaults(), mode));
     }
     list
+}
+
+/// No rule: one validate strand against reject, formerly one unwrap strand; the same mode.
+fn without_rule(defaults: Defaults, mode: u8) -> Successor {
+    let (action, schema) = match defaults {
+        Defaults::Standard => (Action::Validate, REJECT),
+        Defaults::Former => (Action::Unwrap, 0),
+    };
+    Successor {
+        mode,
+        action,
+        schema,
+    }
 }
 
 /// The strands of a new section; `named` counts the units named so far.
@@ -121,11 +131,14 @@ pub fn attribute_schemas<'a>(
         .map(|rule| rule.schema)
 }
 
-/// Whether an attribute section is kept with its element along a strand in this mode.
+/// Whether an attribute section is kept with its element along a strand in this mode: by an
+/// attach rule, and under the standard's defaults where no rule is taken.
 pub fn attribute_kept(table: &Table, mode: u8, class: u8) -> bool {
-    table
-        .rules(mode, ATTRIBUTE_SECTION, class)
-        .any(|rule| rule.action == Action::Attach)
+    let mut rules = table.rules(mode, ATTRIBUTE_SECTION, class).peekable();
+    match rules.peek() {
+        None => table.defaults() == Defaults::Standard,
+        Some(_) => rules.any(|rule| rule.action == Action::Attach),
+    }
 }
 
 /// By attribute of the element, whether it is kept along a strand in this mode.

@@ -1,6 +1,7 @@
 //! The rule table: reading, judging, rule look-up.
 
 use crate::answer::Answer;
+use crate::defaults::Defaults;
 use crate::span::Span;
 
 /// The namespace of prefix xml.
@@ -19,8 +20,11 @@ pub const ANY: u8 = 255;
 pub const ELEMENT_SECTION: u8 = 0;
 pub const ATTRIBUTE_SECTION: u8 = 1;
 
-const HEADER: usize = 4;
-const RULE: usize = 4;
+pub const HEADER: usize = 4;
+/// Where the header has the count of rules.
+pub const RULE_COUNT: usize = 3;
+pub const RULE: usize = 4;
+pub const RULES_AT_MOST: usize = 128;
 const ATTACH_BITS: u32 = 0;
 const UNWRAP_BITS: u32 = 1;
 const VALIDATE_BITS: u32 = 2;
@@ -46,9 +50,27 @@ pub struct Rule {
     pub next_mode: u8,
 }
 
-/// An accepted table.
+impl Rule {
+    /// The rule's 32 bits.
+    pub fn word(&self) -> u32 {
+        let action = match self.action {
+            Action::Attach => ATTACH_BITS,
+            Action::Unwrap => UNWRAP_BITS,
+            Action::Validate => VALIDATE_BITS,
+        };
+        (self.mode as u32) << 27
+            | (self.kind as u32) << 26
+            | (self.class as u32) << 18
+            | action << 16
+            | (self.schema as u32) << 8
+            | (self.next_mode as u32) << 3
+    }
+}
+
+/// An accepted table, and what holds where it has no rule.
 pub struct Table<'a> {
     bytes: &'a [u8],
+    defaults: Defaults,
     modes: u8,
     uris: Vec<Span>,
     /// By mode and kind, each in table order.
@@ -73,6 +95,10 @@ pub fn judge(table: &[u8]) -> Answer {
 /// Reads a table, or gives the number that refuses it.
 /// Order: 10 short, 11 header, 10, 11, 12.
 pub fn read(bytes: &[u8]) -> Result<Table<'_>, u8> {
+    read_under(Defaults::Standard, bytes)
+}
+
+pub fn read_under(defaults: Defaults, bytes: &[u8]) -> Result<Table<'_>, u8> {
     let header = header(bytes)?;
     let uris = measure(bytes, &header)?;
     let words = words(bytes, header.rules);
@@ -85,6 +111,7 @@ pub fn read(bytes: &[u8]) -> Result<Table<'_>, u8> {
     }
     Ok(Table {
         bytes,
+        defaults,
         modes: header.modes,
         uris,
         rows: rows(&rules, header.modes),
@@ -99,12 +126,12 @@ fn header(bytes: &[u8]) -> Result<Header, u8> {
         namespaces: bytes[0],
         modes: bytes[1],
         schemas: bytes[2],
-        rules: bytes[3],
+        rules: bytes[RULE_COUNT],
     };
     let fits = header.namespaces <= 30
         && (1..=32).contains(&header.modes)
         && header.schemas <= 64
-        && header.rules <= 128;
+        && header.rules as usize <= RULES_AT_MOST;
     if fits {
         Ok(header)
     } else {
@@ -206,8 +233,22 @@ fn rows(rules: &[Rule], modes: u8) -> Vec<[Vec<Rule>; 2]> {
 }
 
 impl<'a> Table<'a> {
+    pub fn defaults(&self) -> Defaults {
+        self.defaults
+    }
+
     pub fn modes(&self) -> u8 {
         self.modes
+    }
+
+    pub fn rule_count(&self) -> usize {
+        self.rows.iter().flatten().map(Vec::len).sum()
+    }
+
+    /// Whether a rule of the mode and kind names any, whatever its action.
+    pub fn has_any_rule(&self, mode: u8, kind: u8) -> bool {
+        let row = &self.rows[mode as usize][kind as usize];
+        row.iter().any(|rule| rule.class == ANY)
     }
 
     pub fn namespaces(&self) -> u8 {
@@ -244,8 +285,8 @@ impl<'a> Table<'a> {
         class <= self.namespaces() || class == XML || class == ANY
     }
 
-    /// The rules of (mode, kind, class) in table order: those naming the class if there is one,
-    /// else those naming any.
+    /// The rules taken for (mode, kind, class) in table order: those naming the class if there is
+    /// one, else those naming any.
     pub fn rules(&self, mode: u8, kind: u8, class: u8) -> impl Iterator<Item = &Rule> {
         let row = &self.rows[mode as usize][kind as usize];
         let named = row.iter().any(|rule| rule.class == class);

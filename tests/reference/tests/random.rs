@@ -4,13 +4,16 @@ mod common;
 
 use common::*;
 use reference::generate::{
-    boundary, boundary_of_25, case, damaged_scene, damaged_table, many_units, misc, misc_scene,
-    odd_session, rule, scene, scene_of, soup, table, Profile, Random, BOUNDARIES,
+    boundary, boundary_of_25, case, damaged_scene, damaged_table, many_rejects, many_units, misc,
+    misc_scene, nearly_full_table, odd_session, rule, scene, scene_of, soup, sparse_table, table,
+    Profile, Random, BOUNDARIES,
 };
-use reference::table::ANY;
+use reference::table::{self, ANY};
 use reference::{
-    accepted_events, coherent, events, forecast_by_event, judge, prefix_records, records_by_event,
-    records_of_event, run, session_after, step, Action, EventCounts, Forecast, Record, Session,
+    accepted_events, accepted_events_under, coherent, events, forecast_by_event,
+    forecast_by_event_under, judge, plus, prefix_records, program, program_under, records_by_event,
+    records_by_event_under, records_of_event, run, run_under, session_after, session_after_under,
+    step, step_under, Action, Answer, Defaults, EventCounts, Forecast, Record, Session, REJECT,
 };
 use std::collections::BTreeMap;
 
@@ -27,8 +30,11 @@ fn cases(count: u64) -> impl Iterator<Item = (Random, Vec<u8>, Vec<u8>)> {
 #[test]
 fn tables_are_accepted() {
     for seed in 0..4000 {
-        let table = table(&mut Random::new(seed));
-        assert_eq!(judge(&table), answer(0, table.len() as u64, 0, 0), "{seed}");
+        let mut random = Random::new(seed);
+        for table in [table, sparse_table, nearly_full_table] {
+            let table = table(&mut random);
+            assert_eq!(judge(&table), answer(0, table.len() as u64, 0, 0), "{seed}");
+        }
     }
 }
 
@@ -296,9 +302,15 @@ fn odd_sessions() {
 #[test]
 fn many_units_meet_24() {
     let mut random = Random::new(24);
-    for _ in 0..3 {
+    for many in [
+        many_units,
+        many_units,
+        many_units,
+        many_rejects,
+        many_rejects,
+    ] {
         let children: Vec<usize> = (0..60).map(|_| random.below(17)).collect();
-        let (table, scene) = many_units(&children);
+        let (table, scene) = many(&children);
         let mut units = 1;
         let fits = children.iter().take_while(|&&count| {
             units += if count == 0 { 1 } else { 127 * count };
@@ -578,6 +590,213 @@ fn short_scenes(start: &[u8], pieces: &[&[u8]], count: u32) -> BTreeMap<u8, u64>
         *met.entry(whole.number).or_insert(0) += 1;
     }
     met
+}
+
+/// What a scene meets of request N3, by the steps over it.
+#[derive(Default, Debug)]
+struct Defaulted {
+    rejected: bool,
+    /// A reject unit opened inside another one.
+    inside: bool,
+    /// Two strands at one section, of which one met rules and the other none.
+    beside: bool,
+    /// An element attached to a reject unit.
+    attached_to: bool,
+    /// An attribute unit of a rejected element.
+    with_attribute_unit: bool,
+    /// An attribute kept for want of a rule.
+    kept: bool,
+}
+
+impl Defaulted {
+    fn any(&self) -> bool {
+        self.rejected || self.kept
+    }
+
+    fn of(table: &[u8], scene: &[u8]) -> Defaulted {
+        let (mut met, mut session, mut schemas) =
+            (Defaulted::default(), Session::fresh(), Vec::new());
+        loop {
+            let (answer, next, written) = step(table, scene, &session, AMPLE);
+            if answer.number != 0 {
+                return met;
+            }
+            let records: Vec<Record> = written.chunks(16).map(Record::read).collect();
+            let opens = records.iter().filter(|record| record.kind == 0);
+            schemas.extend(opens.map(|open| open.class));
+            if next.levels.len() > session.levels.len() {
+                met.start(&session, &next, &records, &schemas);
+                met.attributes(table, scene, &next, &records);
+            }
+            session = next;
+        }
+    }
+
+    fn start(&mut self, before: &Session, after: &Session, records: &[Record], schemas: &[u8]) {
+        let rejects = |target: Option<u64>| target.is_some_and(|t| schemas[t as usize] == REJECT);
+        let opens = |record: &&Record| record.kind == 0 && record.span.len == 0;
+        let opened: Vec<bool> = records
+            .iter()
+            .filter(opens)
+            .map(|open| open.class == REJECT)
+            .collect();
+        let strands = &after.levels.last().expect("a level").strands;
+        let rejected = opened.contains(&true);
+        let outer = before.levels.last().map_or(&[][..], |level| &level.strands);
+        self.rejected |= rejected;
+        self.inside |= rejected && outer.iter().any(|strand| rejects(strand.target));
+        self.beside |= rejected && opened.len() > 1 && opened.contains(&false);
+        self.attached_to |= strands
+            .iter()
+            .any(|strand| strand.action == Action::Attach && rejects(strand.target));
+        self.with_attribute_unit |= rejected && records.iter().any(|record| record.class == 253);
+    }
+
+    fn attributes(&mut self, table: &[u8], scene: &[u8], after: &Session, records: &[Record]) {
+        let table = table::read(table).expect("an accepted table");
+        let level = after.levels.last().expect("a level");
+        for strand in &level.strands {
+            let without_rule = |record: &Record| {
+                let own = (level.class, level.uri.of(scene));
+                let stays = record.class == 0 || (record.class, record.uri.of(scene)) == own;
+                !stays && table.rules(strand.mode, 1, record.class).count() == 0
+            };
+            let unit = strand.delivers_to();
+            self.kept |= records.iter().any(|record| {
+                record.kind == 2 && Some(record.unit) == unit && without_rule(record)
+            });
+        }
+    }
+}
+
+#[test]
+fn sections_without_a_rule_are_common() {
+    let mut met = [0; 7];
+    for (_, table, scene) in cases(CASES) {
+        let of = Defaulted::of(&table, &scene);
+        let without_schemas = of.rejected && table[2] == 0;
+        let each = [
+            of.rejected,
+            of.inside,
+            of.beside,
+            of.attached_to,
+            of.with_attribute_unit,
+            of.kept,
+            without_schemas,
+        ];
+        met.iter_mut()
+            .zip(each)
+            .for_each(|(sum, one)| *sum += one as u64);
+    }
+    let least = [3, 5, 40, 12, 15, 5, 15];
+    let common = met.iter().zip(least).all(|(&met, part)| met * part > CASES);
+    assert!(common, "{met:?} of {CASES}");
+}
+
+/// Number, place and events are what they were, but that 24 may come earlier; and t+ of a table
+/// that lacks nothing is the table.
+#[test]
+fn what_the_defaults_do_not_change() {
+    for (_, table, scene) in cases(CASES) {
+        let now = run(&table, &scene, AMPLE).0;
+        let before = run_under(Defaults::Former, &table, &scene, AMPLE).0;
+        let ends = |answer: Answer| (answer.number, answer.place, answer.events);
+        assert!(now.number == 24 || ends(now) == ends(before));
+        assert!(now.records >= before.records);
+        if !Defaulted::of(&table, &scene).any() {
+            assert_eq!(now, before);
+        }
+    }
+}
+
+/// Random tables with a t+, and how many there are of just so many rules.
+#[test]
+fn tables_of_nearly_128_rules_are_common() {
+    let (mut with, mut without, mut near, mut wide) = (0, 0, 0, 0);
+    for seed in 0..2000 {
+        let table = nearly_full_table(&mut Random::new(seed));
+        match plus(&table) {
+            Some(kept) => {
+                with += 1;
+                near += (kept[3] >= 126) as u64;
+                wide += (kept[3] >= 126 && table[1] == 32) as u64;
+            }
+            None => without += 1,
+        }
+    }
+    let enough = with > 900 && without > 300 && near > 200 && wide > 60;
+    assert!(enough, "{with} {without} {near} {wide}");
+}
+
+/// A table that has a t+, with it; scenes are whole or damaged.
+fn kept_cases(count: u64) -> impl Iterator<Item = (Random, Vec<u8>, Vec<u8>, Vec<u8>)> {
+    (0..count).filter_map(|seed| {
+        let mut random = Random::new(seed);
+        let table = match random.below(3) {
+            0 => nearly_full_table(&mut random),
+            1 => sparse_table(&mut random),
+            _ => table(&mut random),
+        };
+        let kept = plus(&table)?;
+        let whole = scene(&mut random, &table);
+        let scene = match random.percent(20) {
+            true => damaged_scene(&mut random, &whole),
+            false => whole,
+        };
+        Some((random, table, kept, scene))
+    })
+}
+
+/// t+ gives what t gives under the former defaults: run, program, forecast, the model's list.
+#[test]
+fn former_results() {
+    let mut asked = 0;
+    for (mut random, table, kept, scene) in kept_cases(3 * CASES / 2) {
+        asked += 1;
+        assert_eq!(judge(&kept), answer(0, kept.len() as u64, 0, 0));
+        let (whole, bytes) = run(&kept, &scene, AMPLE);
+        for output in [AMPLE, random.below(bytes.len() + 20)] {
+            let former = run_under(Defaults::Former, &table, &scene, output);
+            assert_eq!(run(&kept, &scene, output), former);
+        }
+        let former = forecast_by_event_under(Defaults::Former, &table, &scene);
+        assert_eq!(forecast_by_event(&kept, &scene), former);
+        let former = records_by_event_under(Defaults::Former, &table, &scene);
+        assert_eq!(records_by_event(&kept, &scene), former);
+        assert_eq!(former.len() as u64, whole.events);
+        let former = accepted_events_under(Defaults::Former, &table, &scene);
+        assert_eq!(accepted_events(&kept, &scene), former);
+        let former = program_under(Defaults::Former, &table, &scene);
+        assert_eq!(program(&kept, &scene), former);
+    }
+    assert!(asked > CASES, "{asked}");
+}
+
+/// The same for sessions and steps, from odd sessions too.
+#[test]
+fn former_results_of_steps() {
+    let mut met = BTreeMap::new();
+    for (mut random, table, kept, scene) in kept_cases(CASES) {
+        let accepted = accepted_events(&kept, &scene);
+        let events = random.below(accepted + 1);
+        let session = session_after(&kept, &scene, events);
+        let former = session_after_under(Defaults::Former, &table, &scene, events);
+        assert_eq!(session, former);
+        for number in 0..8 {
+            let from = match number {
+                0 => session.clone(),
+                _ => odd_session(&mut random, &scene, &session),
+            };
+            let output = *random.pick(&[0, 16, 31, 32, 100, AMPLE]);
+            let got = step(&kept, &scene, &from, output);
+            let former = step_under(Defaults::Former, &table, &scene, &from, output);
+            assert_eq!(got, former);
+            *met.entry(got.0.number).or_insert(0) += 1;
+        }
+    }
+    for wanted in [0, 1, 20, 21, 22, 23, 24, 25] {
+        assert!(met.contains_key(&wanted), "{met:?}");
+    }
 }
 
 /// Not a check: `cargo test --release -- --ignored --nocapture time` prints times per run.

@@ -1,5 +1,6 @@
 -- `capi::advance_bytes` meets its contract.
 use borrow.Author.Needs.{needs}
+use Rattle.table.specs.Table.{standard}
 use Rattle.dispatcher.specs.Sessions.{sessionAt}
 use Rattle.dispatcher.specs.Stepping.{advanceOf}
 use Rattle.dispatcher.specs.declared.Stepped.{Stepped}
@@ -55,7 +56,7 @@ returns-2 c =
     let z = sessionAt (hd .result) (before .0) (before .1 .0) in
     let joined = parts-joined (sessionIn (a .session .now)) (hd .result) (before .0) (before .1 .0) (hd .ensures) (ar .ensures .0) (ar .ensures .1) (ar .ensures .2) (ar .ensures .3) in
     let out′ = after .1 .1 .1 .0 in
-    let gone = lent-handed (s .result) (w .result) (after .0) (after .1 .0) out′ (advanceOf (a .most) (a .table .now) (a .scene .now) z (a .out .now)) (w .ensures) (s .ensures .0) in
+    let gone = lent-handed (s .result) (w .result) (after .0) (after .1 .0) out′ (advanceOf standard (a .most) (a .table .now) (a .scene .now) z (a .out .now)) (w .ensures) (s .ensures .0) in
     let r : Stepped = record { answer = w .result; session = sessionAt (s .result .head) (after .0) (after .1 .0) } in
     no-event (a .most) (a .table .now) (a .scene .now) (a .session .now) (a .out .now) (held .result) (held .ensures) (c .before .before .before .before .before .before .before .before .before .before .before .before .before .before .before .if1 .left) z joined r out′ gone (c .if2 .taken)
 
@@ -81,7 +82,7 @@ returns-3 c =
     let z = sessionAt (hd .result) (before .0) (before .1 .0) in
     let joined = parts-joined (sessionIn (a .session .now)) (hd .result) (before .0) (before .1 .0) (hd .ensures) (ar .ensures .0) (ar .ensures .1) (ar .ensures .2) (ar .ensures .3) in
     let out′ = after .1 .1 .1 .0 in
-    let gone = lent-handed (s .result) (w .result) (after .0) (after .1 .0) out′ (advanceOf (a .most) (a .table .now) (a .scene .now) z (a .out .now)) (w .ensures) (s .ensures .0) in
+    let gone = lent-handed (s .result) (w .result) (after .0) (after .1 .0) out′ (advanceOf standard (a .most) (a .table .now) (a .scene .now) z (a .out .now)) (w .ensures) (s .ensures .0) in
     let r : Stepped = record { answer = w .result; session = sessionAt (s .result .head) (after .0) (after .1 .0) } in
     some-events (a .most) (a .table .now) (a .scene .now) (a .session .now) (a .out .now) (held .result) (held .ensures) (c .before .before .before .before .before .before .before .before .before .before .before .before .before .before .before .before .before .before .before .before .before .if1 .left) z joined r out′ gone _ (c .before .before .before .before .before .before .if2 .left) (c .before .before .put-session .ensures)
 

@@ -14,7 +14,8 @@ pub use miscs::{misc, misc_scene, soup};
 pub use random::Random;
 pub use scenes::{scene, scene_of, Profile};
 pub use sessions::odd_session;
-pub use tables::{many_units, pack, rule, table, Plan};
+pub use tables::{many_rejects, many_units, pack, rule, Plan};
+pub use tables::{nearly_full_table, sparse_table, table};
 
 /// A table and a scene that fit each other. Of sixteen, about twelve are whole, three have a
 /// damaged scene and one a damaged table; a whole scene may still meet 21 to 23.

@@ -13,7 +13,7 @@ pub fn odd_session(random: &mut Random, scene: &[u8], session: &Session) -> Sess
     for _ in 0..random.between(1, 3) {
         match random.below(12) {
             0..=2 => odd.place = number(random, odd.place, scene.len() as u64),
-            3 => odd.units = number(random, odd.units, UNITS),
+            3 => odd.units = units(random, odd.units),
             4 => flag(random, &mut odd),
             5 | 6 => change_binding(random, scene, &mut odd),
             7 => add_or_remove(random, &mut odd),
@@ -33,6 +33,14 @@ fn number(random: &mut Random, old: u64, bound: u64) -> u64 {
         4 | 5 => old.saturating_sub(1),
         6 | 7 => old.saturating_add(1),
         _ => random.below(bound as usize + 1) as u64,
+    }
+}
+
+/// Often the last few that may be opened, for 24.
+fn units(random: &mut Random, old: u64) -> u64 {
+    match random.percent(50) {
+        true => UNITS - random.below(4) as u64,
+        false => number(random, old, UNITS),
     }
 }
 

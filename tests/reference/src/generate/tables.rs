@@ -1,7 +1,9 @@
 //! Rule tables, all accepted by judge.
 
 use super::random::Random;
-use crate::table::{Action, Rule, ANY, ATTRIBUTE_SECTION, ELEMENT_SECTION, XML, XMLNS_URI};
+use crate::table::{
+    Action, Rule, ANY, ATTRIBUTE_SECTION, ELEMENT_SECTION, RULES_AT_MOST, XML, XMLNS_URI,
+};
 
 /// What a table says before it is packed.
 #[derive(Clone, Debug)]
@@ -11,8 +13,6 @@ pub struct Plan {
     pub schemas: u8,
     pub rules: Vec<Rule>,
 }
-
-const RULES_AT_MOST: usize = 128;
 
 /// A rule: mode, kind, class, action, schema, next mode.
 pub fn rule(mode: u8, kind: u8, class: u8, action: Action, schema: u8, next_mode: u8) -> Rule {
@@ -35,7 +35,7 @@ pub fn pack(plan: &Plan) -> Vec<u8> {
         plan.rules.len() as u8,
     ];
     for rule in &plan.rules {
-        bytes.extend(word(rule).to_be_bytes());
+        bytes.extend(rule.word().to_be_bytes());
     }
     for uri in &plan.namespaces {
         bytes.push(uri.len() as u8);
@@ -44,32 +44,57 @@ pub fn pack(plan: &Plan) -> Vec<u8> {
     bytes
 }
 
-fn word(rule: &Rule) -> u32 {
-    let action = match rule.action {
-        Action::Attach => 0,
-        Action::Unwrap => 1,
-        Action::Validate => 2,
-    };
-    (rule.mode as u32) << 27
-        | (rule.kind as u32) << 26
-        | (rule.class as u32) << 18
-        | action << 16
-        | (rule.schema as u32) << 8
-        | (rule.next_mode as u32) << 3
+/// An accepted table; one in five is sparse.
+pub fn table(random: &mut Random) -> Vec<u8> {
+    match random.percent(20) {
+        true => sparse_table(random),
+        false => pack(&plan(random)),
+    }
 }
 
-/// An accepted table.
-pub fn table(random: &mut Random) -> Vec<u8> {
-    pack(&plan(random))
+/// A table of a few rules that name their class, often without schemas: most sections meet no
+/// rule.
+pub fn sparse_table(random: &mut Random) -> Vec<u8> {
+    let modes = *random.pick(&[1, 1, 2, 2, 3, 32]);
+    let schemas = *random.pick(&[0, 0, 1, 2, 64]);
+    let mut plan = Plan::without_rules(random, modes, schemas);
+    for _ in 0..random.between(0, 7) {
+        let some = plan.some_rule(random);
+        if some.class != ANY || random.percent(15) {
+            plan.add(some);
+        }
+    }
+    pack(&plan)
+}
+
+/// A table that with an any rule for each mode and kind would have about 128 rules; some would
+/// have more. Of most modes, kinds and classes it has only a few, against 23.
+pub fn nearly_full_table(random: &mut Random) -> Vec<u8> {
+    let modes = *random.pick(&[1, 2, 4, 8, 16, 31, 32, 32, 32]);
+    let schemas = *random.pick(if modes < 16 { &[64] } else { &[0, 1, 2, 64] });
+    let mut plan = Plan::without_rules(random, modes, schemas);
+    let wanted = random.between(120, 132);
+    for _ in 0..4000 {
+        if plan.rules.len() + plan.lacking() >= wanted {
+            break;
+        }
+        let mut some = plan.some_rule(random);
+        if random.percent(60) {
+            some.mode = random.below(modes as usize) as u8;
+        }
+        let seldom = if some.class == ANY { 10 } else { 100 };
+        if random.percent(seldom) && (plan.alike(&some) < 3 || random.percent(2)) {
+            plan.add(some);
+        }
+    }
+    random.shuffle(&mut plan.rules);
+    pack(&plan)
 }
 
 fn plan(random: &mut Random) -> Plan {
-    let mut plan = Plan {
-        namespaces: namespaces(random),
-        modes: *random.pick(&[1, 1, 2, 2, 2, 3, 3, 4, 32]),
-        schemas: *random.pick(&[0, 1, 1, 2, 2, 3, 3, 64]),
-        rules: Vec::new(),
-    };
+    let modes = *random.pick(&[1, 1, 2, 2, 2, 3, 3, 4, 32]);
+    let schemas = *random.pick(&[0, 1, 1, 2, 2, 3, 3, 64]);
+    let mut plan = Plan::without_rules(random, modes, schemas);
     if random.percent(90) {
         validate_root(random, &mut plan);
     }
@@ -110,6 +135,33 @@ fn namespace(random: &mut Random) -> Vec<u8> {
 }
 
 impl Plan {
+    fn without_rules(random: &mut Random, modes: u8, schemas: u8) -> Plan {
+        Plan {
+            namespaces: namespaces(random),
+            modes,
+            schemas,
+            rules: Vec::new(),
+        }
+    }
+
+    /// For how many modes and kinds no rule names any.
+    fn lacking(&self) -> usize {
+        let has = |&(mode, kind): &(u8, u8)| {
+            let any = |rule: &Rule| (rule.mode, rule.kind, rule.class) == (mode, kind, ANY);
+            self.rules.iter().any(any)
+        };
+        let kinds = |mode| [(mode, ELEMENT_SECTION), (mode, ATTRIBUTE_SECTION)];
+        let all = (0..self.modes).flat_map(kinds);
+        all.filter(|pair| !has(pair)).count()
+    }
+
+    /// How many rules it has of the same mode, kind and class.
+    fn alike(&self, rule: &Rule) -> usize {
+        let key = |rule: &Rule| (rule.mode, rule.kind, rule.class);
+        let alike = self.rules.iter().filter(|other| key(other) == key(rule));
+        alike.count()
+    }
+
     /// Adds a rule unless 12 would refuse it or there is no room.
     pub fn add(&mut self, rule: Rule) {
         let key = |rule: &Rule| (rule.mode, rule.kind, rule.class);
@@ -238,11 +290,22 @@ fn classes(plan: &Plan) -> Vec<u8> {
 /// forty elements of 16 sections reach 24. The root opens unit 0 and children in a namespace of
 /// their own one unit each; `sections` says how many attribute sections each child has.
 pub fn many_units(sections: &[usize]) -> (Vec<u8>, Vec<u8>) {
+    let root = rule(0, ELEMENT_SECTION, ANY, Action::Validate, 0, 0);
+    (many_rules(vec![root]), many_sections(sections))
+}
+
+/// The same without a rule for elements: the root and the children in a namespace of their own
+/// are rejected.
+pub fn many_rejects(sections: &[usize]) -> (Vec<u8>, Vec<u8>) {
+    (many_rules(Vec::new()), many_sections(sections))
+}
+
+fn many_rules(rules: Vec<Rule>) -> Vec<u8> {
     let mut plan = Plan {
         namespaces: Vec::new(),
         modes: 2,
         schemas: 64,
-        rules: vec![rule(0, ELEMENT_SECTION, ANY, Action::Validate, 0, 0)],
+        rules,
     };
     for number in 0..127 {
         let (schema, next) = (number % 64, number / 64);
@@ -255,7 +318,7 @@ pub fn many_units(sections: &[usize]) -> (Vec<u8>, Vec<u8>) {
             next,
         ));
     }
-    (pack(&plan), many_sections(sections))
+    pack(&plan)
 }
 
 fn many_sections(sections: &[usize]) -> Vec<u8> {

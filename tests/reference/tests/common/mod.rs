@@ -3,7 +3,7 @@
 
 use reference::generate::{pack, rule, Plan};
 use reference::table::{Rule, ANY};
-use reference::{run, Action, Answer, Record};
+use reference::{plus, run, Action, Answer, Forecast, Record};
 
 pub const AMPLE: usize = 1 << 24;
 pub const ELEMENT: u8 = 0;
@@ -38,6 +38,12 @@ pub fn k() -> Vec<u8> {
     ]
 }
 
+/// The table that keeps a table's former results: t+ of page N3. Answers of the time before
+/// request N3 are asked of it.
+pub fn former(table: &[u8]) -> Vec<u8> {
+    plus(table).expect("an accepted table with room for the rules")
+}
+
 /// A table by the name that the pages give it.
 pub fn named(table: &str) -> Vec<u8> {
     match table.trim() {
@@ -57,10 +63,17 @@ pub fn table(uris: &[&str], modes: u8, schemas: u8, rules: Vec<Rule>) -> Vec<u8>
     })
 }
 
-/// Number and place of a run with ample output.
+/// Number and place of a run with ample output; they are the same with t+.
 pub fn ends(table: &[u8], scene: &[u8]) -> (u8, u64) {
-    let (answer, _) = run(table, scene, AMPLE);
-    (answer.number, answer.place)
+    let ends = |table: &[u8]| {
+        let (answer, _) = run(table, scene, AMPLE);
+        (answer.number, answer.place)
+    };
+    let found = ends(table);
+    if let Some(kept) = plus(table).filter(|kept| kept != table) {
+        assert_eq!(ends(&kept), found);
+    }
+    found
 }
 
 /// Number and place with T.
@@ -141,4 +154,119 @@ pub fn numbers(field: &str) -> Vec<u64> {
     let written = field.split('#').next().unwrap_or_default();
     let words = written.split_whitespace();
     words.map(|word| word.parse().expect(field)).collect()
+}
+
+/// The lines of a page's block that are no remarks.
+pub fn written(block: &'static str) -> impl Iterator<Item = &'static str> {
+    block
+        .lines()
+        .filter(|line| !line.is_empty() && !line.starts_with('#'))
+}
+
+/// A table of these blocks, written as NAME = bytes, or one that other pages name.
+pub fn table_in(blocks: &[&'static str], name: &str) -> Vec<u8> {
+    let name = name.trim();
+    let found = blocks
+        .iter()
+        .flat_map(|block| written(block))
+        .find_map(|line| line.strip_prefix(name)?.strip_prefix(" = "));
+    match found {
+        Some(hex) => hex
+            .split(' ')
+            .map(|byte| u8::from_str_radix(byte, 16).expect(hex))
+            .collect(),
+        None => named(name),
+    }
+}
+
+/// A run of a page's block, with the records below it, if they are shown.
+pub struct Vector {
+    pub line: &'static str,
+    pub table: Vec<u8>,
+    pub scene: Vec<u8>,
+    pub output: usize,
+    pub answer: Answer,
+    pub records: Vec<&'static str>,
+}
+
+impl Vector {
+    pub fn of(blocks: &[&'static str], line: &'static str) -> Vector {
+        let fields: Vec<&str> = line.split('|').collect();
+        Vector {
+            line,
+            table: table_in(blocks, fields[0]),
+            scene: bytes(fields[1]),
+            output: fields[2].trim().parse().unwrap_or(AMPLE),
+            answer: four(fields[3]),
+            records: Vec::new(),
+        }
+    }
+
+    /// A run by a table gives what the page says.
+    pub fn check(&self, table: &[u8]) {
+        let (got, written) = run(table, &self.scene, self.output);
+        assert_eq!(got, self.answer, "{}", self.line);
+        assert_eq!(written.len() as u64, 16 * got.records, "{}", self.line);
+        if !self.records.is_empty() {
+            assert_eq!(lines(&written), self.records, "{}", self.line);
+        }
+    }
+}
+
+/// The runs of a block; their tables may stand there.
+pub fn vectors(block: &'static str) -> Vec<Vector> {
+    let mut list: Vec<Vector> = Vec::new();
+    for line in written(block) {
+        if let Some(record) = line.strip_prefix("    ") {
+            list.last_mut().expect("a vector").records.push(record);
+        } else if line.contains('|') {
+            list.push(Vector::of(&[block], line));
+        }
+    }
+    list
+}
+
+/// Number, place, events, records.
+pub fn four(field: &str) -> Answer {
+    let four = numbers(field);
+    answer(four[0] as u8, four[1], four[2], four[3])
+}
+
+/// A line of six figures and the bound, which a refused table has not.
+pub struct Forecasted {
+    pub line: &'static str,
+    pub table: Vec<u8>,
+    pub scene: Vec<u8>,
+    pub forecast: Forecast,
+    pub bound: Option<u64>,
+}
+
+/// The forecasts of a block; their tables stand in these.
+pub fn forecasts(blocks: &[&'static str], block: &'static str) -> Vec<Forecasted> {
+    let of = |line: &'static str| {
+        let fields: Vec<&str> = line.split('|').collect();
+        let bound = fields[3].trim();
+        Forecasted {
+            line,
+            table: table_in(blocks, fields[0]),
+            scene: bytes(fields[1]),
+            forecast: figures(&numbers(fields[2])),
+            bound: (bound != "-").then(|| numbers(bound)[0]),
+        }
+    };
+    written(block)
+        .filter(|line| line.contains('|'))
+        .map(of)
+        .collect()
+}
+
+pub fn figures(six: &[u64]) -> Forecast {
+    Forecast {
+        number: six[0] as u8,
+        place: six[1],
+        records: six[2],
+        units: six[3],
+        strands: six[4],
+        depth: six[5],
+    }
 }

@@ -29,7 +29,7 @@ fn e2_9_and_1_do_not_move_the_place() {
 
 #[test]
 fn e4_no_records_need_no_output() {
-    assert_eq!(run(&t(), b"<r>a</r>", 0).0, answer(9, 8, 3, 0));
+    assert_eq!(run(&former(&t()), b"<r>a</r>", 0).0, answer(9, 8, 3, 0));
 }
 
 #[test]

@@ -23,7 +23,7 @@ fn each_step_of_the_program_has_its_own_output() {
             rules: rules.collect(),
         });
         let scene = reference::generate::many_units(&[16, 16]).1;
-        program(&table, &scene)
+        program(&former(&table), &scene)
     };
     let fits = printed(42);
     assert_eq!(fits.lines().count(), 2 * 42 * 16 * 6 + 1);

@@ -119,13 +119,13 @@ fn f5_23_before_24() {
 
 #[test]
 fn f6_f7_awaited_end_reads_nothing() {
-    let scene = b"<r/>\x00";
-    assert_eq!(run(&t(), scene, AMPLE).0, answer(2, 4, 2, 0));
-    let (first, session, _) = step(&t(), scene, &Session::fresh(), 0);
+    let (table, scene) = (former(&t()), b"<r/>\x00");
+    assert_eq!(run(&table, scene, AMPLE).0, answer(2, 4, 2, 0));
+    let (first, session, _) = step(&table, scene, &Session::fresh(), 0);
     assert_eq!(first, answer(0, 4, 1, 0));
-    let (second, session, _) = step(&t(), scene, &session, 0);
+    let (second, session, _) = step(&table, scene, &session, 0);
     assert_eq!(second, answer(0, 4, 1, 0));
-    assert_eq!(step(&t(), scene, &session, 0).0, answer(2, 4, 0, 0));
+    assert_eq!(step(&table, scene, &session, 0).0, answer(2, 4, 0, 0));
 }
 
 #[test]
@@ -148,5 +148,6 @@ fn i7_events_go_on_past_the_limits() {
 #[test]
 fn a_scene_may_be_as_deep_as_it_likes() {
     let deep = nested(200_000);
-    assert_eq!(run(&t(), &deep, AMPLE).0, answer(21, 64 * 3, 64, 0));
+    let got = run(&former(&t()), &deep, AMPLE).0;
+    assert_eq!(got, answer(21, 64 * 3, 64, 0));
 }

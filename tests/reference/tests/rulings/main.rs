@@ -8,6 +8,7 @@ mod calls;
 mod limits;
 mod n01;
 mod n02;
+mod n03;
 mod names;
 mod odd;
 mod reader;

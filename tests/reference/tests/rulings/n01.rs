@@ -1,7 +1,7 @@
 //! N1: comments, processing instructions, the declaration, ]]> in text. A misc is one of the first three.
 
 use crate::common::*;
-use reference::{events, run, session_after, step, Answer, Session};
+use reference::{events, run, session_after, step, Session};
 
 /// The decisions' own examples, and more where a decision has none: decision, |scene|, number@place.
 const DECISIONS: &str = r#"
@@ -225,45 +225,6 @@ fn ending(word: &str) -> (u8, u64) {
     (number.parse().expect(word), place.parse().expect(word))
 }
 
-/// A line of VECTORS with the records below it, if they are shown.
-struct Vector {
-    line: &'static str,
-    table: Vec<u8>,
-    scene: Vec<u8>,
-    output: usize,
-    answer: Answer,
-    records: Vec<&'static str>,
-}
-
-impl Vector {
-    fn of(line: &'static str) -> Vector {
-        let fields: Vec<&str> = line.split('|').collect();
-        let four = numbers(fields[3]);
-        Vector {
-            line,
-            table: named(fields[0]),
-            scene: bytes(fields[1]),
-            output: fields[2].trim().parse().unwrap_or(AMPLE),
-            answer: answer(four[0] as u8, four[1], four[2], four[3]),
-            records: Vec::new(),
-        }
-    }
-}
-
-fn vectors() -> Vec<Vector> {
-    let mut list: Vec<Vector> = Vec::new();
-    let lines = VECTORS
-        .lines()
-        .filter(|line| !line.is_empty() && !line.starts_with('#'));
-    for line in lines {
-        match line.strip_prefix("    ") {
-            Some(record) => list.last_mut().expect("a vector").records.push(record),
-            None => list.push(Vector::of(line)),
-        }
-    }
-    list
-}
-
 /// Decision, scene, number and place.
 fn decisions() -> impl Iterator<Item = (&'static str, Vec<u8>, (u8, u64))> {
     DECISIONS
@@ -283,17 +244,14 @@ fn the_decisions_examples() {
     assert_eq!(decisions().count(), 119);
 }
 
+/// They meet no section without a rule, so that both tables give them.
 #[test]
 fn the_pages_vectors() {
-    for vector in vectors() {
-        let (got, written) = run(&vector.table, &vector.scene, vector.output);
-        assert_eq!(got, vector.answer, "{}", vector.line);
-        assert_eq!(written.len() as u64, 16 * got.records, "{}", vector.line);
-        if !vector.records.is_empty() {
-            assert_eq!(lines(&written), vector.records, "{}", vector.line);
-        }
+    for vector in vectors(VECTORS) {
+        vector.check(&vector.table);
+        vector.check(&former(&vector.table));
     }
-    assert_eq!(vectors().len(), 58);
+    assert_eq!(vectors(VECTORS).len(), 58);
 }
 
 #[test]
@@ -302,14 +260,14 @@ fn the_pages_steps() {
     assert_eq!(list.len(), 7);
     for line in list {
         let fields: Vec<&str> = line.split('|').collect();
-        let (table, mut session) = (named(fields[0]), Session::fresh());
-        for pair in fields[1..].chunks(2) {
-            let expected: Vec<(u8, u64)> = pair[1].split_whitespace().map(ending).collect();
-            assert_eq!(
-                stepped(&table, &bytes(pair[0]), &mut session),
-                expected,
-                "{line}"
-            );
+        let table = named(fields[0]);
+        for table in [former(&table), table] {
+            let mut session = Session::fresh();
+            for pair in fields[1..].chunks(2) {
+                let expected: Vec<(u8, u64)> = pair[1].split_whitespace().map(ending).collect();
+                let got = stepped(&table, &bytes(pair[0]), &mut session);
+                assert_eq!(got, expected, "{line}");
+            }
         }
     }
 }
@@ -493,7 +451,7 @@ fn n1_23_odd_places() {
 /// the one that decides give 1; every longer scene gives the same.
 #[test]
 fn laws_of_the_refused_byte() {
-    let pages = vectors().into_iter().map(|vector| vector.scene);
+    let pages = vectors(VECTORS).into_iter().map(|vector| vector.scene);
     for scene in pages.chain(decisions().map(|decision| decision.1)) {
         let (whole, records) = run(&k(), &scene, AMPLE);
         if !matches!(whole.number, 2 | 3) {

@@ -3,9 +3,7 @@
 use crate::common::*;
 use reference::generate::rule;
 use reference::table::ANY;
-use reference::{
-    forecast, forecast_by_event, judge, record_bound, run, Action, EventCounts, Forecast,
-};
+use reference::{forecast, forecast_by_event, judge, plus, record_bound, run, Action, EventCounts};
 
 /// The page's vectors as they stand there, and its tables: table, |scene|, number, place, records, units, strands, depth, | bound.
 const VECTORS: &str = r#"
@@ -67,7 +65,7 @@ V |<r/>| 9 4 4 1 2 1 | 136
 U |<e xmlns:p='q' xmlns:u='u'>{8191:<e p:a=''/>}{7:<e u:a=''/>}<e><e u:a=''/>| 24 90208 409609 65536 1 2 | 950742
 # N2-9: an attribute unit under an unwrap strand; one whose attributes are kept as well; attributes of the element's namespace
 A = 00 01 01 01 07 FE 00 00
-A |<r xmlns:p='u' p:a='' a=''/>| 9 28 6 1 1 1 | 74
+A |<r xmlns:p='u' p:a='' a=''/>| 9 28 6 1 1 1 | 74  # until N3
 B = 00 01 02 03 03 FE 00 00 07 FE 01 00 07 FC 00 00
 B |<r xmlns:p='u' p:a=''/>| 9 23 12 2 1 1 | 74
 Q |<p:r xmlns:p='u' p:a=''/>| 9 25 6 1 1 1 | 68
@@ -84,82 +82,36 @@ Q |<r xmlns:p='u' p:a='' p:b='' xml:c=''/>| 512 | 9 39 2 32
 Q |<r xmlns:p='u' p:a='' p:b='' xml:c=''/>| 511 | 25 0 1 30
 "#;
 
-/// The lines of a text that are no remarks.
-fn written(text: &'static str) -> impl Iterator<Item = &'static str> {
-    text.lines()
-        .filter(|line| !line.is_empty() && !line.starts_with('#'))
-}
-
-/// A table of VECTORS or MORE, written as NAME = bytes, or one that other pages name.
 fn table_named(name: &str) -> Vec<u8> {
-    let name = name.trim();
-    let found = written(VECTORS)
-        .chain(written(MORE))
-        .filter(|line| !line.contains('|'))
-        .find_map(|line| line.strip_prefix(name)?.strip_prefix(" = "));
-    match found {
-        Some(hex) => hex
-            .split(' ')
-            .map(|byte| u8::from_str_radix(byte, 16).expect(hex))
-            .collect(),
-        None => named(name),
-    }
+    table_in(&[VECTORS, MORE], name)
 }
 
-struct Vector {
-    line: &'static str,
-    table: Vec<u8>,
-    scene: Vec<u8>,
-    forecast: Forecast,
-    /// None with a refused table.
-    bound: Option<u64>,
-}
-
-impl Vector {
-    fn of(line: &'static str) -> Vector {
-        let fields: Vec<&str> = line.split('|').collect();
-        let bound = fields[3].trim();
-        Vector {
-            line,
-            table: table_named(fields[0]),
-            scene: bytes(fields[1]),
-            forecast: figures(&numbers(fields[2])),
-            bound: (bound != "-").then(|| numbers(bound)[0]),
-        }
-    }
-}
-
-fn vectors(text: &'static str) -> Vec<Vector> {
-    written(text)
-        .filter(|line| line.contains('|'))
-        .map(Vector::of)
+fn all_vectors() -> Vec<Forecasted> {
+    [VECTORS, MORE]
+        .into_iter()
+        .flat_map(|block| forecasts(&[VECTORS, MORE], block))
         .collect()
 }
 
-fn all_vectors() -> Vec<Vector> {
-    let mut list = vectors(VECTORS);
-    list.extend(vectors(MORE));
-    list
-}
-
-fn figures(six: &[u64]) -> Forecast {
-    Forecast {
-        number: six[0] as u8,
-        place: six[1],
-        records: six[2],
-        units: six[3],
-        strands: six[4],
-        depth: six[5],
-    }
+/// The tables that a line holds of: t+, and the table itself unless the line is said to hold until
+/// N3; a refused table alone.
+fn tables_of(vector: &Forecasted) -> Vec<Vec<u8>> {
+    let itself = Some(vector.table.clone()).filter(|_| !vector.line.contains("until N3"));
+    let kept = plus(&vector.table).filter(|kept| Some(kept) != itself.as_ref());
+    kept.into_iter().chain(itself).collect()
 }
 
 #[test]
 fn the_pages_forecasts() {
     for vector in all_vectors() {
-        let got = forecast(&vector.table, &vector.scene);
-        assert_eq!(got, vector.forecast, "{}", vector.line);
+        for table in tables_of(&vector) {
+            let got = forecast(&table, &vector.scene);
+            assert_eq!(got, vector.forecast, "{}", vector.line);
+        }
     }
-    assert_eq!((vectors(VECTORS).len(), vectors(MORE).len()), (29, 8));
+    let until = |vector: &&Forecasted| vector.line.contains("until N3");
+    assert_eq!(all_vectors().len(), 29 + 8);
+    assert_eq!(all_vectors().iter().filter(until).count(), 2);
 }
 
 #[test]
@@ -167,33 +119,34 @@ fn the_pages_bounds() {
     for vector in all_vectors() {
         let refused = judge(&vector.table).number != 0;
         assert_eq!(vector.bound.is_none(), refused, "{}", vector.line);
-        let bound = record_bound(&vector.table, &vector.scene);
-        assert_eq!(bound, vector.bound.unwrap_or(0), "{}", vector.line);
-        let records = forecast(&vector.table, &vector.scene).records;
-        assert!(records <= bound, "{}", vector.line);
+        for table in tables_of(&vector) {
+            let bound = record_bound(&table, &vector.scene);
+            assert_eq!(bound, vector.bound.unwrap_or(0), "{}", vector.line);
+            let records = forecast(&table, &vector.scene).records;
+            assert!(records <= bound, "{}", vector.line);
+        }
     }
 }
 
 #[test]
 fn the_bound_event_by_event() {
     for vector in all_vectors() {
-        let counts = forecast_by_event(&vector.table, &vector.scene).1;
-        let holds = |event: &EventCounts| event.records <= event.bound();
-        assert!(counts.iter().all(holds), "{}", vector.line);
-        let records: u64 = counts.iter().map(|event| event.records).sum();
-        assert_eq!(records, vector.forecast.records, "{}", vector.line);
+        for table in tables_of(&vector) {
+            let counts = forecast_by_event(&table, &vector.scene).1;
+            let holds = |event: &EventCounts| event.records <= event.bound();
+            assert!(counts.iter().all(holds), "{}", vector.line);
+            let records: u64 = counts.iter().map(|event| event.records).sum();
+            assert_eq!(records, vector.forecast.records, "{}", vector.line);
+        }
     }
 }
 
 #[test]
 fn the_pages_runs() {
     for line in written(RUNS) {
-        let fields: Vec<&str> = line.split('|').collect();
-        let output = fields[2].trim().parse().unwrap_or(AMPLE);
-        let four = numbers(fields[3]);
-        let expected = answer(four[0] as u8, four[1], four[2], four[3]);
-        let got = run(&table_named(fields[0]), &bytes(fields[1]), output).0;
-        assert_eq!(got, expected, "{line}");
+        let vector = Vector::of(&[VECTORS], line);
+        vector.check(&vector.table);
+        vector.check(&former(&vector.table));
     }
     assert_eq!(written(RUNS).count(), 7);
 }
@@ -201,20 +154,26 @@ fn the_pages_runs() {
 #[test]
 fn n2_2_an_output_of_that_size_and_one_byte_less() {
     for vector in all_vectors() {
-        let told = vector.forecast;
-        let ends = |output| {
-            let got = run(&vector.table, &vector.scene, output).0;
-            (got.number, got.place, got.records)
-        };
-        let needed = 16 * told.records as usize;
-        let expected = (told.number, told.place, told.records);
-        assert_eq!(ends(needed), expected, "{}", vector.line);
-        assert_eq!(ends(needed + 37), expected, "{}", vector.line);
-        if needed > 0 {
-            let (number, _, records) = ends(needed - 1);
-            assert_eq!(number, 25, "{}", vector.line);
-            assert!(records < told.records, "{}", vector.line);
+        for table in tables_of(&vector) {
+            runs_as_told(&vector, &table);
         }
+    }
+}
+
+fn runs_as_told(vector: &Forecasted, table: &[u8]) {
+    let told = vector.forecast;
+    let ends = |output| {
+        let got = run(table, &vector.scene, output).0;
+        (got.number, got.place, got.records)
+    };
+    let needed = 16 * told.records as usize;
+    let expected = (told.number, told.place, told.records);
+    assert_eq!(ends(needed), expected, "{}", vector.line);
+    assert_eq!(ends(needed + 37), expected, "{}", vector.line);
+    if needed > 0 {
+        let (number, _, records) = ends(needed - 1);
+        assert_eq!(number, 25, "{}", vector.line);
+        assert!(records < told.records, "{}", vector.line);
     }
 }
 

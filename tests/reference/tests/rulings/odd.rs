@@ -118,6 +118,8 @@ fn i4_9_is_not_final() {
 
 #[test]
 fn i1_steps_go_on_in_a_longer_scene() {
-    let session = session_after(&t(), b"<r>abc", 1);
-    assert_eq!(step(&t(), b"<r>abcd<", &session, 0).0, answer(0, 7, 1, 0));
+    let table = former(&t());
+    let session = session_after(&table, b"<r>abc", 1);
+    let got = step(&table, b"<r>abcd<", &session, 0).0;
+    assert_eq!(got, answer(0, 7, 1, 0));
 }

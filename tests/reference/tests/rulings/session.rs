@@ -11,14 +11,14 @@ fn base() -> Session {
     session_after(&two(), SCENE, 2)
 }
 
-/// Modes 0 to 2, classes 1 and 2.
+/// Modes 0 to 2, classes 1 and 2; unwrap where no rule names the class.
 fn two() -> Vec<u8> {
-    table(
+    former(&table(
         &["u", "v"],
         3,
         1,
         vec![rule(0, ELEMENT, 1, Action::Validate, 0, 1)],
-    )
+    ))
 }
 
 fn refused(change: impl Fn(&mut Session)) -> bool {

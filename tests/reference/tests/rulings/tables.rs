@@ -59,7 +59,7 @@ fn a2_repeated_rule() {
         ]
     };
     let both: Vec<String> = [one(0), one(1)].concat();
-    assert_eq!(records(&two, "<r xmlns:p='x' p:a=''/>"), both);
+    assert_eq!(records(&former(&two), "<r xmlns:p='x' p:a=''/>"), both);
     assert_eq!(
         number(&table(&[], 2, 1, vec![attribute(1), attribute(1)])),
         12

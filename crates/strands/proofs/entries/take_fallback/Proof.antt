@@ -1,6 +1,5 @@
 -- `strands::entries::take_fallback` meets its contract.
 use borrow.Author.Needs.{needs}
-use borrow.Author.Needs.{needs}
 use Rattle.strands.proofs.Taking.{fallback-next, one-full, one-laid}
 use Rattle.strands.proofs.entries.take_fallback.Statement.{statement}
 use Rattle.strands.proofs.entries.take_fallback.Tie as tie
@@ -23,6 +22,9 @@ mul-strand-words c = search needs
 slice-write-strand-words : tie.Need-slice-write-strand-words
 slice-write-strand-words c = search needs
 
+cast-schema-words : tie.Need-cast-schema-words
+cast-schema-words c = search needs
+
 mul-schema-words : tie.Need-mul-schema-words
 mul-schema-words c = search needs
 
@@ -34,9 +36,9 @@ add-result c = search needs
 
 returns-2 : tie.Need-returns-2
 returns-2 c =
-    let a = c .before .before .before .before .before .args in
-    let f = c .before .fallback-of in
-    let z = one-laid (a .w) (a .mode) (a .words .now) (a .schemas .now) (a .n) (c .before .before .before .before .if1 .left) (c .before .before .before .strand-words .given .0 .1) (c .before .before .schema-words .given .0 .1) (f .result) (f .ensures) (c .made-by .result) (c .made-by .ensures) in
+    let a = c .before .before .before .before .before .before .args in
+    let f = c .before .before .fallback-of in
+    let z = one-laid (a .w) (a .mode) (a .words .now) (a .schemas .now) (a .n) (c .before .before .before .before .before .if1 .left) (c .before .before .before .before .strand-words .given .0 .1) (c .before .before .before .schema-words .given .0 .1) (f .result) (f .ensures) (c .before .made-by .result) (c .before .made-by .ensures) in
     (z .number, z .strands, z .marks)
 
 pub take-fallback-spec : {M : Type 1} → statement M
@@ -48,6 +50,7 @@ take-fallback-spec =
     made-by-requires
     mul-strand-words
     slice-write-strand-words
+    cast-schema-words
     mul-schema-words
     slice-write-schema-words
     add-result

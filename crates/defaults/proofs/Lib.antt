@@ -1,0 +1,6 @@
+pub mod Each
+pub mod Added
+pub mod Judged
+pub mod SameTable
+pub mod SameUris
+pub mod Former
