@@ -52,7 +52,7 @@
  *     bytes  0,  1    unit, counted from 0 as opened
  *     byte   2        kind: 0 open, 1 start, 2 attribute, 3 attribute value, 4 text, 5 end, 6 close
  *     byte   3        class: 0 no namespace, 1 to 30 the table's, 254 that of the prefix xml, 255 any other, 253 the virtual element that holds the
- *                     attributes of an attribute unit; of an open, the schema
+ *                     attributes of an attribute unit; of an open, the schema: one of the table's, or 255, reject, where no rule was taken
  *     bytes  4 to  6  offset in the scene: of the part behind the colon of a name, of a value, of a text; of an open, of the tag's <
  *     bytes  7 to  9  length; of an open, 1 for an attribute unit
  *     bytes 10 to 12  offset of the namespace's URI in the scene, for class 255

@@ -1,7 +1,7 @@
 -- A table with the rules that it lacks: what it says.
 --     fields-any, rule-any                  the fields of a word that is added; its rule is what a strand took before N3 where there was none
 --     names-own, names-other                the mode, kind and class that this rule names, and no other
---     Lacks, lack-from, added-lack          each word that is added, and why it is
+--     Lacks, lack-from, added-lack          each word that is added, and why it is; added-few: at most two for each mode
 --     header-more, length-more              the header and the length
 --     words-more, rules-more, uris-more     the words and the rules, those that are added behind the table's own; the URIs as they were
 --     behind-more                           what stands behind the words, as it was
@@ -115,6 +115,24 @@ module _ (t : List ℕ) where
       (λ mode m.
       each-append (Lacks t from) (lackedBy rules mode 0) (lackedBy rules mode 1) (lacked-lack from mode 0 (m .0) (omega arith) (omega arith)) (lacked-lack from mode 1 (m .0) (omega arith) (omega arith)))
       (tabulate (λ (mode : ℕ). mode) from n) (within from n)
+
+  -- "At most 2 × M rules are added"
+  lacked-few : (mode kind : ℕ) → length (lackedBy rules mode kind) ≤ 1
+  lacked-few mode kind = by (any (namesClass mode kind anyClass) rules)
+    where
+      by : (b : Bool) → length (cond b [] (unwrapAny mode kind ∷ [])) ≤ 1
+      by true = omega arith
+      by false = omega arith
+
+  few-from : (from n : ℕ) → length (lackedFrom from n) ≤ 2 * n
+  unfolding gather tabulate
+  few-from from zero = omega arith
+  few-from from (suc n) =
+      let two = lackedBy rules from 0 ++ lackedBy rules from 1 in
+      omega (arith, length-append two (lackedFrom (suc from) n), length-append (lackedBy rules from 0) (lackedBy rules from 1), lacked-few from 0, lacked-few from 1, few-from (suc from) n)
+
+  pub added-few : length (addedWords t) ≤ 2 * headerOf t .modes
+  added-few = rw added-are (few-from 0 (headerOf t .modes))
 
   pub added-lack : All (Lacks t 0) (addedWords t)
   added-lack = rw added-are (lack-from 0 (headerOf t .modes) (omega arith))

@@ -63,7 +63,7 @@ module _ (t : List ℕ) (a : Accepted t ≡ true) (enough : Suffices t) where
   as-before f e =
       ap (λ (j : Answer). f j (decodeBy standard (withAny t))) (judged-more t a enough)
       ∙ e (length (withAny t)) (length t) (decodeBy standard (withAny t))
-      ∙ ap (f (said 0 (length t))) (same-table t a enough)
+      ∙ ap (f (said 0 (length t))) (same-table t a)
       ∙ ap (λ (j : Answer). f j (decodeBy former t)) (sym (accepted-answer t a))
 
   pub former-step : (s : List ℕ) (z : Session) (out : List ℕ) → stepOf standard (withAny t) s z out ≡ stepOf former t s z out
@@ -79,10 +79,10 @@ module _ (t : List ℕ) (a : Accepted t ≡ true) (enough : Suffices t) where
   former-forecast s = forecast-with standard (withAny t) s ∙ as-before (forecastWith s) (λ n m u. refl) ∙ sym (forecast-with former t s)
 
   pub former-list : (s : List ℕ) → modelList (decodeBy standard (withAny t)) s ≡ modelList (decodeBy former t) s
-  former-list s = ap (λ (u : Table). modelList u s) (same-table t a enough)
+  former-list s = ap (λ (u : Table). modelList u s) (same-table t a)
 
   pub former-cut : (s : List ℕ) (k : ℕ) → cutList (decodeBy standard (withAny t)) s k ≡ cutList (decodeBy former t) s k
-  former-cut s k = ap (λ (u : Table). cutList u s k) (same-table t a enough)
+  former-cut s k = ap (λ (u : Table). cutList u s k) (same-table t a)
 
 -- ---- where every strand meets a rule
 module _ (t : List ℕ) (meets : Meets t) where

@@ -16,15 +16,15 @@ use Rattle.laws.specs.Tests.{both, neither, not-left}
 use Rattle.laws.proofs.Flags.{differ, and-right}
 use Rattle.laws.proofs.Lists.{all-append}
 use Rattle.laws.proofs.Members.{all-by, none-in}
-use Rattle.laws.proofs.Elementwise.{each-map}
+use Rattle.laws.proofs.Elementwise.{each-map, any-none, all-each, pair-append}
 use Rattle.table.specs.Table.{headerOf, wordsOf, fieldsOf, ruleOf, anyClass, namesClass, allRules}
 use Rattle.table.specs.Judge.{said, judged, Accepted, headerFits, lengthFits, urisFill, fieldsFit, wordFits, isEmpty, keeps, sameRuleKey, rulesClash, urisClash}
 use Rattle.table.specs.declared.Header.{Header}
 use Rattle.table.specs.declared.Rule.{Rule}
 use Rattle.table.specs.declared.Answer.{Answer}
 use Rattle.table.proofs.Accepted.{Passed, passed, header-in}
+use Rattle.model.proofs.Lists.{in-map}
 use Rattle.defaults.specs.Former.{unwrapAny, addedWords, Suffices, withAny}
-use Rattle.defaults.proofs.Each.{any-none, all-each, pair-append, in-map}
 use Rattle.defaults.proofs.Added.{enough, fields-any, names-own, names-other, Lacks, lackedFrom, added-are, lack-from, added-lack, raised, length-more, header-more, behind-more, uris-more, words-more}
 
 -- a table that passes each test

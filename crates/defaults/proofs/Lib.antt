@@ -1,6 +1,7 @@
-pub mod Each
 pub mod Added
 pub mod Judged
 pub mod SameTable
 pub mod SameUris
 pub mod Former
+pub mod Meeting
+pub mod SameLimits

@@ -1,6 +1,7 @@
 -- What is taken from a table now, and what was before N3.
 --     same-table     from a table with the rules that it lacks now, what was taken before from the table without them
 --     meets-same     the same from a table where every strand meets a rule
+--     some-taken     where the first list is not empty the second is of no account
 use Prim.Native.Nat.{ℕ, zero, suc, _+_, _≤_, _<_}
 use mathlib.Core.Path.{_≡_, refl, sym, ap, ap₂, _∙_, fun-ext}
 use mathlib.Core.List.{List, [], _∷_, _++_, map, append-nil}
@@ -15,14 +16,13 @@ use Rattle.laws.specs.Members.{All}
 use Rattle.laws.specs.Reading.{le-or-lt}
 use Rattle.laws.proofs.Flags.{differ}
 use Rattle.laws.proofs.Lists.{keep-none, keep-append, keep-map}
-use Rattle.laws.proofs.Elementwise.{each-map}
+use Rattle.laws.proofs.Elementwise.{each-map, any-none}
 use Rattle.table.specs.Table.{Default, headerOf, ruleOf, urisOf, anyClass, namesClass, orElse, rulesOf, standard, former, fallback, takenOf, allRules, decodeBy}
 use Rattle.table.specs.Judge.{Accepted}
 use Rattle.table.specs.declared.Header.{Header}
 use Rattle.table.specs.declared.Rule.{Rule}
 use Rattle.table.proofs.Accepted.{header-in}
-use Rattle.defaults.specs.Former.{unwrapAny, lackedBy, addedWords, Suffices, withAny, Meets}
-use Rattle.defaults.proofs.Each.{any-none}
+use Rattle.defaults.specs.Former.{unwrapAny, lackedBy, addedWords, withAny, Meets}
 use Rattle.defaults.proofs.Added.{Lacks, lackedFrom, added-are, lack-from, added-lack, rule-any, names-own, names-other, header-more, uris-more, rules-more}
 
 -- ---- the first list, or the second
@@ -30,7 +30,7 @@ itself : (x : List Rule) → orElse x x ≡ x
 itself [] = refl
 itself (r ∷ x) = refl
 
-some-taken : (x y z : List Rule) → (x ≡ [] → ⊥) → orElse x y ≡ orElse x z
+pub some-taken : (x y z : List Rule) → (x ≡ [] → ⊥) → orElse x y ≡ orElse x z
 some-taken [] y z n = absurd (n refl)
 some-taken (r ∷ x) y z n = refl
 
@@ -198,8 +198,8 @@ module _ (t : List ℕ) (a : Accepted t ≡ true) where
         by mode class false e = refl
 
 -- "An accepted table keeps its former results"
-pub same-table : (t : List ℕ) → Accepted t ≡ true → Suffices t → decodeBy standard (withAny t) ≡ decodeBy former t
-same-table t a s =
+pub same-table : (t : List ℕ) → Accepted t ≡ true → decodeBy standard (withAny t) ≡ decodeBy former t
+same-table t a =
     λ i. record {
       modes = header-more t a i .modes;
       uris = uris-more t a i;

@@ -1,10 +1,10 @@
 -- A coherent session is sound: what number 20 leaves is all that the proofs ask of a session.
---     each-tested, each-tabulated, each-mapped, tested-at     tests of lists, read back
+--     each-tested, each-tabulated, tested-at     tests of lists, read back
 --     levels-each, opens-each                    what holds of each open level
 --     coherent-levels, coherent-held, coherent-sound
 use Prim.Native.Nat.{ℕ, zero, suc, _+_, _-_, _*_, _≤_, _<_}
 use mathlib.Core.Path.{_≡_, refl, sym, ap, ap₂, subst, _∙_}
-use mathlib.Core.List.{List, [], _∷_, map}
+use mathlib.Core.List.{List, [], _∷_}
 use mathlib.Core.Bool.{Bool, true, false, not, _&&_, _||_}
 use mathlib.Core.Option.{Option, none, some}
 use mathlib.Core.Logic.{_⊎_, inl, inr, ⊎-elim}
@@ -55,10 +55,6 @@ pub each-tabulated : {A : Type 0} (P : A → Type 0) (f : ℕ → A) (i n : ℕ)
 unfolding tabulate
 each-tabulated P f i zero h = tt
 each-tabulated P f i (suc n) h = (h i (omega arith) (omega arith), each-tabulated P f (suc i) n (λ k lo hi. h k (omega arith) (omega arith)))
-
-pub each-mapped : {A B : Type 0} (P : B → Type 0) (f : A → B) (l : List A) → All P (map f l) → All (λ (x : A). P (f x)) l
-each-mapped P f [] h = tt
-each-mapped P f (x ∷ l) h = (h .0, each-mapped P f l (h .1))
 
 pub tested-at : {A : Type 0} (p : A → Bool) (f : ℕ → A) (i n : ℕ) → all p (tabulate f i n) ≡ true → (k : ℕ) → i ≤ k → k < i + n → p (f k) ≡ true
 unfolding all tabulate

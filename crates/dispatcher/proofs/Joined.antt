@@ -29,6 +29,7 @@ use Rattle.reader.specs.Namespaces.{Namespace, uriOf}
 use Rattle.model.specs.Elements.{Element, Space, spaceOf, sameSpace}
 use Rattle.model.specs.Stream.{Entry, entriesAt}
 use Rattle.model.specs.Dispatch.{dispatch}
+use Rattle.model.proofs.Lists.{all-unmap}
 use Rattle.strands.specs.Packed.{strandIn}
 use Rattle.strands.specs.Entries.{entriesBy, entriesFrom, stayEntry, Unnumbered}
 use Rattle.strands.proofs.Entered.{before-root, take-rules-are, stay-are, SchemaSmall, EntryPackable, unnumbered-by, unnumbered-from, unnumbered-stay, schemas-by, schemas-from, schemas-stay, packable-by, packable-from, packable-stay}
@@ -37,7 +38,7 @@ use Rattle.dispatcher.specs.Coherence.{coherent}
 use Rattle.dispatcher.specs.declared.Session.{Session}
 use Rattle.dispatcher.proofs.Sound.{StrandSound}
 use Rattle.dispatcher.proofs.Clauses.{clauses}
-use Rattle.dispatcher.proofs.CoherentSound.{each-mapped, tested-at, level-sound}
+use Rattle.dispatcher.proofs.CoherentSound.{tested-at, level-sound}
 use Rattle.dispatcher.proofs.Spaces.{uri-back, class-few}
 use Rattle.openings.proofs.Deciding.{joinedBy, levelWords, nextEntries}
 
@@ -154,7 +155,7 @@ module _ (table : List ℕ) (a : Accepted table ≡ true) (s : List ℕ) (z : Se
   unfolding levelIn strandsIn
   modes-in k l =
       each-map _ _ (λ w h. h .mode-in) (levelWords (z .spaces) (z .strands) k)
-      (each-mapped (StrandSound (decode table) (z .units)) strandIn (levelWords (z .spaces) (z .strands) k) (level-sound (decode table) s z (clauses (decode table) s z ok) k l .strands))
+      (all-unmap (StrandSound (decode table) (z .units)) strandIn (levelWords (z .spaces) (z .strands) k) (level-sound (decode table) s z (clauses (decode table) s z ok) k l .strands))
 
   enters-at : (d : ℕ) → d ≤ z .scope .depth → nextEntries index s (uriOf s n) (z .spaces) (z .strands) class d ≡ entriesAt (dispatch (decode table)) (levelsIn (decode table) s z d) σ
   unfolding levelsIn levelIn strandsIn

@@ -1,14 +1,18 @@
 -- More on what holds of each element of a list.
 --     each-map, each-append, each-gather, each-any     from list to list
+--     any-none, all-each, pair-append                  tests of all, by what holds of each
 --     any-same, anyPair-same, gather-same              functions that agree at each element
 use Prim.Native.Nat.{ℕ}
-use mathlib.Core.Path.{_≡_, refl, ap₂}
+use mathlib.Core.Path.{_≡_, refl, ap₂, _∙_}
 use mathlib.Core.List.{List, [], _∷_, _++_}
 use mathlib.Core.Bool.{Bool, true, false, _||_}
 use native.Mathlib.Omega.{arith}
-use Rattle.laws.specs.Lists.{any, anyPair}
+use Rattle.laws.specs.Lists.{any, all, anyPair}
 use Rattle.laws.specs.Gather.{gather}
 use Rattle.laws.specs.Members.{All}
+use Rattle.laws.specs.Tests.{both, neither}
+use Rattle.laws.proofs.Flags.{or-left, or-right}
+use Rattle.laws.proofs.Lists.{any-append}
 
 pub each-map : {A : Type 0} (P Q : A → Type 0) → ((x : A) → P x → Q x) → (l : List A) → All P l → All Q l
 each-map P Q f [] h = tt
@@ -36,6 +40,25 @@ each-any P p (x ∷ l) h e = ((h .0, first (p x) e), each-any P p l (h .1) (seco
     second : (t : Bool) → (t || any p l) ≡ false → any p l ≡ false
     second true q = absurd (let z : _≡_ {A = ℕ} 0 1 = cc in omega arith)
     second false q = q
+
+-- tests of all, by what holds of each
+module _ {A : Type 0} where
+  pub any-none : (p : A → Bool) (l : List A) → All (λ (x : A). p x ≡ false) l → any p l ≡ false
+  unfolding any
+  any-none p [] h = refl
+  any-none p (x ∷ l) h = neither (p x) (any p l) (h .0) (any-none p l (h .1))
+
+  pub all-each : (p : A → Bool) (l : List A) → All (λ (x : A). p x ≡ true) l → all p l ≡ true
+  unfolding all
+  all-each p [] h = refl
+  all-each p (x ∷ l) h = both (p x) (all p l) (h .0) (all-each p l (h .1))
+
+  pub pair-append : (q : A → A → Bool) (k l : List A) → anyPair q k ≡ false → anyPair q l ≡ false → All (λ (x : A). any (q x) l ≡ false) k → anyPair q (k ++ l) ≡ false
+  unfolding anyPair
+  pair-append q [] l e f h = f
+  pair-append q (x ∷ k) l e f h =
+      neither (any (q x) (k ++ l)) (anyPair q (k ++ l)) (any-append (q x) k l ∙ neither (any (q x) k) (any (q x) l) (or-left (any (q x) k) (anyPair q k) e) (h .0))
+      (pair-append q k l (or-right (any (q x) k) (anyPair q k) e) f (h .1))
 
 module _ {A : Type 0} (P : A → Type 0) where
   pub any-same : (p q : A → Bool) → ((x : A) → P x → p x ≡ q x) → (l : List A) → All P l → any p l ≡ any q l

@@ -36,7 +36,7 @@ modesOf = map (λ s. s .mode)
 abbrev piecesOf : {B : Type 0} → List (WholeUnit B) → List (List (Piece B))
 piecesOf = map (λ u. map (λ p. p .piece) (u .pieces))
 
-abbrev entryModes : List Entry → List ℕ
+abbrev pub entryModes : List Entry → List ℕ
 entryModes = map (λ e. e .strand .mode)
 
 module _ (Θ : Theory) where
@@ -57,7 +57,7 @@ module _ (Θ : Theory) where
   attributesAt z (end ε) = []
 
   -- A device: the stream's modes alone.
-  abbrev nextModes : Θ .StartInfo → List ℕ → List ℕ
+  abbrev pub nextModes : Θ .StartInfo → List ℕ → List ℕ
   nextModes σ = gather (λ m. map (λ q. q .next) (Θ .elementRules m σ))
 
   abbrev enterModes : List (Moded Θ) → Θ .StartInfo → List ℕ
@@ -103,7 +103,7 @@ module _ (Θ : Theory) where
       one Unwrap = refl
       one Validate = refl
 
-  take-modes : (σ : Θ .StartInfo) (ss : List (stream.HeldStrand ℕ)) → entryModes (takeRules Θ σ ss) ≡ nextModes σ (map (λ s. s .mode) ss)
+  pub take-modes : (σ : Θ .StartInfo) (ss : List (stream.HeldStrand ℕ)) → entryModes (takeRules Θ σ ss) ≡ nextModes σ (map (λ s. s .mode) ss)
   take-modes σ ss =
       map-gather (λ (e : Entry). e .strand .mode) (λ (s : stream.HeldStrand ℕ). map (λ q. record { strand = byRule (q .action) (q .next) none (s .target); schema = q .schema }) (Θ .elementRules (s .mode) σ)) ss
       ∙ gather-same _ (λ s. map (λ q. q .next) (Θ .elementRules (s .mode) σ)) (λ s. rule-modes (s .target) (Θ .elementRules (s .mode) σ)) ss
