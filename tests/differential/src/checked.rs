@@ -26,6 +26,13 @@ pub fn ample_run(case: &Case) -> (Answer, Vec<u8>) {
     (expected, records)
 }
 
+/// Run with every length of output, up to a little more than needed; what to do with each number.
+pub fn run_in_every_length(case: &Case, mut met: impl FnMut(u8)) {
+    for out_len in 0..=ample_run(case).1.len() + 17 {
+        met(run(case, out_len).number);
+    }
+}
+
 /// The dispatcher's run against an answer and its records; every byte of the output is compared.
 pub fn run_as(case: &Case, out_len: usize, expected: Answer, records: &[u8]) {
     let more = || format!("run with an output of {out_len} bytes");

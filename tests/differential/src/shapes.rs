@@ -1,6 +1,6 @@
 //! Document 01's tables, and scenes of the shapes at the limits.
 
-use reference::generate::{pack, rule, scene_of, Plan, Profile, Random};
+use reference::generate::{damaged_scene, pack, rule, scene, scene_of, Plan, Profile, Random};
 use reference::table::{Rule, ANY, ELEMENT_SECTION};
 use reference::{plus, Action};
 
@@ -161,4 +161,17 @@ pub fn every_change(whole: &[u8]) -> Vec<Vec<u8>> {
         }
     }
     list
+}
+
+/// A scene of any of these kinds, one in six damaged.
+pub fn any_scene(random: &mut Random, table: &[u8], seed: u64) -> Vec<u8> {
+    match random.below(6) {
+        0 => small(random, table),
+        1 | 2 => shaped(random, table, seed % 7),
+        3 => {
+            let whole = scene(random, table);
+            damaged_scene(random, &whole)
+        }
+        _ => scene(random, table),
+    }
 }

@@ -1,24 +1,12 @@
 //! The standard's defaults (request N3): tables that lack rules, often without schemas, on scenes of many namespaces.
 
-use differential::shapes::{shaped, small, table};
+use differential::shapes::{any_scene, small, table};
 use differential::{asked, checked, layout, Case, Pace};
-use reference::generate::{damaged_scene, many_rejects, scene, sparse_table, Random};
+use reference::generate::{many_rejects, sparse_table, Random};
 use reference::{accepted_events, session_after, Record, Session, REJECT};
 
 const AMPLE: usize = 1 << 16;
 const UNITS: u64 = 65_536;
-
-fn some_scene(random: &mut Random, table: &[u8], seed: u64) -> Vec<u8> {
-    match random.below(6) {
-        0 => small(random, table),
-        1 | 2 => shaped(random, table, seed % 7),
-        3 => {
-            let whole = scene(random, table);
-            damaged_scene(random, &whole)
-        }
-        _ => scene(random, table),
-    }
-}
 
 /// Whether records open a unit of reject, and whether one while another is open.
 fn rejects(records: &[u8]) -> (bool, bool) {
@@ -45,7 +33,7 @@ fn tables_that_lack_rules() {
     while let Some(seed) = pace.next_seed() {
         let mut random = Random::new(seed);
         let table = sparse_table(&mut random);
-        let scene = some_scene(&mut random, &table, seed);
+        let scene = any_scene(&mut random, &table, seed);
         let case = Case::new("table that lacks rules", seed, &table, &scene);
         let (answer, records) = checked::ample_run(&case);
         pace.met(answer.number);
@@ -68,7 +56,7 @@ fn sessions_with_few_units_left() {
     while let Some(seed) = pace.next_seed() {
         let mut random = Random::new(seed);
         let table = sparse_table(&mut random);
-        let scene = some_scene(&mut random, &table, seed);
+        let scene = any_scene(&mut random, &table, seed);
         let case = Case::new("few units left", seed, &table, &scene);
         let accepted = accepted_events(&table, &scene);
         let session = session_after(&table, &scene, random.below(accepted + 1));
@@ -96,9 +84,7 @@ fn every_output_length() {
         let table = sparse_table(&mut random);
         let scene = small(&mut random, &table);
         let case = Case::new("output length", seed, &table, &scene);
-        for out_len in 0..=checked::ample_run(&case).1.len() + 17 {
-            pace.met(checked::run(&case, out_len).number);
-        }
+        checked::run_in_every_length(&case, |number| pace.met(number));
     }
     pace.finish(&[9, 25]);
 }

@@ -3,9 +3,9 @@
 
 use differential::calls::{self, Lent};
 use differential::case::session_text;
-use differential::shapes::{self, former, shaped, small, t, t2};
+use differential::shapes::{self, any_scene, former, t, t2};
 use differential::{asked, checked, layout, Case, Pace};
-use reference::generate::{damaged_scene, many_rejects, nearly_full_table, odd_session, rule, scene, sparse_table, table, Random};
+use reference::generate::{many_rejects, nearly_full_table, odd_session, rule, sparse_table, table, Random};
 use reference::table::{ANY, ATTRIBUTE_SECTION};
 use reference::{accepted_events_under, forecast_under, plus, program_under, run_under, session_after_under, step_under, uri};
 use reference::{Action, Answer, Defaults, Record, Session};
@@ -102,18 +102,6 @@ fn some_table(random: &mut Random) -> (Vec<u8>, Vec<u8>) {
     }
 }
 
-fn some_scene(random: &mut Random, table: &[u8], seed: u64) -> Vec<u8> {
-    match random.below(6) {
-        0 => small(random, table),
-        1 | 2 => shaped(random, table, seed % 7),
-        3 => {
-            let whole = scene(random, table);
-            damaged_scene(random, &whole)
-        }
-        _ => scene(random, table),
-    }
-}
-
 /// Run and program, in ample, exact and short outputs; the forecast; the URIs of the records.
 #[test]
 fn runs_and_forecasts() {
@@ -122,7 +110,7 @@ fn runs_and_forecasts() {
     while let Some(seed) = pace.next_seed() {
         let mut random = Random::new(seed);
         let (table, plus) = some_table(&mut random);
-        let scene = some_scene(&mut random, &table, seed);
+        let scene = any_scene(&mut random, &table, seed);
         let case = Case::new("former run", seed, &plus, &scene);
         assert_eq!(checked::judge(&case).number, 0);
         let kept = Kept { table: &table, case };
@@ -161,7 +149,7 @@ fn steps_and_advances() {
     while let Some(seed) = pace.next_seed() {
         let mut random = Random::new(seed);
         let (table, plus) = some_table(&mut random);
-        let scene = some_scene(&mut random, &table, seed);
+        let scene = any_scene(&mut random, &table, seed);
         let kept = Kept {
             table: &table,
             case: Case::new("former steps", seed, &plus, &scene),
@@ -193,7 +181,7 @@ fn whole_lists_of_steps() {
     while let Some(seed) = pace.next_seed() {
         let mut random = Random::new(seed);
         let (table, plus) = some_table(&mut random);
-        let scene = some_scene(&mut random, &table, seed);
+        let scene = any_scene(&mut random, &table, seed);
         let case = Case::new("former list", seed, &plus, &scene);
         let (mut bytes, mut come) = (asked::fresh(), 0);
         loop {

@@ -126,9 +126,7 @@ fn every_output_length() {
         let table = table(&mut random);
         let scene = small(&mut random, &table);
         let case = Case::new("output length", seed, &table, &scene);
-        for out_len in 0..=checked::ample_run(&case).1.len() + 17 {
-            pace.met(checked::run(&case, out_len).number);
-        }
+        checked::run_in_every_length(&case, |number| pace.met(number));
     }
     pace.finish(&[9, 25]);
 }
