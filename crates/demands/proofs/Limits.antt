@@ -5,6 +5,7 @@
 --     only-starts      texts and ends pass none
 --     first-start      the first event of a scene to pass a limit is a start
 --     first-past       that event is what `firstPast` gives
+--     within-all, within-first     the events before it are events of the scene, and pass none
 use Prim.Native.Nat.{ℕ, zero, suc, _+_, _*_, _≤_, _<_}
 use mathlib.Core.Path.{_≡_, refl, sym, ap, subst, _∙_}
 use mathlib.Core.List.{List, [], _∷_, _++_}
@@ -13,7 +14,7 @@ use mathlib.Core.Logic.{_⊎_, inl, inr, ⊎-elim}
 use mathlib.Core.Option.{Option, none, some}
 use native.Mathlib.Numerals.{add-one}
 use native.Mathlib.Omega.{arith}
-use borrow.Author.Tests.{eqb-true, eqb-false}
+use borrow.Author.Tests.{eqb-true, eqb-false, ltb-false}
 use lib.ListN.{length, getD, length-map, length-append}
 use lib.Dec.{leb, ltb, eqb, leb·suc-suc}
 use Rattle.laws.specs.Reading.{le-or-lt}
@@ -78,6 +79,19 @@ passed-number t s k = by (ltb 64 (depthAt t s k)) (ltb 64 (boundAt s k)) (ltb 16
     by false false false true h = (omega arith, omega arith)
     by false false false false h = absurd (h refl)
 
+-- an event that passes none
+pub passed-none : (t : Table) (s : List ℕ) (k : ℕ) → passed t s k ≡ 0 → (depthAt t s k ≤ 64) × (strandsAt t s k ≤ 16)
+unfolding passed
+passed-none t s k q =
+    let r = by (ltb 64 (depthAt t s k)) (ltb 64 (boundAt s k)) (ltb 16 (strandsAt t s k)) (ltb 65536 (unitsAt t s k)) q in
+    (ltb-false 64 (depthAt t s k) (r .0), ltb-false 16 (strandsAt t s k) (r .1))
+  where
+    by : (a b c d : Bool) → numberBy a b c d ≡ 0 → (a ≡ false) × (c ≡ false)
+    by true b c d q = absurd (omega arith)
+    by false true c d q = absurd (omega arith)
+    by false false true d q = absurd (omega arith)
+    by false false false d q = (refl, refl)
+
 -- behind k events the next is the k-th
 module _ (t : Table) (s : List ℕ) (z : Session) (k : ℕ) (rs : List (Record Body ℕ)) (h : Reached t s z k rs) where
   pub event-next : k < length (events s) → (d : scene.Event) → (z′ : ReaderState) × (next s (readerOf z) ≡ scene.event (getD (events s) k d) z′)
@@ -91,6 +105,13 @@ module _ (t : Table) (s : List ℕ) (z : Session) (k : ℕ) (rs : List (Record B
       let n = event-next (goes-on s k (readerOf z) e z′ (h .reader) q .inside) d in
       let same : scene.event (getD (events s) k d) (n .0) ≡ scene.event e z′ = sym (n .1) ∙ q in
       cc
+
+  -- its strands, of the session's state
+  pub strands-next : (e : scene.Event) (z′ : ReaderState) → next s (readerOf z) ≡ scene.event e z′ → strandsAt t s k ≡ length (modesAt (dispatch t) (stateOf t s z) (told t s e))
+  strands-next e z′ q =
+      strands-are t s k (goes-on s k (readerOf z) e z′ (h .reader) q .inside) e
+      ∙ ap (λ (x : scene.Event). length (modesAt (dispatch t) (streamAfter t s k) (told t s x))) (next-event e z′ q e)
+      ∙ ap (λ (y : State (dispatch t)). length (modesAt (dispatch t) y (told t s e))) (sym (h .ran .state))
 
 -- the events that steps took pass no limit
 pub taken-passed : (table : List ℕ) → Accepted table ≡ true → (s : List ℕ) (z : Session) (k : ℕ) (rs : List (Record Body ℕ)) → Reached (decode table) s z k rs → WithinFirst (decode table) s k
@@ -120,10 +141,7 @@ module _ (table : List ℕ) (ok : Accepted table ≡ true) (s : List ℕ) (short
       ap (λ (y : ReaderState). length (bindingsOf (y .opened))) reader-on ∙ ap (λ (l : List scene.Open). length (bindingsOf l)) opens
       ∙ length-append (bindingsOf (opensOf (z .scope))) (o .declarations) ∙ ap (λ (n : ℕ). n + length (o .declarations)) (bound-is t s z (h .sound)) in
       let strands : strandsAt t s k ≡ length (entriesAt (dispatch t) (stateOf t s z .levels) σ) =
-      strands-are t s k lt (scene.start e)
-      ∙ ap (λ (x : scene.Event). length (modesAt (dispatch t) (streamAfter t s k) (told t s x))) (next-event t s z k rs h (scene.start e) z′ q (scene.start e))
-      ∙ length-map (entriesAt (dispatch t) (streamAfter t s k .levels) σ) (λ (x : Entry). x .strand .mode)
-      ∙ ap (λ (y : State (dispatch t)). length (entriesAt (dispatch t) (y .levels) σ)) (sym (h .ran .state)) in
+      strands-next t s z k rs h (scene.start e) z′ q ∙ length-map (entriesAt (dispatch t) (stateOf t s z .levels) σ) (λ (x : Entry). x .strand .mode) in
       let units : unitsAt t s k ≡ after (dispatch t) (stateOf t s z) (start σ) .units = units-are t s k lt (one table ok) ∙ ap (λ (y : State (dispatch t)). y .units) state-on in
       rw (depth, bound, strands, units, leb·suc-suc 64 (z .scope .depth))
 
@@ -257,3 +275,11 @@ within-all t s = by (firstPast t s (length (events s)) 0) (first-past t s)
     by : (o : Option ℕ) → FirstPast t s o → beforeBy s o ≤ length (events s)
     by none f = omega arith
     by (some k) f = omega (arith, f .0)
+
+pub within-first : (t : Table) (s : List ℕ) → WithinFirst t s (eventsWithin t s)
+unfolding eventsWithin
+within-first t s = by (firstPast t s (length (events s)) 0) (first-past t s)
+  where
+    by : (o : Option ℕ) → FirstPast t s o → WithinFirst t s (beforeBy s o)
+    by none f = f
+    by (some k) f = f .2

@@ -1,5 +1,5 @@
 -- What the limits 21 to 24 measure, by the reader's and the stream's states; the model's measures are these.
---     inner-few, inner-strands                the strands of the innermost level
+--     inner-strands                           the strands of the innermost level
 --     WithinAt, within-more, sound-within     a state within the limits, as every sound session's is; also when more bytes come
 --     depth-is, strands-are, units-are        what the model has of the k-th event
 --     within-passed                           an event between two states within the limits passes none
@@ -55,7 +55,7 @@ abbrev pub innermost : (t : Table) → List (Level (dispatch t)) → ℕ
 innermost t [] = 0
 innermost t (l ∷ ls) = length (l .strands)
 
-pub inner-few : (t : Table) (s : List ℕ) (units : ℕ) (ls : List (Level (dispatch t))) → All (LevelSound t s units) ls → innermost t ls ≤ 16
+inner-few : (t : Table) (s : List ℕ) (units : ℕ) (ls : List (Level (dispatch t))) → All (LevelSound t s units) ls → innermost t ls ≤ 16
 inner-few t s units [] a = omega arith
 inner-few t s units (l ∷ ls) a = a .0 .few-strands
 

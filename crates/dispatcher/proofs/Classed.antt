@@ -38,7 +38,7 @@ use Rattle.attributes.proofs.Known.{classes-long, classes-laid}
 use Rattle.strands.specs.Levels.{levelNames, levelSpaces, levelStrands}
 use Rattle.dispatcher.specs.Sessions.{sessionAt, sessionOf}
 use Rattle.dispatcher.specs.Stepping.{Plan, refused, planBy, startPlan}
-use Rattle.dispatcher.specs.Turns.{TurnReady, LoopReady, Beside, Met, DecidedAs, decidedNumber, Fits, PlannedAs, startOf, readPlan, ReadMet, ReadAs, sessionBy}
+use Rattle.dispatcher.specs.Turns.{TurnReady, LoopReady, Beside, Met, DecidedAs, decidedNumber, PlannedAs, startOf, readPlan, ReadMet, ReadAs, sessionBy}
 use Rattle.dispatcher.specs.declared.Session.{Session}
 use Rattle.dispatcher.specs.declared.Head.{Head}
 use Rattle.dispatcher.specs.declared.Started.{Started}
@@ -118,7 +118,7 @@ Answered table index s z own words schemas attributes known r p =
     PlannedAs table index s z own words schemas attributes r p × Beside table s known z × Beside table s known (sessionBy p z)
 
 pub refused-planned : (table s known : List ℕ) (z : Session) (n at : ℕ) (p : Plan) → Beside table s known z → p ≡ refused n at → (n ≡ 0 → ⊥)
-    → Fits (decode table) s z (planned.Refused n at) p × Beside table s known z × Beside table s known (sessionBy p z)
+    → ((p ≡ refused n at) × (n ≡ 0 → ⊥)) × Beside table s known z × Beside table s known (sessionBy p z)
 refused-planned table s known z n at p b e h = ((e, h), b, subst (λ (x : Plan). Beside table s known (sessionBy x z)) (sym e) b)
 
 -- by what was decided
@@ -133,7 +133,7 @@ module _ (table s own attrs codes known : List ℕ) (z : Session) (o : Started) 
   plan = startPlan (decode table) s z e (opens .declarations) (o .tag .next)
 
   pub decided-refused : (n : ℕ) → n ≡ decidedNumber (decode table) s z (elementOf (decode table) s e) → (n ≡ 0 → ⊥)
-      → Fits (decode table) s z (planned.Refused n (o .at)) plan × Beside table s known z × Beside table s known (sessionBy plan z)
+      → ((plan ≡ refused n (o .at)) × (n ≡ 0 → ⊥)) × Beside table s known z × Beside table s known (sessionBy plan z)
   decided-refused n d h =
       refused-planned table s known z n (o .at) plan (k .beside) (plan-refused (decode table) s z e opens (o .tag .next) shallow (omega (arith, few, k .met .told .owned-is)) n d h) h
 
@@ -173,7 +173,7 @@ module _ (table s : List ℕ) (z : Session) (at : ℕ) (x : Tagged) (own attrs c
   start-read index words schemas attributes known′ o q a w =
       subst (Answered table index s z own words schemas attributes known′ a) (sym (h .plan-is ∙ ap (readPlan (decode table) s z own attrs codes) q)) w
 
-  pub refused-read : (n p : ℕ) → r ≡ reading.Refused n p → Fits (decode table) s z (planned.Refused n p) readBy × Beside table s known z × Beside table s known (sessionBy readBy z)
+  pub refused-read : (n p : ℕ) → r ≡ reading.Refused n p → ((readBy ≡ refused n p) × (n ≡ 0 → ⊥)) × Beside table s known z × Beside table s known (sessionBy readBy z)
   refused-read n p q = refused-planned table s known z n p readBy (h .beside) (h .plan-is ∙ ap (readPlan (decode table) s z own attrs codes) q) (subst (ReadMet s z own attrs codes known) q (h .met))
 
 -- ---- the start of step, advance and run

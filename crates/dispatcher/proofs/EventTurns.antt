@@ -6,7 +6,7 @@
 --     opens-inner, awaited-plan, ..              what the reader's rules plan
 --     text-inside, .., span-small                places inside the scene
 --     closes-past, .., tag-here                  the open name and a > where an end tag's name begins
---     stopped-fits, .., alike-named              what is planned, by what the code's parts gave
+--     stopped-planned, .., alike-named           what is planned, by what the code's parts gave
 use Prim.Native.Nat.{ℕ, zero, suc, _+_, _*_, _-_, _/_, _%_, _^_, _≤_, _<_}
 use mathlib.Core.Path.{_≡_, refl, sym, ap, ap₂, subst, _∙_}
 use mathlib.Core.Logic.{⊎-elim}
@@ -26,7 +26,7 @@ use Rattle.laws.proofs.Lists.{length-tabulate}
 use Rattle.laws.proofs.Flags.{and-left, and-right}
 use Rattle.compare.proofs.Equal.{same-eq}
 use Rattle.compare.proofs.Span.{within}
-use Rattle.table.specs.Table.{Table}
+use Rattle.table.specs.Table.{Table, decode}
 use Rattle.lexer.specs.Stops.{numberOf, stopPlace}
 use Rattle.lexer.specs.Values.{textEnd}
 use Rattle.lexer.specs.Tags.{endTagAt}
@@ -64,7 +64,7 @@ use Rattle.strands.specs.Writing.{rowFor, rowOf, eventRecords, eventCount}
 use Rattle.strands.proofs.Delivered.{events-length, events-most, texts-records, ends-records, rows-bytes, rows-length}
 use Rattle.dispatcher.specs.Sessions.{classIn, uriIn, strandCount, strandsIn, levelIn, levelsIn, sessionOf, readerOf, stateOf, withEnd}
 use Rattle.dispatcher.specs.Stepping.{Plan, event, refused, planBy, planOf, Step, answered, refusedStep, eventStep}
-use Rattle.dispatcher.specs.Turns.{closesAt, stopTurn, stepBy, closedHead, endRow, Fits}
+use Rattle.dispatcher.specs.Turns.{closesAt, stopTurn, stepBy, closedHead, endRow, PlannedAs}
 use Rattle.dispatcher.specs.declared.Session.{Session}
 use Rattle.dispatcher.specs.declared.Head.{Head}
 use Rattle.dispatcher.specs.declared.Planned.{Planned}
@@ -310,16 +310,19 @@ stop-nonzero (Bad p) e = omega arith
 stop-nonzero (Long p) e = omega arith
 stop-nonzero Cut e = omega arith
 
-module _ (t : Table) (s : List ℕ) (z : Session) (r : Planned) where
-  pub stopped-fits : (p : Plan) (x : Stop) → r ≡ planned.Refused (numberOf x) (stopPlace s x) → p ≡ refused (numberOf x) (stopPlace s x) → Fits t s z r p
-  stopped-fits p x e q = subst (λ (y : Planned). Fits t s z y p) (sym e) (q, stop-nonzero x)
+module _ (table index s : List ℕ) (z : Session) (own words schemas attributes : List ℕ) (r : Planned) where
+  abbrev As : Planned → Plan → Type 0
+  As = PlannedAs table index s z own words schemas attributes
 
-  pub text-fits : (at : ℕ) (v m : Read) → v ≡ textEnd s at → v ≡ m → Fits t s z r (planBy t s z (textRead s (readerOf z) at m)) → Fits t s z r (planBy t s z (textRead s (readerOf z) at (textEnd s at)))
-  text-fits at v m p q = subst (λ (x : Read). Fits t s z r (planBy t s z (textRead s (readerOf z) at x))) (sym q ∙ p)
+  pub stopped-planned : (p : Plan) (x : Stop) → r ≡ planned.Refused (numberOf x) (stopPlace s x) → p ≡ refused (numberOf x) (stopPlace s x) → As r p
+  stopped-planned p x e q = subst (λ (y : Planned). As y p) (sym e) (q, stop-nonzero x)
 
-  pub end-fits : (at : ℕ) (v m : Ended) → v ≡ endTagAt s (at + 2) → v ≡ m → Fits t s z r (planBy t s z (endRead s at (opensOf (z .scope)) m))
-      → Fits t s z r (planBy t s z (endRead s at (opensOf (z .scope)) (endTagAt s (at + 2))))
-  end-fits at v m p q = subst (λ (x : Ended). Fits t s z r (planBy t s z (endRead s at (opensOf (z .scope)) x))) (sym q ∙ p)
+  pub text-planned : (at : ℕ) (v m : Read) → v ≡ textEnd s at → v ≡ m → As r (planBy (decode table) s z (textRead s (readerOf z) at m)) → As r (planBy (decode table) s z (textRead s (readerOf z) at (textEnd s at)))
+  text-planned at v m p q = subst (λ (x : Read). As r (planBy (decode table) s z (textRead s (readerOf z) at x))) (sym q ∙ p)
+
+  pub end-planned : (at : ℕ) (v m : Ended) → v ≡ endTagAt s (at + 2) → v ≡ m → As r (planBy (decode table) s z (endRead s at (opensOf (z .scope)) m))
+      → As r (planBy (decode table) s z (endRead s at (opensOf (z .scope)) (endTagAt s (at + 2))))
+  end-planned at v m p q = subst (λ (x : Ended). As r (planBy (decode table) s z (endRead s at (opensOf (z .scope)) x))) (sym q ∙ p)
 
 module _ (t : Table) (s : List ℕ) (z : Session) (h : 1 ≤ z .scope .depth) where
   -- the end of a />

@@ -1,11 +1,13 @@
--- The reader's state behind an event, by what the event is; a start's name ends in its part, and a tag declares at most 16.
-use Prim.Native.Nat.{ℕ, _+_, _≤_}
+-- The reader's state behind an event, by what the event is; a start's name ends in its part, and a tag declares at most 16 and has at most 16 attributes.
+--     followed      of the event that is next
+--     event-few     a scene's starts have at most 16 attributes
+use Prim.Native.Nat.{ℕ, _+_, _≤_, _<_}
 use mathlib.Core.Path.{_≡_, refl, ap, subst}
 use mathlib.Core.List.{List, [], _∷_, _++_, tail}
 use mathlib.Core.Bool.{Bool, true, false, not, _||_}
 use mathlib.Core.Option.{Option, none, some}
 use native.Mathlib.Omega.{arith}
-use lib.ListN.{length}
+use lib.ListN.{length, getD}
 use Rattle.laws.specs.Lists.{sameList, any, anyPair}
 use Rattle.laws.proofs.Holds.{holds-cond}
 use Rattle.lexer.specs.Values.{textEnd}
@@ -25,14 +27,17 @@ use Rattle.lexer.proofs.Inside.{TagInside, TaggedInside, TagReadInside, tag-ins
 use Rattle.reader.specs.declared.Binding.{Binding}
 use Rattle.reader.specs.Spans.{bytesOf, wholeSpan}
 use Rattle.reader.specs.Namespaces.{declarationsOf, refusedBinding, Namespace, ReadAttribute, Meaning, refused, meant, meantBy, meaningOf, ofElement, resolved, sameName, sameExpanded}
-use Rattle.reader.specs.Events.{Start, Event, start, text, end, Open, ReaderState, bindingsOf, Next, event, refusal, finished, partOf, isNil, endRead, startMeant, startRead, textRead, begun, nextBy, next}
+use Rattle.reader.specs.Events.{Start, Event, start, text, end, Open, ReaderState, bindingsOf, Next, event, refusal, finished, partOf, isNil, endRead, startMeant, startRead, textRead, begun, nextBy, next, freshReader, events}
 use Rattle.reader.specs.Held.{Held}
-use Rattle.reader.proofs.Declaring.{declared-few}
+use Rattle.reader.proofs.Declaring.{declared-few, SomeFew, resolved-few}
+use Rattle.reader.proofs.EventsFirst.{event-at, state-held}
+use Rattle.reader.proofs.Held.{held-fresh}
 use Rattle.reader.proofs.ReadNames.{part-of}
 
 pub record StartFollowed (s : List ℕ) (z : ReaderState) (e : Start) (z′ : ReaderState) : Type 0 where
   pub own : List Binding
   pub few-own : length own ≤ 16
+  pub few-attributes : length (e .attributes) ≤ 16
   pub part : partOf s (e .name) ≡ e .part
   pub state : z′ ≡ record { place = z′ .place; closed = false; awaited = e .empty; opened = record { name = e .name; declarations = own } ∷ z .opened }
 
@@ -46,25 +51,25 @@ NextFollowed s z (event e z′) = EventFollowed s z e z′
 NextFollowed s z (refusal n p) = Unit {0}
 NextFollowed s z (finished p) = Unit {0}
 
--- ---- a tag's declarations are no more than its attributes
+-- ---- of a tag's attributes the declarations are no more than all, and the others too
 module _ (s : List ℕ) where
   abbrev MeaningFew : ℕ → Meaning → Type 0
   MeaningFew n (refused k) = Unit {0}
-  MeaningFew n (meant m as′ own) = length own ≤ n
+  MeaningFew n (meant m as′ own) = (length own ≤ n) × (length as′ ≤ n)
 
   meaning-few : (bs : List Binding) (n : Name) (attrs : List Attr) → MeaningFew (length attrs) (meaningOf s bs n attrs)
   unfolding meaningOf
   meaning-few bs n attrs =
-      holds-cond (MeaningFew (length attrs)) (any (refusedBinding s) own) (λ e. tt) (λ e. by (ofElement s (bs ++ own) n) (resolved s (bs ++ own) attrs))
+      holds-cond (MeaningFew (length attrs)) (any (refusedBinding s) own) (λ e. tt) (λ e. by (ofElement s (bs ++ own) n) (resolved s (bs ++ own) attrs) (resolved-few s (bs ++ own) attrs))
     where
       own : List Binding
       own = declarationsOf s attrs
 
-      by : (o : Option Namespace) (r : Option (List ReadAttribute)) → MeaningFew (length attrs) (meantBy s attrs own o r)
-      by none r = tt
-      by (some m) none = tt
-      by (some m) (some as′) =
-          holds-cond (MeaningFew (length attrs)) (anyPair (sameName s) attrs || anyPair (sameExpanded s) as′) {a = refused 6} {b = meant m as′ own} (λ e. tt) (λ e. declared-few s attrs)
+      by : (o : Option Namespace) (r : Option (List ReadAttribute)) → SomeFew (length attrs) r → MeaningFew (length attrs) (meantBy s attrs own o r)
+      by none r h = tt
+      by (some m) none h = tt
+      by (some m) (some as′) h =
+          holds-cond (MeaningFew (length attrs)) (anyPair (sameName s) attrs || anyPair (sameExpanded s) as′) {a = refused 6} {b = meant m as′ own} (λ e. tt) (λ e. (declared-few s attrs, h))
 
 -- ---- by what was read
 module _ (s : List ℕ) (z : ReaderState) where
@@ -89,7 +94,7 @@ module _ (s : List ℕ) (z : ReaderState) where
 
       by : (m : Meaning) → MeaningFew s (length (r .attrs)) m → NextFollowed s z (startMeant at (z .opened) t m)
       by (refused n) k = tt
-      by (meant n as′ own) k = record { own = own; few-own = omega (arith, i .few); part = part-of s (at + 1) (t .name) (tag .name); state = refl }
+      by (meant n as′ own) k = record { own = own; few-own = omega (arith, i .few, k .0); few-attributes = omega (arith, i .few, k .1); part = part-of s (at + 1) (t .name) (tag .name); state = refl }
 
   begun-followed : false ≡ z .awaited → (b : Begin) → NextFollowed s z (begun s z b)
   begun-followed a (begin.Stopped x) = tt
@@ -106,3 +111,19 @@ module _ (s : List ℕ) (z : ReaderState) where
   pub followed : Held s z → (e : Event) (z′ : ReaderState) → next s z ≡ event e z′ → EventFollowed s z e z′
   unfolding next
   followed h e z′ q = subst (NextFollowed s z) q (by-followed (z .awaited) (z .opened) refl refl (h .awaited))
+
+-- ---- a start's attributes
+abbrev pub EventFew : Event → Type 0
+EventFew (start e) = length (e .attributes) ≤ 16
+EventFew (text w) = Unit {0}
+EventFew (end w at) = Unit {0}
+
+pub followed-few : (s : List ℕ) (z : ReaderState) (e : Event) (z′ : ReaderState) → EventFollowed s z e z′ → EventFew e
+followed-few s z (start e) z′ f = f .few-attributes
+followed-few s z (text w) z′ f = tt
+followed-few s z (end w at) z′ f = tt
+
+pub event-few : (s : List ℕ) (d : Event) (k : ℕ) → k < length (events s) → EventFew (getD (events s) k d)
+event-few s d k lt =
+    let r = event-at s d k lt in
+    followed-few s (r .before) (getD (events s) k d) (r .after) (followed s (r .before) (state-held s (r .before) k freshReader (r .reached) (held-fresh s)) (getD (events s) k d) (r .after) (r .told))

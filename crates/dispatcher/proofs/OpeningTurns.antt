@@ -37,9 +37,9 @@ use Rattle.strands.specs.Packed.{packed}
 use Rattle.attributes.specs.Attributes.{placingOf, attributesIn, sectionsIn}
 use Rattle.strands.specs.Writing.{rowOf, begunBody}
 use Rattle.dispatcher.specs.Sessions.{sessionOf, stateOf, withStart}
-use Rattle.dispatcher.specs.Stepping.{Plan, refused, event, startPlan, planned, weighed, Step, answered}
+use Rattle.dispatcher.specs.Stepping.{Plan, refused, event, startPlan, planned, Step, answered}
 use Rattle.openings.specs.Openings.{begunOf}
-use Rattle.dispatcher.specs.Turns.{TurnReady, Made, StartAs, startOf, stopTurn, stepBy, openedHead, decidedNumber}
+use Rattle.dispatcher.specs.Turns.{TurnReady, Made, StartAs, startOf, stopTurn, stepBy, openedHead, decidedNumber, weighed}
 use Rattle.dispatcher.specs.declared.Session.{Session}
 use Rattle.dispatcher.specs.declared.Head.{Head}
 use Rattle.dispatcher.specs.declared.Started.{Started}

@@ -1,5 +1,5 @@
 -- One event by what the first half says comes next: written, or counted.
---     as-planned, begun-planned                what is no start; by how it begins
+--     begun-planned                            by how it begins
 --     start-as, text-as, end-as, ..            by what was handed back
 --     start-roomy, text-needs, class-small      what the second half asks
 --     planned-turn, weighed-turn               the step, and what the loop holds beside the session behind it
@@ -20,8 +20,8 @@ use Rattle.attributes.specs.declared.Placing.{Placing}
 use Rattle.strands.specs.Levels.{levelNames, levelSpaces, levelStrands}
 use Rattle.openings.specs.declared.Decided.{Decided}
 use Rattle.dispatcher.specs.Sessions.{sessionAt, readerOf}
-use Rattle.dispatcher.specs.Stepping.{Plan, refused, finished, event, planBy, planOf, Step, refusedStep, planned, weighed}
-use Rattle.dispatcher.specs.Turns.{LoopReady, Beside, Roomy, Fits, StartAs, PlannedAs, sessionBy, stopTurn, stepIn}
+use Rattle.dispatcher.specs.Stepping.{Plan, refused, finished, event, planBy, planOf, Step, refusedStep, planned}
+use Rattle.dispatcher.specs.Turns.{LoopReady, Beside, Roomy, StartAs, PlannedAs, sessionBy, weighed, stopTurn, stepIn}
 use Rattle.dispatcher.specs.declared.Session.{Session}
 use Rattle.dispatcher.specs.declared.Head.{Head}
 use Rattle.dispatcher.specs.declared.Turn.{Turn}
@@ -30,14 +30,6 @@ use Rattle.dispatcher.specs.declared.Planned.{Planned}
 use Rattle.dispatcher.specs.declared.Planned.the-variants as variant
 use Rattle.dispatcher.proofs.EventTurns.{stop-step}
 use Rattle.dispatcher.proofs.StartTurns.{innermost, begin-plan}
-
-pub as-planned : (table index s : List ℕ) (z : Session) (own words schemas attributes : List ℕ) (r : Planned) (p : Plan) → Fits (decode table) s z r p → PlannedAs table index s z own words schemas attributes r p
-as-planned table index s z own words schemas attributes (variant.Start o placing decided) p f = absurd f
-as-planned table index s z own words schemas attributes (variant.Text at place) p f = f
-as-planned table index s z own words schemas attributes (variant.End part at place) p f = f
-as-planned table index s z own words schemas attributes (variant.Awaited part at) p f = f
-as-planned table index s z own words schemas attributes variant.Finished p f = f
-as-planned table index s z own words schemas attributes (variant.Refused n place) p f = f
 
 -- by how it begins
 pub begun-planned : (table index s : List ℕ) (head : Head) (levels bindings : List ℕ) → head .awaited ≡ false → (b r : Begin) → r ≡ beginAt s (head .place) (not (eqb (head .depth) 0)) (head .closed) → r ≡ b → (known own words schemas attributes : List ℕ) (x : Planned) → (
@@ -59,13 +51,13 @@ module _ (table index s : List ℕ) (z : Session) (own words schemas attributes 
   pub start-as : (o : Started) (placing : Placing) (decided : Decided) → r ≡ variant.Start o placing decided → StartAs table index s z own words schemas attributes o placing decided p
   start-as o placing decided e = handed (variant.Start o placing decided) e
 
-  pub text-as : (at place : ℕ) → r ≡ variant.Text at place → Fits (decode table) s z (variant.Text at place) p
+  pub text-as : (at place : ℕ) → r ≡ variant.Text at place → PlannedAs table index s z own words schemas attributes (variant.Text at place) p
   text-as at place e = handed (variant.Text at place) e
 
-  pub end-as : (part : Span) (at place : ℕ) → r ≡ variant.End part at place → Fits (decode table) s z (variant.End part at place) p
+  pub end-as : (part : Span) (at place : ℕ) → r ≡ variant.End part at place → PlannedAs table index s z own words schemas attributes (variant.End part at place) p
   end-as part at place e = handed (variant.End part at place) e
 
-  pub awaited-as : (part : Span) (at : ℕ) → r ≡ variant.Awaited part at → Fits (decode table) s z (variant.Awaited part at) p
+  pub awaited-as : (part : Span) (at : ℕ) → r ≡ variant.Awaited part at → PlannedAs table index s z own words schemas attributes (variant.Awaited part at) p
   awaited-as part at e = handed (variant.Awaited part at) e
 
   pub finished-as : r ≡ variant.Finished → p ≡ finished (length s)

@@ -10,7 +10,8 @@ use Rattle.model.specs.Records.{Body}
 use Rattle.strands.specs.Packed.{wordsAt}
 use Rattle.strands.specs.Writing.{eventRecords, eventCount}
 use Rattle.strands.proofs.Delivered.{events-length}
-use Rattle.dispatcher.specs.Stepping.{Step, answered, weighedEvent}
+use Rattle.dispatcher.specs.Stepping.{Step, answered}
+use Rattle.dispatcher.specs.Turns.{weighedEvent}
 use Rattle.dispatcher.specs.declared.Session.{Session}
 
 module _ (b : Body) (closes : Bool) (strands : List ℕ) (level n count : ℕ) (rs : List (Record Body ℕ)) (w : rs ≡ gather (eventRecords b closes) (wordsAt strands level count)) (e : n ≡ count) where

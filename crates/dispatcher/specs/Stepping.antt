@@ -93,15 +93,6 @@ planned (refused n p) z out = refusedStep n p z out
 planned (finished p) z out = refusedStep 9 p z out
 planned (event at records next) z out = eventStep at records next z out
 
--- what a plan comes to without an output: its records counted, the session behind it
-abbrev pub weighedEvent : List (Record Body ℕ) → Session → Step
-weighedEvent records next = record { answer = answered 0 (next .place) 1 (length records); session = next; output = [] }
-
-abbrev pub weighed : Plan → Session → Step
-weighed (refused n p) z = refusedStep n p z []
-weighed (finished p) z = refusedStep 9 p z []
-weighed (event at records next) z = weighedEvent records next
-
 -- "7 scene over 16,777,215 bytes (0)"
 abbrev pub longest : ℕ
 longest = 16777215

@@ -1,7 +1,7 @@
 -- One event of a session that number 20 accepts, as the code takes it: the session's numbers by value, its arrays lent. Definitions.
 use Prim.Native.Nat.{ℕ, _+_, _*_, _-_, _%_, _^_, _≤_, _<_}
 use mathlib.Core.Path.{_≡_}
-use mathlib.Core.List.{List, map}
+use mathlib.Core.List.{List, [], map}
 use mathlib.Core.Bool.{Bool, true, false, cond, _&&_}
 use lib.ListN.{length, getD, take}
 use lib.Dec.{eqb, ltb}
@@ -28,7 +28,9 @@ use Rattle.reader.specs.Stored.{narrowed, bindingNumbers, Coded, coded, foundIn
 use Rattle.reader.specs.Known.{KeysAt, Within, plainAttr}
 use Rattle.reader.specs.Scope.{nameIn, opensOf}
 use Rattle.reader.specs.Held.{SpanHeld}
+use Rattle.model.specs.Theory.{Record}
 use Rattle.model.specs.Tree.{start, text, end}
+use Rattle.model.specs.Records.{Body}
 use Rattle.model.specs.Stream.{Entry, entriesAt, entered, written, after}
 use Rattle.model.specs.Elements.{Element, elementOf, spaceOf, uriSpan}
 use Rattle.model.specs.Groups.{groupsOf}
@@ -44,7 +46,7 @@ use Rattle.openings.specs.Openings.{Openable}
 use Rattle.dispatcher.specs.Sessions.{sessionOf, sessionAt, stateOf, withPlace, withEnd}
 use Rattle.dispatcher.specs.Coherence.{coherent}
 use Rattle.table.specs.declared.Answer.{Answer}
-use Rattle.dispatcher.specs.Stepping.{Plan, refused, finished, event, startPlan, planBy, Step, answered}
+use Rattle.dispatcher.specs.Stepping.{Plan, refused, finished, event, startPlan, planBy, Step, answered, refusedStep}
 use Rattle.dispatcher.specs.declared.Session.{Session}
 use Rattle.dispatcher.specs.declared.Head.{Head}
 use Rattle.dispatcher.specs.declared.Started.{Started}
@@ -238,21 +240,6 @@ openedHead head place empty units owned =
     record { place = place; units = units; closed = false; awaited = empty; depth = head .depth + 1; bound = head .bound + owned }
 
 -- ---- what comes next
--- what a text, an end, the scene's end and a refusal are planned as
-abbrev pub Fits : Table → List ℕ → Session → Planned → Plan → Type 0
-Fits t s z (planned.Start o placing decided) p = ⊥
-Fits t s z (planned.Text at place) p =
-    (p ≡ event at (written (dispatch t) (stateOf t s z) (text (between at place))) (withPlace z place))
-    × (1 ≤ z .scope .depth) × (at < 4294967296) × (place < 4294967296)
-Fits t s z (planned.End part at place) p =
-    (p ≡ event at (written (dispatch t) (stateOf t s z) (end part)) (withEnd z place (eqb (z .scope .depth) 1)))
-    × (1 ≤ z .scope .depth) × (part .at < 4294967296) × (part .len < 4294967296)
-Fits t s z (planned.Awaited part at) p =
-    (p ≡ event at (written (dispatch t) (stateOf t s z) (end part)) (withEnd z (z .place) (eqb (z .scope .depth) 1)))
-    × (1 ≤ z .scope .depth) × (part .at < 4294967296) × (part .len < 4294967296)
-Fits t s z planned.Finished p = p ≡ finished (length s)
-Fits t s z (planned.Refused n place) p = (p ≡ refused n place) × (n ≡ 0 → ⊥)
-
 -- what a start is planned as, and what the arrays hold of it
 pub record StartAs (table index s : List ℕ) (z : Session) (own words schemas attributes : List ℕ) (o : Started) (placing : Placing) (decided : Decided) (p : Plan) : Type 0 where
   pub attrs : List ℕ
@@ -267,16 +254,32 @@ pub record StartAs (table index s : List ℕ) (z : Session) (own words schemas a
   pub few-bound : z .scope .bound + o .owned ≤ 64
   pub openable : Openable index (attributesIn attributes) (sectionsIn attributes) words schemas (narrowed (o .at)) (z .units) decided
 
+-- what comes next, by what the first half of a step hands to the second
 abbrev pub PlannedAs : List ℕ → List ℕ → List ℕ → Session → List ℕ → List ℕ → List ℕ → List ℕ → Planned → Plan → Type 0
 PlannedAs table index s z own words schemas attributes (planned.Start o placing decided) p = StartAs table index s z own words schemas attributes o placing decided p
-PlannedAs table index s z own words schemas attributes (planned.Text at place) p = Fits (decode table) s z (planned.Text at place) p
-PlannedAs table index s z own words schemas attributes (planned.End part at place) p = Fits (decode table) s z (planned.End part at place) p
-PlannedAs table index s z own words schemas attributes (planned.Awaited part at) p = Fits (decode table) s z (planned.Awaited part at) p
-PlannedAs table index s z own words schemas attributes planned.Finished p = Fits (decode table) s z planned.Finished p
-PlannedAs table index s z own words schemas attributes (planned.Refused n place) p = Fits (decode table) s z (planned.Refused n place) p
+PlannedAs table index s z own words schemas attributes (planned.Text at place) p =
+    (p ≡ event at (written (dispatch (decode table)) (stateOf (decode table) s z) (text (between at place))) (withPlace z place))
+    × (1 ≤ z .scope .depth) × (at < 4294967296) × (place < 4294967296)
+PlannedAs table index s z own words schemas attributes (planned.End part at place) p =
+    (p ≡ event at (written (dispatch (decode table)) (stateOf (decode table) s z) (end part)) (withEnd z place (eqb (z .scope .depth) 1)))
+    × (1 ≤ z .scope .depth) × (part .at < 4294967296) × (part .len < 4294967296)
+PlannedAs table index s z own words schemas attributes (planned.Awaited part at) p =
+    (p ≡ event at (written (dispatch (decode table)) (stateOf (decode table) s z) (end part)) (withEnd z (z .place) (eqb (z .scope .depth) 1)))
+    × (1 ≤ z .scope .depth) × (part .at < 4294967296) × (part .len < 4294967296)
+PlannedAs table index s z own words schemas attributes planned.Finished p = p ≡ finished (length s)
+PlannedAs table index s z own words schemas attributes (planned.Refused n place) p = (p ≡ refused n place) × (n ≡ 0 → ⊥)
 
 -- the session behind a plan
 abbrev pub sessionBy : Plan → Session → Session
 sessionBy (refused n p) z = z
 sessionBy (finished p) z = z
 sessionBy (event at records next) z = next
+
+-- what a plan comes to without an output: its records counted, the session behind it
+abbrev pub weighedEvent : List (Record Body ℕ) → Session → Step
+weighedEvent records next = record { answer = answered 0 (next .place) 1 (length records); session = next; output = [] }
+
+abbrev pub weighed : Plan → Session → Step
+weighed (refused n p) z = refusedStep n p z []
+weighed (finished p) z = refusedStep 9 p z []
+weighed (event at records next) z = weighedEvent records next

@@ -29,8 +29,8 @@ ghost use Rattle.strands.specs.Packed.{wordsAt};
 ghost use Rattle.strands.specs.Writing.{rowFor, eventCount};
 ghost use Rattle.strands.specs.Levels.{levelNames, levelSpaces, levelStrands};
 ghost use Rattle.dispatcher.specs.Sessions.{sessionAt, stateOf, withPlace, withEnd};
-ghost use Rattle.dispatcher.specs.Stepping.{eventStep, weighedEvent};
-ghost use Rattle.dispatcher.specs.Turns.{endRow, textHead, closedHead, stepIn};
+ghost use Rattle.dispatcher.specs.Stepping.{eventStep};
+ghost use Rattle.dispatcher.specs.Turns.{endRow, textHead, closedHead, stepIn, weighedEvent};
 
 // Is an output of this length too short for the records of n strands of a level? They are counted where two for each would not fit.
 fn is_full(len: usize, levels: &[u32; LEVELS], level: usize, n: usize, closes: bool) -> bool

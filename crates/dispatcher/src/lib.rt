@@ -165,7 +165,7 @@ impl Session {
     }
 
     // Its numbers.
-    fn head(self) -> Head
+    pub fn head(self) -> Head
         ensures { λ r. ⌜ r ≡ headOf self ⌝ }
     {
         Head {

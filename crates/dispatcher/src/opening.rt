@@ -19,9 +19,9 @@ ghost use Rattle.reader.specs.Stored.{narrowed};
 ghost use Rattle.attributes.specs.Attributes.{sectionsIn, attributesIn};
 ghost use Rattle.strands.specs.Levels.{levelFree};
 ghost use Rattle.dispatcher.specs.Sessions.{sessionAt};
-ghost use Rattle.dispatcher.specs.Stepping.{Plan, planned, weighed};
+ghost use Rattle.dispatcher.specs.Stepping.{Plan, planned};
 ghost use Rattle.openings.specs.Openings.{Openable};
-ghost use Rattle.dispatcher.specs.Turns.{openedHead, TurnReady, StartAs, Roomy, stepIn};
+ghost use Rattle.dispatcher.specs.Turns.{openedHead, TurnReady, StartAs, Roomy, stepIn, weighed};
 
 // The session's numbers behind a start.
 fn opened_head(head: Head, place: usize, empty: bool, units: usize, owned: usize) -> Head

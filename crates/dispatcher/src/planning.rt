@@ -21,7 +21,7 @@ ghost use mathlib.Core.List.{List};
 ghost use mathlib.Core.Bool.{true};
 ghost use Prim.Native.Nat.{ℕ, _+_, _≤_, _<_};
 ghost use lib.ListN.{length};
-ghost use Rattle.table.specs.Table.{Table};
+ghost use Rattle.table.specs.Table.{decode};
 ghost use Rattle.reader.specs.Spans.{between};
 ghost use Rattle.reader.specs.Scope.{opensOf};
 ghost use Rattle.reader.specs.Held.{SpanHeld};
@@ -35,7 +35,7 @@ ghost use Rattle.dispatcher.specs.Sessions.{sessionAt, readerOf};
 ghost use Rattle.dispatcher.specs.Stepping.{planBy, planOf};
 ghost use Rattle.dispatcher.specs.declared.Session.{Session};
 ghost use Rattle.dispatcher.specs.declared.Planned.the-variants as planned;
-ghost use Rattle.dispatcher.specs.Turns.{Innermost, closesAt, Fits};
+ghost use Rattle.dispatcher.specs.Turns.{Innermost, closesAt, PlannedAs};
 
 // Reading stopped.
 pub fn stopped(scene: &[u8], x: Stop) -> Planned
@@ -47,9 +47,9 @@ pub fn stopped(scene: &[u8], x: Stop) -> Planned
 // The text whose first byte stands at a place.
 pub fn plan_text(scene: &[u8], at: usize) -> Planned
     requires { ⌜ (length (now scene) ≤ 16777215) × (at ≤ length (now scene)) ⌝ }
-    ensures { λ r. ⌜ ((t : Table) (z : Session) → (
+    ensures { λ r. ⌜ ((table index own words schemas attributes : List ℕ) (z : Session) → (
         let s = now (scene .entry) in
-        1 ≤ z .scope .depth → Fits t s z r (planBy t s z (textRead s (readerOf z) at (textEnd s at)))
+        1 ≤ z .scope .depth → PlannedAs table index s z own words schemas attributes r (planBy (decode table) s z (textRead s (readerOf z) at (textEnd s at)))
         )) ⌝ }
 {
     match text_end(scene, at) {
@@ -61,10 +61,10 @@ pub fn plan_text(scene: &[u8], at: usize) -> Planned
 // The end of a tag />, which no byte makes.
 pub fn plan_awaited(scene: &[u8], head: Head, levels: &[u32; LEVELS]) -> Planned
     requires { ⌜ Innermost (now scene) head (levelNames (now levels)) (levelSpaces (now levels)) × (head .awaited ≡ true) ⌝ }
-    ensures { λ r. ⌜ ((t : Table) (bindings : List ℕ) → (
+    ensures { λ r. ⌜ ((table index own words schemas attributes bindings : List ℕ) → (
         let s = now (scene .entry) in
         let z = sessionAt head (now (levels .entry)) bindings in
-        Fits t s z r (planOf t s z)
+        PlannedAs table index s z own words schemas attributes r (planOf (decode table) s z)
         )) ⌝ }
 {
     let name = name_at(levels, head.depth - 1);
@@ -83,10 +83,10 @@ fn span_between(from: usize, to: usize) -> Span
 // An end tag that was read: 4, or its end.
 fn plan_named(scene: &[u8], at: usize, tag: EndTag, head: Head, levels: &[u32; LEVELS]) -> Planned
     requires { ⌜ Innermost (now scene) head (levelNames (now levels)) (levelSpaces (now levels)) × (tag .name .end < 4294967296) × (tag .name .part < 4294967296) ⌝ }
-    ensures { λ r. ⌜ ((t : Table) (bindings : List ℕ) → (
+    ensures { λ r. ⌜ ((table index own words schemas attributes bindings : List ℕ) → (
         let s = now (scene .entry) in
         let z = sessionAt head (now (levels .entry)) bindings in
-        Fits t s z r (planBy t s z (endRead s at (opensOf (z .scope)) (ended.Got tag)))
+        PlannedAs table index s z own words schemas attributes r (planBy (decode table) s z (endRead s at (opensOf (z .scope)) (ended.Got tag)))
         )) ⌝ }
 {
     let name = tag.name;
@@ -117,10 +117,10 @@ fn closes(scene: &[u8], at: usize, name: Span) -> bool
 // The end tag whose < stands at a place: the innermost open name and a >, or what is read there.
 pub fn plan_end(scene: &[u8], at: usize, head: Head, levels: &[u32; LEVELS]) -> Planned
     requires { ⌜ Innermost (now scene) head (levelNames (now levels)) (levelSpaces (now levels)) × (at + 2 ≤ length (now scene)) ⌝ }
-    ensures { λ r. ⌜ ((t : Table) (bindings : List ℕ) → (
+    ensures { λ r. ⌜ ((table index own words schemas attributes bindings : List ℕ) → (
         let s = now (scene .entry) in
         let z = sessionAt head (now (levels .entry)) bindings in
-        Fits t s z r (planBy t s z (endRead s at (opensOf (z .scope)) (endTagAt s (at + 2))))
+        PlannedAs table index s z own words schemas attributes r (planBy (decode table) s z (endRead s at (opensOf (z .scope)) (endTagAt s (at + 2))))
         )) ⌝ }
 {
     let open = name_at(levels, head.depth - 1);

@@ -34,8 +34,8 @@ ghost use Rattle.table.specs.Table.{decode, headerOf, standard};
 ghost use Rattle.table.specs.Judge.{Accepted};
 ghost use Rattle.strands.specs.Levels.{levelFree};
 ghost use Rattle.dispatcher.specs.Sessions.{sessionAt};
-ghost use Rattle.dispatcher.specs.Stepping.{planOf, planned, weighed, advanceOf};
-ghost use Rattle.dispatcher.specs.Turns.{LoopReady, Beside, PlannedAs, stopTurn, stepIn, sessionBy, advancedIn};
+ghost use Rattle.dispatcher.specs.Stepping.{planOf, planned, advanceOf};
+ghost use Rattle.dispatcher.specs.Turns.{LoopReady, Beside, PlannedAs, stopTurn, stepIn, sessionBy, weighed, advancedIn};
 
 // A refusal: the session's numbers stay.
 pub(crate) fn stop(number: u8, place: usize, head: Head) -> Turn

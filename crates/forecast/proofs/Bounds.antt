@@ -18,7 +18,6 @@ use Rattle.table.specs.Judge.{judged, Accepted}
 use Rattle.reader.specs.Events as scene
 use Rattle.reader.specs.Events.{events}
 use Rattle.reader.specs.Spans.{span}
-use Rattle.reader.proofs.FewAttributes.{event-few}
 use Rattle.model.specs.Theory.{Action, Attach, Unwrap, Validate, Rule, AttributeUnit, Piece, holds, Record}
 use Rattle.model.specs.Tree.{TreeEvent, start, text, end, completed, treeOf}
 use Rattle.model.specs.Elements.{Attribute, Element, elementOf}
@@ -37,6 +36,7 @@ use Rattle.model.proofs.Theorems.{stream-of-completed}
 use Rattle.model.proofs.Assigned.{attributesAt, assigned-units}
 use Rattle.model.proofs.Count.{attributeCount}
 use Rattle.dispatcher.specs.Stepping.{longest}
+use Rattle.dispatcher.proofs.Followed.{event-few}
 use Rattle.demands.specs.Scenes.{modelCount}
 use Rattle.demands.specs.Limits.{toldAll, eventsWithin}
 use Rattle.demands.proofs.Prefixes.{toldFirst, told-first-length}
@@ -45,7 +45,7 @@ use Rattle.demands.proofs.Expected.{first-prefix}
 use Rattle.demands.proofs.Limits.{within-all}
 use Rattle.forecast.proofs.WrittenFew.{pairs-length, written-few}
 use Rattle.forecast.specs.Forecasts.{noFigures, figuresOf, forecastOf}
-use Rattle.forecast.specs.Bounds.{sumOf, attributeUnitsAt, attributesHeld, unitsAttributed, attributesUnited, eventBound, sceneBound}
+use Rattle.forecast.specs.Bounds.{sumOf, attributeUnitsAt, attributesHeld, attributeUnitCount, unitAttributeCount, eventBound, sceneBound}
 use Rattle.forecast.specs.declared.figures.Forecast.{Forecast}
 
 -- ---- attribute units
@@ -122,13 +122,13 @@ module _ (t : Table) (s : List ℕ) where
         ∙ ap (λ (i : ℕ). pieces (getD (assignedOf (dispatch t) (treeOf (dispatch t) (completed (dispatch t) (first ++ (event ∷ rest))))) i (assignedAt 0 [] []))) (sym (told-first-length t s k (omega arith)))
         ∙ assigned-units (dispatch t) first rest event (subst (IsPrefix (dispatch t)) split (whole-prefix t s)) (assignedAt 0 [] []) (agree t)
 
-    units-same : unitsAttributed t s k ≡ length (attributesAt (dispatch t) (streamAfter t s k) event)
+    units-same : attributeUnitCount t s k ≡ length (attributesAt (dispatch t) (streamAfter t s k) event)
     units-same =
         sym (length-map (attributeUnitsAt t s k) (λ (u : WholeUnit Body). map (λ p. p .piece) (u .pieces)))
         ∙ ap length units-pieces
         ∙ length-map (attributesAt (dispatch t) (streamAfter t s k) event) unitPieces
 
-    attributes-same : attributesUnited t s k ≡ total (λ u. heldIn (unitPieces u)) (attributesAt (dispatch t) (streamAfter t s k) event)
+    attributes-same : unitAttributeCount t s k ≡ total (λ u. heldIn (unitPieces u)) (attributesAt (dispatch t) (streamAfter t s k) event)
     attributes-same =
         total-same attributesHeld (λ (u : WholeUnit Body). heldIn (map (λ p. p .piece) (u .pieces))) (λ (u : WholeUnit Body). sym (total-mapped (λ (p : Piece Body). isAttribute (pieceBody p)) (λ (p : Marked Body). p .piece) (u .pieces))) (attributeUnitsAt t s k)
         ∙ sym (total-mapped heldIn (λ (u : WholeUnit Body). map (λ p. p .piece) (u .pieces)) (attributeUnitsAt t s k))

@@ -1,10 +1,10 @@
--- An event's records are few: at most 36 for each attribute unit and 34 for each strand of a start, at most 2 for each strand of a text or an end.
-use Prim.Native.Nat.{ℕ, suc, _+_, _*_, _≤_}
+-- The records of an event's attribute units are few: at most 36 of each.
+use Prim.Native.Nat.{ℕ, _+_, _*_, _≤_}
 use mathlib.Core.Path.{_≡_, subst}
 use mathlib.Core.List.{List, [], _∷_}
-use mathlib.Core.Bool.{Bool, not}
+use mathlib.Core.Bool.{not}
 use native.Mathlib.Omega.{arith}
-use lib.ListN.{length, length-append, length-map}
+use lib.ListN.{length, length-append}
 use Rattle.laws.specs.Lists.{keep}
 use Rattle.laws.specs.Gather.{gather, total}
 use Rattle.laws.specs.Members.{All}
@@ -14,35 +14,23 @@ use Rattle.table.specs.Table.{Table}
 use Rattle.table.specs.declared.Action.{Action}
 use Rattle.table.specs.declared.Action.the-variants.{Attach, Unwrap, Validate}
 use Rattle.table.specs.declared.Rule.{Rule}
-use Rattle.reader.specs.declared.Span.{Span}
-use Rattle.reader.specs.Events as reads
-use Rattle.reader.specs.Events.{Start, ReaderState, event, next}
-use Rattle.reader.proofs.FewAttributes.{NextFew, next-few}
+use Rattle.reader.specs.Events as scene
 use Rattle.model.specs.Theory.{AttributeUnit}
-use Rattle.model.specs.Tree.{start, text, end}
-use Rattle.model.specs.Elements.{Attribute, Element, attributeOf, elementOf, sameSpace, stays}
+use Rattle.model.specs.Elements.{Attribute, Element, elementOf, sameSpace, stays}
 use Rattle.model.specs.Records.{Body, attributeBodies, virtualEnd}
 use Rattle.model.specs.Groups.{AttributeGroup, grouped, groupsFrom, groupsOf, groupRules, unitBy, attributeUnits}
-use Rattle.model.specs.Stream.{Level, State, Entry, entriesAt, unitsOf, written, after, HeldStrand}
-use Rattle.model.specs.Dispatch.{dispatch}
+use Rattle.model.specs.Stream.{State, Entry, entriesAt, unitsOf, after}
+use Rattle.model.specs.Dispatch.{dispatch, told}
+use Rattle.model.proofs.Lists.{all-gather, every}
+use Rattle.model.proofs.Assigned.{attributesAt}
 use Rattle.model.proofs.Count.{attributeCount}
-use Rattle.demands.proofs.Measures.{innermost}
-use Rattle.forecast.proofs.WrittenFew.{pairs-length, start-few, text-few, end-few}
-
--- ---- lists
-keep-few : {A : Type 0} (p : A → Bool) (l : List A) → length (keep p l) ≤ length l
-unfolding keep
-keep-few p [] = omega arith
-keep-few {A} p (x ∷ l) = holds-cond (λ (r : List A). length r ≤ suc (length l)) (p x) (λ e. omega (arith, keep-few p l)) (λ e. omega (arith, keep-few p l))
+use Rattle.dispatcher.proofs.Followed.{EventFew}
+use Rattle.forecast.proofs.WrittenFew.{keep-few, pairs-length, element-few}
 
 total-few : {A : Type 0} (f : A → ℕ) (l : List A) → All (λ (x : A). f x ≤ 36) l → total f l ≤ 36 * length l
 unfolding total
 total-few f [] h = omega arith
 total-few f (x ∷ l) h = omega (arith, h .0, total-few f l (h .1))
-
-each-true : {A : Type 0} (P : A → Type 0) → ((x : A) → P x) → (l : List A) → All P l
-each-true P h [] = tt
-each-true P h (x ∷ l) = (h x, each-true P h l)
 
 -- ---- attribute sections
 abbrev FewMembers : ℕ → AttributeGroup → Type 0
@@ -63,15 +51,15 @@ from-few (a ∷ as′) n cs h =
     let e : n + 1 + length as′ ≡ n + length (a ∷ as′) = omega arith in
     subst (λ (m : ℕ). All (FewMembers m) (groupsFrom (grouped cs a) as′)) e (from-few as′ (n + 1) (grouped cs a) (grouped-few n cs a h))
 
+abbrev FewHeld : AttributeUnit Body → Type 0
+FewHeld u = attributeCount u ≤ 36
+
 module _ (t : Table) (σ : Element) (few : length (σ .attributes) ≤ 16) where
   groups-few : All (FewMembers 16) (groupsOf σ)
   unfolding groupsOf
   groups-few =
       let as′ = keep (λ (a : Attribute). not (stays σ a)) (σ .attributes) in
       each-map (FewMembers (0 + length as′)) (FewMembers 16) (λ x k. omega (arith, keep-few (λ (a : Attribute). not (stays σ a)) (σ .attributes))) (groupsFrom [] as′) (from-few as′ 0 [] tt)
-
-  abbrev FewHeld : AttributeUnit Body → Type 0
-  FewHeld u = attributeCount u ≤ 36
 
   unit-few : (c : AttributeGroup) → FewMembers 16 c → (a : Action) (schema : ℕ) → All FewHeld (unitBy σ c a schema)
   unit-few c h Attach schema = tt
@@ -82,37 +70,16 @@ module _ (t : Table) (σ : Element) (few : length (σ .attributes) ≤ 16) where
   unfolding attributeUnits
   units-few mode =
       each-gather (FewMembers 16) FewHeld (λ (c : AttributeGroup). gather (λ (r : Rule). unitBy σ c (r .action) (r .schema)) (groupRules t mode c))
-      (λ c h. each-gather (λ (r : Rule). Unit {0}) FewHeld (λ (r : Rule). unitBy σ c (r .action) (r .schema)) (λ r u. unit-few c h (r .action) (r .schema)) (groupRules t mode c) (each-true (λ (r : Rule). Unit {0}) (λ r. tt) (groupRules t mode c)))
+      (λ c h. all-gather FewHeld (λ (r : Rule). unitBy σ c (r .action) (r .schema)) (groupRules t mode c) (every (λ (r : Rule). unit-few c h (r .action) (r .schema)) (groupRules t mode c)))
       (groupsOf σ) groups-few
 
-  all-units : (es : List Entry) → All FewHeld (unitsOf (dispatch t) σ es)
-  all-units es = each-gather (λ (e : Entry). Unit {0}) FewHeld (λ (e : Entry). attributeUnits t (e .strand .mode) σ) (λ e u. units-few (e .strand .mode)) es (each-true (λ (e : Entry). Unit {0}) (λ e. tt) es)
-
-  pub start-written : (z : State (dispatch t)) → length (entriesAt (dispatch t) (z .levels) σ) ≤ 16 → after (dispatch t) z (start σ) .units ≤ 65536 → length (written (dispatch t) z (start σ)) ≤ 2359840
-  unfolding after
-  start-written z strands units =
-      let es = entriesAt (dispatch t) (z .levels) σ in
-      omega (arith, start-few t z σ few, length-map es (λ (e : Entry). e .strand .mode), total-few attributeCount (unitsOf (dispatch t) σ es) (all-units es), units)
-
--- ---- texts and ends
-module _ (t : Table) where
-  pub text-written : (z : State (dispatch t)) (τ : Span) → innermost t (z .levels) ≤ 16 → length (written (dispatch t) z (text τ)) ≤ 2359840
-  unfolding total
-  text-written z τ = by (z .levels)
-    where
-      by : (ls : List (Level (dispatch t))) → innermost t ls ≤ 16 → length (written (dispatch t) (record { levels = ls; units = z .units }) (text τ)) ≤ 2359840
-      by [] h = omega (arith, text-few t [] (z .units) τ)
-      by (l ∷ ls) h = omega (arith, text-few t (l ∷ ls) (z .units) τ, length-map (l .strands) (λ (x : HeldStrand ℕ). x .mode))
-
-  pub end-written : (z : State (dispatch t)) (ε : Span) → innermost t (z .levels) ≤ 16 → length (written (dispatch t) z (end ε)) ≤ 2359840
-  unfolding total
-  end-written z ε = by (z .levels)
-    where
-      by : (ls : List (Level (dispatch t))) → innermost t ls ≤ 16 → length (written (dispatch t) (record { levels = ls; units = z .units }) (end ε)) ≤ 2359840
-      by [] h = omega (arith, end-few t [] (z .units) ε)
-      by (l ∷ ls) h = omega (arith, end-few t (l ∷ ls) (z .units) ε, length-map (l .strands) (λ (x : HeldStrand ℕ). x .mode))
-
--- a start that is read has at most 16 attributes
-pub few-attributes : (s : List ℕ) (z : ReaderState) (t : Table) (e : Start) (z′ : ReaderState) → next s z ≡ event (reads.start e) z′ → length (elementOf t s e .attributes) ≤ 16
-unfolding elementOf
-few-attributes s z t e z′ q = omega (arith, length-map (e .attributes) (attributeOf t s), subst NextFew q (next-few s z))
+pub attributes-few : (t : Table) (s : List ℕ) (z : State (dispatch t)) (e : scene.Event) → EventFew e → after (dispatch t) z (told t s e) .units ≤ 65536 → total attributeCount (attributesAt (dispatch t) z (told t s e)) ≤ 2359296
+unfolding after total
+attributes-few t s z (scene.start e) few units =
+    let σ = elementOf t s e in
+    let es = entriesAt (dispatch t) (z .levels) σ in
+    let us = unitsOf (dispatch t) σ es in
+    let each = all-gather FewHeld (λ (x : Entry). attributeUnits t (x .strand .mode) σ) es (every (λ (x : Entry). units-few t σ (element-few t s e few) (x .strand .mode)) es) in
+    omega (arith, total-few attributeCount us each, units)
+attributes-few t s z (scene.text w) few units = omega arith
+attributes-few t s z (scene.end part at) few units = omega arith

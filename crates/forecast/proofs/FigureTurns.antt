@@ -11,8 +11,8 @@ use Rattle.table.specs.Index.{indexOf}
 use Rattle.table.specs.Judge.{Accepted}
 use Rattle.reader.proofs.Progress.{leftOf}
 use Rattle.dispatcher.specs.Sessions.{strandCount, readerOf, freshOf, headOf, sessionAt}
-use Rattle.dispatcher.specs.Stepping.{planOf, Step, weighed}
-use Rattle.dispatcher.specs.Turns.{Beside, LoopReady}
+use Rattle.dispatcher.specs.Stepping.{planOf, Step}
+use Rattle.dispatcher.specs.Turns.{Beside, LoopReady, weighed}
 use Rattle.dispatcher.specs.declared.Session.{Session}
 use Rattle.dispatcher.specs.declared.Head.{Head}
 use Rattle.dispatcher.proofs.RunTurns.{fresh-arrays}

@@ -9,42 +9,39 @@ use mathlib.Core.List.{List, [], _∷_, _++_, tail}
 use mathlib.Core.Bool.{true}
 use native.Mathlib.Numerals.{add-one}
 use native.Mathlib.Omega.{arith}
-use lib.ListN.{length, getD, length-map, length-append}
-use Rattle.laws.specs.Lists.{tabulate}
+use lib.ListN.{length, length-map, length-append}
 use Rattle.laws.specs.Members.{All}
-use Rattle.laws.proofs.Lists.{length-tabulate}
 use Rattle.laws.proofs.Elementwise.{each-map}
 use Rattle.table.specs.Table.{Table, decode}
 use Rattle.table.specs.Judge.{Accepted}
 use Rattle.reader.specs.Events as scene
-use Rattle.reader.specs.Events.{ReaderState, next, events}
 use Rattle.reader.specs.declared.Span.{Span}
 use Rattle.reader.proofs.Progress.{leftOf, less, onward}
 use Rattle.model.specs.Theory.{Record}
 use Rattle.model.specs.Tree.{start, text, end}
 use Rattle.model.specs.Records.{Body}
 use Rattle.model.specs.Elements.{elementOf}
-use Rattle.model.specs.Stream.{Level, State, Entry, entriesAt, written, after, reached}
+use Rattle.model.specs.Stream.{Level, State, Entry, entriesAt, after}
 use Rattle.model.specs.Model.{unitsOpened}
 use Rattle.model.specs.Dispatch.{dispatch, told}
 use Rattle.model.proofs.Assigned.{modesAt}
 use Rattle.model.proofs.Opened.{reached-units}
-use Rattle.strands.specs.Packed.{strandIn}
-use Rattle.dispatcher.specs.Sessions.{strandCount, strandsIn, levelIn, levelsIn, readerOf, stateOf, freshOf}
+use Rattle.dispatcher.specs.Sessions.{strandCount, levelIn, levelsIn, readerOf, stateOf, freshOf}
 use Rattle.dispatcher.specs.Stepping.{event, planOf}
 use Rattle.dispatcher.specs.declared.Session.{Session}
 use Rattle.dispatcher.proofs.NewStrands.{new-length}
-use Rattle.dispatcher.proofs.Behind.{StartLimits, OpenLimits, Limits, Behind, behind}
+use Rattle.dispatcher.proofs.SoundCoherent.{strands-counted}
+use Rattle.dispatcher.proofs.Behind.{Behind, behind}
+use Rattle.dispatcher.proofs.Followed.{followed, followed-few}
 use Rattle.demands.specs.Scenes.{modelCount}
 use Rattle.demands.specs.Limits.{depthAt, strandsAt, eventsWithin, End, runEnd}
-use Rattle.demands.proofs.Goes.{goes-on, event-goes}
-use Rattle.demands.proofs.Measures.{streamAfter, innermost, levels-length, depth-is, strands-are, inner-few, inner-strands}
-use Rattle.demands.proofs.Reached.{Reached, reached-fresh, reached-step, counted}
-use Rattle.demands.proofs.Limits.{next-event}
+use Rattle.demands.proofs.Measures.{streamAfter, innermost, levels-length, depth-is, inner-strands}
+use Rattle.demands.proofs.Reached.{Reached, reached-fresh, reached-step, counted, few-events}
+use Rattle.demands.proofs.Limits.{passed-none, strands-next, taken-passed}
 use Rattle.forecast.specs.Forecasts.{greaterOf, greatest, unitCount, figuresOf}
 use Rattle.forecast.proofs.Greatest.{greater-first, greater-most}
-use Rattle.forecast.proofs.FewRecords.{few-attributes}
-use Rattle.forecast.proofs.FewRecords.{start-written, text-written, end-written}
+use Rattle.forecast.proofs.WrittenFew.{written-few}
+use Rattle.forecast.proofs.FewRecords.{attributes-few}
 use Rattle.forecast.proofs.Stops.{Stopped}
 
 -- a level with at most so many strands
@@ -85,10 +82,8 @@ greatest-on f k = ap (greatest f) (add-one k)
 
 -- the innermost level's strands, as the session counts them
 count-innermost : (t : Table) (s : List ℕ) (z : Session) (d : ℕ) → z .scope .depth ≡ suc d → innermost t (stateOf t s z .levels) ≡ strandCount z d
-unfolding levelsIn levelIn strandsIn
-count-innermost t s z d e =
-    ap (λ (n : ℕ). innermost t (levelsIn t s z n)) e
-    ∙ length-map (tabulate (λ (i : ℕ). getD (z .strands) i 0) (16 * d) (strandCount z d)) strandIn ∙ length-tabulate (λ (i : ℕ). getD (z .strands) i 0) (16 * d) (strandCount z d)
+unfolding levelsIn levelIn
+count-innermost t s z d e = ap (λ (n : ℕ). innermost t (levelsIn t s z n)) e ∙ strands-counted z d
 
 module _ (table : List ℕ) (ok : Accepted table ≡ true) (s : List ℕ) (short : length s ≤ 16777215) (z : Session) (records strands depth : ℕ) (g : Figured table s z records strands depth)
     (p : ℕ) (ps : List (Record Body ℕ)) (w : Session) (plan : planOf (decode table) s z ≡ event p ps w) where
@@ -110,9 +105,6 @@ module _ (table : List ℕ) (ok : Accepted table ≡ true) (s : List ℕ) (short
   more : Reached t s w (k + 1) (g .taken ++ ps)
   more = reached-step table ok s short z k (g .taken) (g .reached) p ps w plan
 
-  inside : k < length (events s)
-  inside = goes-on s k (readerOf z) (b .happened) (b .state) (g .reached .reader) (b .read) .inside
-
   -- ---- what is left to read
   pub left-less : leftOf s (readerOf w) < leftOf s (readerOf z)
   left-less = less s (readerOf z) (readerOf w) (rw (b .reader) (onward s (readerOf z) (b .state) (b .happened) (b .read)))
@@ -121,16 +113,15 @@ module _ (table : List ℕ) (ok : Accepted table ≡ true) (s : List ℕ) (short
   shallow-behind = more .sound .fits .shallow
 
   -- ---- its records are few
-  written-few : (e : scene.Event) (z′ : ReaderState) → next s (readerOf z) ≡ scene.event e z′ → Limits t s z e z′ → length (written (dispatch t) before (told t s e)) ≤ 2359840
-  written-few (scene.start e) z′ q l =
-      let o = event-goes s (readerOf z) (scene.start e) z′ q .0 in
-      let m : StartLimits t s z e (o .0) = subst (OpenLimits t s z e) (o .1) l in
-      start-written t (elementOf t s e) (few-attributes s (readerOf z) t e z′ q) before (m .strands) (m .units)
-  written-few (scene.text v) z′ q l = text-written t before v (inner-few t s (z .units) (before .levels) (g .reached .sound .levels))
-  written-few (scene.end v at) z′ q l = end-written t before v (inner-few t s (z .units) (before .levels) (g .reached .sound .levels))
+  strands-on : strandsAt t s k ≡ length (modesAt (dispatch t) before (told t s (b .happened)))
+  strands-on = strands-next t s z k (g .taken) (g .reached) (b .happened) (b .state) (b .read)
 
   records-few : length ps ≤ 2359840
-  records-few = rw (b .records) (written-few (b .happened) (b .state) (b .read) (b .limits))
+  records-few =
+      let few = followed-few s (readerOf z) (b .happened) (b .state) (followed s (readerOf z) (g .reached .sound .held) (b .happened) (b .state) (b .read)) in
+      let units : after (dispatch t) before (told t s (b .happened)) .units ≤ 65536 = subst (λ (y : State (dispatch t)). y .units ≤ 65536) (b .stream) (b .few-units) in
+      let most = passed-none t s k (taken-passed table ok s w (k + 1) (g .taken ++ ps) more k (omega arith)) in
+      rw (b .records) (omega (arith, written-few t s before (b .happened) few, attributes-few t s before (b .happened) few units, strands-on, most .1))
 
   pub records-fit : records + length ps < 2 ^ 64
   records-fit = omega (arith, records-few, g .few, g .left, left-less)
@@ -138,24 +129,18 @@ module _ (table : List ℕ) (ok : Accepted table ≡ true) (s : List ℕ) (short
   -- ---- the model's measures of it, in the session
   depth-on : depthAt t s k ≡ w .scope .depth
   depth-on =
-      depth-is t s k inside
+      depth-is t s k (omega (arith, few-events t s w (k + 1) (g .taken ++ ps) more))
       ∙ ap (λ (i : ℕ). length (streamAfter t s i .levels)) (sym (add-one k))
       ∙ ap (λ (y : State (dispatch t)). length (y .levels)) (sym (more .ran .state))
       ∙ levels-length t s w (w .scope .depth)
 
-  strands-on : strandsAt t s k ≡ length (modesAt (dispatch t) before (told t s (b .happened)))
-  strands-on =
-      strands-are t s k inside (b .happened)
-      ∙ ap (λ (x : scene.Event). length (modesAt (dispatch t) (streamAfter t s k) (told t s x))) (next-event t s z k (g .taken) (g .reached) (b .happened) (b .state) (b .read) (b .happened))
-      ∙ ap (λ (y : State (dispatch t)). length (modesAt (dispatch t) y (told t s (b .happened)))) (sym (g .reached .ran .state))
-
   -- a start opens a level with its strands; a text and an end have those of the level that was innermost, and open none
-  pub record Opens : Type 0 where
+  record Opens : Type 0 where
     deeper : w .scope .depth ≡ suc (z .scope .depth)
     strands-new : strandsAt (decode table) s (g .events-taken) ≡ strandCount w (z .scope .depth)
     levels-new : (n : ℕ) → All (FewStrands (decode table) n) (stateOf (decode table) s z .levels) → strandCount w (z .scope .depth) ≤ n → All (FewStrands (decode table) n) (stateOf (decode table) s w .levels)
 
-  pub record Stays : Type 0 where
+  record Stays : Type 0 where
     not-deeper : w .scope .depth ≤ z .scope .depth
     strands-old : strandsAt (decode table) s (g .events-taken) ≡ innermost (decode table) (stateOf (decode table) s z .levels)
     levels-old : (n : ℕ) → All (FewStrands (decode table) n) (stateOf (decode table) s z .levels) → All (FewStrands (decode table) n) (stateOf (decode table) s w .levels)
@@ -214,18 +199,8 @@ module _ (table : List ℕ) (ok : Accepted table ≡ true) (s : List ℕ) (short
         open-depth = d;
       }
 
-  abbrev Moves : scene.Event → Type 0
-  Moves (scene.start e) = Opens
-  Moves (scene.text v) = Stays
-  Moves (scene.end v at) = Stays
-
-  moves : (e : scene.Event) → behind′ ≡ after (dispatch t) before (told t s e) → strandsAt t s k ≡ length (modesAt (dispatch t) before (told t s e)) → Moves e
-  moves (scene.start e) q m = opens e q m
-  moves (scene.text v) q m = text-stays v q m
-  moves (scene.end v at) q m = end-stays v q m
-
   pub opened-figured : z .scope .depth < w .scope .depth → Figured table s w (records + length ps) (greaterOf strands (strandCount w (z .scope .depth))) (greaterOf depth (w .scope .depth))
-  opened-figured lt = by (b .happened) (moves (b .happened) (b .stream) strands-on)
+  opened-figured lt = by (b .happened) (b .stream) strands-on
     where
       opens-by : Opens → Figured table s w (records + length ps) (greaterOf strands (strandCount w (z .scope .depth))) (greaterOf depth (w .scope .depth))
       opens-by o =
@@ -234,13 +209,13 @@ module _ (table : List ℕ) (ok : Accepted table ≡ true) (s : List ℕ) (short
           (o .levels-new (greaterOf strands c) (each-map (FewStrands t strands) (FewStrands t (greaterOf strands c)) (λ l h. omega (arith, greater-most strands c .0)) (before .levels) (g .open-strands)) (greater-most strands c .1))
           (greater-most depth (w .scope .depth) .1)
 
-      by : (e : scene.Event) → Moves e → Figured table s w (records + length ps) (greaterOf strands (strandCount w (z .scope .depth))) (greaterOf depth (w .scope .depth))
-      by (scene.start e) m = opens-by m
-      by (scene.text v) m = absurd (omega (arith, m .not-deeper))
-      by (scene.end v at) m = absurd (omega (arith, m .not-deeper))
+      by : (e : scene.Event) → behind′ ≡ after (dispatch t) before (told t s e) → strandsAt t s k ≡ length (modesAt (dispatch t) before (told t s e)) → Figured table s w (records + length ps) (greaterOf strands (strandCount w (z .scope .depth))) (greaterOf depth (w .scope .depth))
+      by (scene.start e) q m = opens-by (opens e q m)
+      by (scene.text v) q m = absurd (omega (arith, text-stays v q m .not-deeper))
+      by (scene.end v at) q m = absurd (omega (arith, end-stays v q m .not-deeper))
 
   pub stayed-figured : w .scope .depth ≤ z .scope .depth → Figured table s w (records + length ps) strands depth
-  stayed-figured le = by (b .happened) (moves (b .happened) (b .stream) strands-on)
+  stayed-figured le = by (b .happened) (b .stream) strands-on
     where
       inner : (ls : List (Level (dispatch t))) → All (FewStrands t strands) ls → innermost t ls ≤ strands
       inner [] a = omega arith
@@ -254,10 +229,10 @@ module _ (table : List ℕ) (ok : Accepted table ≡ true) (s : List ℕ) (short
           (o .levels-old strands (g .open-strands))
           (omega (arith, g .open-depth))
 
-      by : (e : scene.Event) → Moves e → Figured table s w (records + length ps) strands depth
-      by (scene.start e) m = absurd (omega (arith, m .deeper))
-      by (scene.text v) m = stays-by m
-      by (scene.end v at) m = stays-by m
+      by : (e : scene.Event) → behind′ ≡ after (dispatch t) before (told t s e) → strandsAt t s k ≡ length (modesAt (dispatch t) before (told t s e)) → Figured table s w (records + length ps) strands depth
+      by (scene.start e) q m = absurd (omega (arith, opens e q m .deeper))
+      by (scene.text v) q m = stays-by (text-stays v q m)
+      by (scene.end v at) q m = stays-by (end-stays v q m)
 
 -- ---- where it ends
 -- the stream's count of units is the model's

@@ -11,9 +11,9 @@ use mathlib.Core.Bool.{Bool, true, false}
 use mathlib.Core.Logic.{_⊎_, inl, inr, ⊎-elim}
 use mathlib.Core.Option.{Option, none, some}
 use native.Mathlib.Omega.{arith}
-use borrow.Author.Tests.{eqb-true, eqb-false, ltb-false}
+use borrow.Author.Tests.{eqb-true, eqb-false}
 use lib.ListN.{length, replicate, length-replicate}
-use lib.Dec.{eqb, ltb}
+use lib.Dec.{eqb}
 use Rattle.laws.specs.Reading.{le-or-lt}
 use Rattle.table.specs.Table.{Table, decode, standard}
 use Rattle.table.specs.Judge.{judged, Accepted}
@@ -28,14 +28,13 @@ use Rattle.dispatcher.specs.declared.Session.{Session}
 use Rattle.dispatcher.specs.Stepping.{Step, answered, advanceOf, handed, Run, runOf}
 use Rattle.dispatcher.proofs.RunTurns.{advance-refused, advance-too-long}
 use Rattle.demands.specs.Scenes.{modelCount}
-use Rattle.demands.specs.Limits.{depthAt, boundAt, strandsAt, unitsAt, passed, WithinFirst, firstPast, eventsWithin, readEnd, runEnd}
+use Rattle.demands.specs.Limits.{depthAt, strandsAt, firstPast, eventsWithin, readEnd, runEnd}
 use Rattle.demands.specs.Answers as step
 use Rattle.demands.specs.Answers.{Answered}
 use Rattle.demands.proofs.Goes.{goes-on}
 use Rattle.demands.proofs.Refusals.{answered-by}
 use Rattle.demands.proofs.Reached.{reached-fresh}
-use Rattle.demands.proofs.Measures.{numberBy}
-use Rattle.demands.proofs.Limits.{passed-number, FirstPast, first-past, endBy}
+use Rattle.demands.proofs.Limits.{passed-number, passed-none, FirstPast, first-past, endBy, within-first}
 use Rattle.demands.proofs.Advances.{advanced}
 use Rattle.demands.proofs.Runs.{scenes}
 use Rattle.demands.proofs.Ends.{run-ends, run-full}
@@ -188,27 +187,6 @@ forecast-units table s out = ⊎-elim (λ w. none-taken (w .0) (w .1) (w .2)) (�
         behind-units table s out ok short (subst (λ (x : Forecast). 16 * x .records ≤ length out) f room) .0 ∙ sym (ap (λ (x : Forecast). x .units) f)
 
 -- ---- limits
--- an event that passes none
-pub passed-none : (t : Table) (s : List ℕ) (k : ℕ) → passed t s k ≡ 0 → (depthAt t s k ≤ 64) × (strandsAt t s k ≤ 16)
-unfolding passed
-passed-none t s k q =
-    let r = by (ltb 64 (depthAt t s k)) (ltb 64 (boundAt s k)) (ltb 16 (strandsAt t s k)) (ltb 65536 (unitsAt t s k)) q in
-    (ltb-false 64 (depthAt t s k) (r .0), ltb-false 16 (strandsAt t s k) (r .1))
-  where
-    by : (a b c d : Bool) → numberBy a b c d ≡ 0 → (a ≡ false) × (c ≡ false)
-    by true b c d q = absurd (omega arith)
-    by false true c d q = absurd (omega arith)
-    by false false true d q = absurd (omega arith)
-    by false false false d q = (refl, refl)
-
-pub within-first : (t : Table) (s : List ℕ) → WithinFirst t s (eventsWithin t s)
-unfolding eventsWithin
-within-first t s = by (firstPast t s (length (events s)) 0) (first-past t s)
-  where
-    by : (o : Option ℕ) → FirstPast t s o → WithinFirst t s (elim o [ none ↦ length (events s) | some k ↦ k ])
-    by none f = f
-    by (some k) f = f .2
-
 greatest-few : (f : ℕ → ℕ) (n most : ℕ) → ((k : ℕ) → k < n → f k ≤ most) → greatest f n ≤ most
 unfolding greatest
 greatest-few f zero most h = omega arith

@@ -21,7 +21,8 @@ use Rattle.reader.proofs.Held.{numbered}
 use Rattle.model.specs.Theory.{Record}
 use Rattle.model.specs.Records.{Body}
 use Rattle.dispatcher.specs.Sessions.{readerOf}
-use Rattle.dispatcher.specs.Stepping.{eventPlace, Plan, refused, finished, event, planBy, planOf, Step, weighed}
+use Rattle.dispatcher.specs.Stepping.{eventPlace, Plan, refused, finished, event, planBy, planOf, Step}
+use Rattle.dispatcher.specs.Turns.{weighed}
 use Rattle.dispatcher.specs.declared.Session.{Session}
 use Rattle.demands.specs.Limits.{passed, firstPast, eventsWithin, readEnd, runEnd}
 use Rattle.demands.proofs.Goes.{goes-on}
@@ -43,9 +44,9 @@ module _ (table : List ℕ) (ok : Accepted table ≡ true) (s : List ℕ) (short
   all-by none f all = (all, refl)
   all-by (some j) f all = absurd (f .1 (taken-passed table ok s z k rs h j (omega (arith, f .0))))
 
-  read-stops : (x : scene.Next) → next s (readerOf z) ≡ x → (k ≡ length (events s)) × (lastOf s ≡ x) → Stopped t s k (readEnd x .number) (readEnd x .place)
+  read-stops : (x : scene.Next) → (k ≡ length (events s)) × (lastOf s ≡ x) → Stopped t s k (readEnd x .number) (readEnd x .place)
   unfolding runEnd eventsWithin
-  read-stops x q e =
+  read-stops x e =
       let b = all-by (firstPast t s (length (events s)) 0) (first-past t s) (e .0) in
       record { within = b .0; ends = b .1 ∙ ap readEnd (e .1) }
 
@@ -73,8 +74,8 @@ module _ (table : List ℕ) (ok : Accepted table ≡ true) (s : List ℕ) (short
   unfolding planOf
   plan-by (scene.refusal n p) q =
       let i = numbered s (readerOf z) (h .sound .held) n p q in
-      (λ e. absurd (omega (arith, i .some)), read-stops (scene.refusal n p) q (ends-here s k (readerOf z) (scene.refusal n p) (h .reader) q refl refl))
-  plan-by (scene.finished p) q = read-stops (scene.finished p) q (ends-here s k (readerOf z) (scene.finished p) (h .reader) q refl refl)
+      (λ e. absurd (omega (arith, i .some)), read-stops (scene.refusal n p) (ends-here s k (readerOf z) (scene.refusal n p) (h .reader) q refl refl))
+  plan-by (scene.finished p) q = read-stops (scene.finished p) (ends-here s k (readerOf z) (scene.finished p) (h .reader) q refl refl)
   plan-by (scene.event e z′) q = by (eqb (passed t s k) 0) refl
     where
       same : planOf t s z ≡ planBy t s z (scene.event e z′)

@@ -1,19 +1,19 @@
 -- What an event writes, by the stream: at most 34 records for each strand, and its attribute units.
---     pairs-length, gather-few                       lists
---     start-few, text-few, end-few, written-few      of an event
+--     keep-few, pairs-length       lists
+--     element-few, written-few     of a start, of an event
 use Prim.Native.Nat.{ℕ, suc, _+_, _*_, _≤_}
 use mathlib.Core.Path.{_≡_, refl, sym, _∙_}
 use mathlib.Core.List.{List, [], _∷_, _++_, map}
-use mathlib.Core.Bool.{Bool, true, false, cond}
+use mathlib.Core.Bool.{Bool, true, false}
 use mathlib.Core.Option.{Option, none, some}
 use native.Mathlib.Omega.{arith}
 use lib.ListN.{length, length-append, length-map}
 use Rattle.laws.specs.Lists.{keep}
 use Rattle.laws.specs.Gather.{gather, total}
+use Rattle.laws.proofs.Holds.{holds-cond}
 use Rattle.table.specs.Table.{Table}
 use Rattle.reader.specs.Events as scene
 use Rattle.reader.specs.declared.Span.{Span}
-use Rattle.reader.proofs.FewAttributes.{EventFew}
 use Rattle.model.specs.Theory.{Piece, holds}
 use Rattle.model.specs.Tree.{TreeEvent, start, text, end}
 use Rattle.model.specs.Elements.{Attribute, Element, attributeOf, elementOf}
@@ -23,7 +23,13 @@ use Rattle.model.specs.Stream.{Level, State, Entry, HeldStrand, entriesAt, unit
 use Rattle.model.specs.Dispatch.{dispatch, told}
 use Rattle.model.proofs.Assigned.{modesAt, attributesAt}
 use Rattle.model.proofs.Count.{attributeCount, length-give, length-attributes}
+use Rattle.dispatcher.proofs.Followed.{EventFew}
 use Rattle.dispatcher.proofs.NewStrands.{new-length}
+
+pub keep-few : {A : Type 0} (p : A → Bool) (l : List A) → length (keep p l) ≤ length l
+unfolding keep
+keep-few p [] = omega arith
+keep-few {A} p (x ∷ l) = holds-cond (λ (r : List A). length r ≤ suc (length l)) (p x) (λ e. omega (arith, keep-few p l)) (λ e. omega (arith, keep-few p l))
 
 -- an attribute and its value for each
 pub pairs-length : (l : List Attribute) → length (gather attributeBodies l) ≡ 2 * length l
@@ -31,7 +37,7 @@ unfolding gather
 pairs-length [] = refl
 pairs-length (a ∷ l) = omega (arith, pairs-length l)
 
-pub gather-few : {A B : Type 0} (f : A → List B) → ((x : A) → length (f x) ≤ 34) → (xs : List A) → length (gather f xs) ≤ 34 * length xs
+gather-few : {A B : Type 0} (f : A → List B) → ((x : A) → length (f x) ≤ 34) → (xs : List A) → length (gather f xs) ≤ 34 * length xs
 unfolding gather
 gather-few f h [] = omega arith
 gather-few f h (x ∷ xs) = omega (arith, h x, gather-few f h xs, length-append (f x) (gather f xs))
@@ -40,25 +46,20 @@ give-few : {B U : Type 0} (n : ℕ) (o : Option U) (ps : List (Piece B)) → len
 give-few n none ps h = omega arith
 give-few n (some u) ps h = omega (arith, length-give (some u) ps)
 
-kept-few : {A B : Type 0} (f : A → List B) → ((x : A) → length (f x) ≡ 2) → (p : A → Bool) (l : List A) → length (gather f (keep p l)) ≤ 2 * length l
-unfolding gather keep
-kept-few f h p [] = omega arith
-kept-few f h p (x ∷ l) = by (p x) (kept-few f h p l)
-  where
-    by : (b : Bool) → length (gather f (keep p l)) ≤ 2 * length l → length (gather f (cond b (x ∷ keep p l) (keep p l))) ≤ 2 * suc (length l)
-    by true ih = omega (arith, ih, h x, length-append (f x) (gather f (keep p l)))
-    by false ih = omega (arith, ih)
-
 bodies-few : (t : Table) (m : ℕ) (e : Element) → length (e .attributes) ≤ 16 → length (startBodies t m e) ≤ 33
 unfolding startBodies
-bodies-few t m e h = omega (arith, h, kept-few attributeBodies (λ (a : Attribute). refl) (kept t m e) (e .attributes))
+bodies-few t m e h = omega (arith, h, keep-few (kept t m e) (e .attributes), pairs-length (keep (kept t m e) (e .attributes)))
+
+pub element-few : (t : Table) (s : List ℕ) (e : scene.Start) → length (e .attributes) ≤ 16 → length (elementOf t s e .attributes) ≤ 16
+unfolding elementOf
+element-few t s e h = omega (arith, h, length-map (e .attributes) (attributeOf t s))
 
 module _ (t : Table) where
   -- 34 records for each strand, and those of its attribute units
   abbrev pub mostOf : State (dispatch t) → TreeEvent (dispatch t) → ℕ
   mostOf z e = 34 * length (modesAt (dispatch t) z e) + total attributeCount (attributesAt (dispatch t) z e)
 
-  pub start-few : (z : State (dispatch t)) (σ : Element) → length (σ .attributes) ≤ 16 → length (written (dispatch t) z (start σ)) ≤ mostOf z (start σ)
+  start-few : (z : State (dispatch t)) (σ : Element) → length (σ .attributes) ≤ 16 → length (written (dispatch t) z (start σ)) ≤ mostOf z (start σ)
   unfolding written
   start-few z σ h =
       let es = entriesAt (dispatch t) (z .levels) σ in
@@ -80,13 +81,13 @@ module _ (t : Table) where
           give-few 34 (receiver (e .strand .action) (e .strand .target)) (open′ ++ map holds bodies)
           (omega (arith, length-append open′ (map holds bodies), length-map bodies (λ (b : Body). holds b), opening-few (e .schema) (e .strand .here), bodies-few t (e .strand .mode) σ h))
 
-  pub text-few : (ls : List (Level (dispatch t))) (u : ℕ) (w : Span) → length (written (dispatch t) (record { levels = ls; units = u }) (text w)) ≤ mostOf (record { levels = ls; units = u }) (text w)
+  text-few : (ls : List (Level (dispatch t))) (u : ℕ) (w : Span) → length (written (dispatch t) (record { levels = ls; units = u }) (text w)) ≤ mostOf (record { levels = ls; units = u }) (text w)
   unfolding written total
   text-few [] u w = omega arith
   text-few (l ∷ ls) u w =
       omega (arith, gather-few (textRecords (dispatch t) w) (λ (s : HeldStrand ℕ). give-few 34 (receiver (s .action) (s .target)) _ (omega arith)) (l .strands), length-map (l .strands) (λ (s : HeldStrand ℕ). s .mode))
 
-  pub end-few : (ls : List (Level (dispatch t))) (u : ℕ) (w : Span) → length (written (dispatch t) (record { levels = ls; units = u }) (end w)) ≤ mostOf (record { levels = ls; units = u }) (end w)
+  end-few : (ls : List (Level (dispatch t))) (u : ℕ) (w : Span) → length (written (dispatch t) (record { levels = ls; units = u }) (end w)) ≤ mostOf (record { levels = ls; units = u }) (end w)
   unfolding written total
   end-few [] u w = omega arith
   end-few (l ∷ ls) u w =
@@ -100,7 +101,6 @@ module _ (t : Table) where
       each s = give-few 34 (receiver (s .action) (s .target)) _ (omega (arith, closing-few (s .here)))
 
   pub written-few : (s : List ℕ) (z : State (dispatch t)) (e : scene.Event) → EventFew e → length (written (dispatch t) z (told t s e)) ≤ mostOf z (told t s e)
-  unfolding elementOf
-  written-few s z (scene.start e) h = start-few z (elementOf t s e) (omega (arith, h, length-map (e .attributes) (attributeOf t s)))
+  written-few s z (scene.start e) h = start-few z (elementOf t s e) (element-few t s e h)
   written-few s z (scene.text w) h = text-few (z .levels) (z .units) w
   written-few s z (scene.end part at) h = end-few (z .levels) (z .units) part

@@ -26,16 +26,16 @@ abbrev pub attributesHeld : WholeUnit Body → ℕ
 attributesHeld u = total (λ (p : Marked Body). cond (eqb (pieceBody (p .piece) .kind) 2) 1 0) (u .pieces)
 
 -- of the k-th event: how many attribute units it opens, and how many attributes these hold
-abbrev pub unitsAttributed : Table → List ℕ → ℕ → ℕ
-unitsAttributed t s k = length (attributeUnitsAt t s k)
+abbrev pub attributeUnitCount : Table → List ℕ → ℕ → ℕ
+attributeUnitCount t s k = length (attributeUnitsAt t s k)
 
-abbrev pub attributesUnited : Table → List ℕ → ℕ → ℕ
-attributesUnited t s k = total attributesHeld (attributeUnitsAt t s k)
+abbrev pub unitAttributeCount : Table → List ℕ → ℕ → ℕ
+unitAttributeCount t s k = total attributesHeld (attributeUnitsAt t s k)
 
 -- of one event
 abbrev pub eventBound : Table → List ℕ → ℕ → ℕ
-eventBound t s k = 34 * strandsAt t s k + 4 * unitsAttributed t s k + 2 * attributesUnited t s k
+eventBound t s k = 34 * strandsAt t s k + 4 * attributeUnitCount t s k + 2 * unitAttributeCount t s k
 
 -- of the first so many: "34 times the strands of each event, summed, plus 4 for each attribute unit and 2 for each attribute in one"
 abbrev pub sceneBound : Table → List ℕ → ℕ → ℕ
-sceneBound t s k = 34 * sumOf (strandsAt t s) k + 4 * sumOf (unitsAttributed t s) k + 2 * sumOf (attributesUnited t s) k
+sceneBound t s k = 34 * sumOf (strandsAt t s) k + 4 * sumOf (attributeUnitCount t s) k + 2 * sumOf (unitAttributeCount t s) k

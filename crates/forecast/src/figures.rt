@@ -1,13 +1,12 @@
 // The figures of an accepted table and a scene that is not too long, event by event.
 use attributes::HELD;
-use dispatcher::Head;
 use dispatcher::Session;
 use dispatcher::steps::weighed_step;
 use reader::Scope;
 use strands::LEVELS;
 use strands::levels::count_at;
 ghost use mathlib.Core.Path.{_≡_};
-ghost use mathlib.Core.Bool.{true, false};
+ghost use mathlib.Core.Bool.{true};
 ghost use Prim.Native.Nat.{_≤_};
 ghost use lib.ListN.{length};
 ghost use Rattle.table.specs.Table.{decode, headerOf};
@@ -34,20 +33,6 @@ fn greater(a: usize, b: usize) -> usize
     a
 }
 
-// Nothing read, nothing open.
-fn fresh_head() -> Head
-    ensures { λ r. ⌜ r ≡ record { place = 0; units = 0; closed = false; awaited = false; depth = 0; bound = 0 } ⌝ }
-{
-    Head {
-        place: 0,
-        units: 0,
-        closed: false,
-        awaited: false,
-        depth: 0,
-        bound: 0,
-    }
-}
-
 // Events are taken until a number is not 0.
 pub fn figures_of(table: &[u8], index: &[u32; 256], scene: &[u8]) -> Forecast
     requires { ⌜ (Accepted (now table) ≡ true) × (now index ≡ indexOf (now table) (headerOf (now table))) × (length (now scene) ≤ 16777215) ⌝ }
@@ -61,7 +46,7 @@ pub fn figures_of(table: &[u8], index: &[u32; 256], scene: &[u8]) -> Forecast
     let mut attributes: [u32; HELD] = [0; HELD];
     let mut words: [u32; Session::STRANDS] = [0; Session::STRANDS];
     let mut schemas: [u32; Session::STRANDS] = [0; Session::STRANDS];
-    let mut head = fresh_head();
+    let mut head = Session::fresh().head();
     let mut records = 0;
     let mut strands = 0;
     let mut depth = 0;

@@ -1,8 +1,9 @@
 -- The loop of `declare`: what is held and laid, what a turn does, and the ways out.
-use Prim.Native.Nat.{ℕ, _+_, _*_, _-_, _≤_, _<_}
+use Prim.Native.Nat.{ℕ, suc, _+_, _*_, _-_, _≤_, _<_}
 use mathlib.Core.Path.{_≡_, refl, sym, ap, _∙_, subst}
 use mathlib.Core.List.{List, [], _∷_, _++_, append-assoc, append-nil}
 use mathlib.Core.Bool.{Bool, true, false, cond, or-true}
+use mathlib.Core.Option.{Option, none, some}
 use native.Mathlib.Omega.{arith}
 use lib.ListN.{length, length-append}
 use Rattle.laws.specs.Lists.{any, tabulate}
@@ -10,8 +11,8 @@ use Rattle.laws.specs.Gather.{gather}
 use Rattle.laws.specs.Over.{overwrite}
 use Rattle.lexer.specs.declared.Attr.{Attr}
 use Rattle.lexer.specs.Attrs.{attrIn, attrsIn}
-use Rattle.reader.specs.Spans.{kindOf}
-use Rattle.reader.specs.Namespaces.{declaredBy, declarationsOf, refusedBinding}
+use Rattle.reader.specs.Spans.{bytesOf, prefixSpan, kindOf}
+use Rattle.reader.specs.Namespaces.{declaredBy, declarationsOf, refusedBinding, Namespace, nothing, ReadAttribute, ofPrefix, before, resolvedBy, resolved}
 use Rattle.reader.specs.Stored.{atMost, bindingNumbers, laidBindings, fitting, declaredOf}
 use Rattle.reader.specs.declared.Binding.{Binding}
 use Rattle.reader.specs.declared.Kind.{Kind}
@@ -20,6 +21,7 @@ use Rattle.reader.specs.declared.Declared.{Declared}
 use Rattle.reader.specs.declared.Declared.the-variants as declares
 use Rattle.reader.proofs.Any.{any-append}
 use Rattle.reader.proofs.Indexed.{tab-here, tab-out, tab-long, at-most-le}
+use Rattle.reader.proofs.TagMeaning.{OnSome}
 use Rattle.reader.proofs.Laying.{Kept, fitting-all, fitting-some, fitting-whole, laid-none, laid-more}
 
 -- the first i attributes are declared, n declarations held, and with those of the rest they are the tag's
@@ -44,6 +46,30 @@ pub declared-few : (s : List ℕ) (l : List Attr) → length (declarationsOf s l
 unfolding gather
 declared-few s [] = omega arith
 declared-few s (a ∷ l) = omega (arith, length-append (declaredBy (kindOf s (a .name)) a) (declarationsOf s l), at-most-one (kindOf s (a .name)) a, declared-few s l)
+
+-- and at most one attribute that is none
+abbrev pub SomeFew : ℕ → Option (List ReadAttribute) → Type 0
+SomeFew n = OnSome (λ l. length l ≤ n)
+
+pub resolved-few : (s : List ℕ) (bs : List Binding) (l : List Attr) → SomeFew (length l) (resolved s bs l)
+unfolding resolved
+resolved-few s bs [] = omega arith
+resolved-few s bs (a ∷ l) = by (kindOf s (a .name)) (resolved s bs l) (resolved-few s bs l)
+  where
+    one : (o : Option Namespace) (r : Option (List ReadAttribute)) → SomeFew (length l) r → SomeFew (suc (length l)) (before a o r)
+    one none r h = tt
+    one (some m) none h = tt
+    one (some m) (some as′) h = omega arith
+
+    no : (r : Option (List ReadAttribute)) → SomeFew (length l) r → SomeFew (suc (length l)) r
+    no none h = tt
+    no (some as′) h = omega arith
+
+    by : (k : Kind) (r : Option (List ReadAttribute)) → SomeFew (length l) r → SomeFew (suc (length l)) (resolvedBy s bs k a r)
+    by Plain = one (some nothing)
+    by Prefixed = one (ofPrefix s bs (bytesOf s (prefixSpan (a .name))))
+    by Default = no
+    by Declares = no
 
 -- an array holds at most sixteen attributes
 pub attrs-few : (array : List ℕ) (count : ℕ) → length (attrsIn array count) ≤ 16

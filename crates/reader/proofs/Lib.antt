@@ -33,5 +33,4 @@ pub mod Held
 pub mod MoreBytes
 pub mod NextStable
 pub mod EventsFirst
-pub mod FewAttributes
 pub mod LastStable

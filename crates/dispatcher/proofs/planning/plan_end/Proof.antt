@@ -4,12 +4,12 @@ use mathlib.Core.Path.{sym, ap, subst, _∙_}
 use mathlib.Core.List.{List}
 use native.Mathlib.Omega.{arith}
 use borrow.Author.Needs.{needs}
-use Rattle.table.specs.Table.{Table}
+use Rattle.table.specs.Table.{decode}
 use Rattle.reader.specs.declared.Span.{Span}
 use Rattle.reader.specs.Spans.{span}
 use Rattle.reader.specs.Held.{SpanHeld}
 use Rattle.dispatcher.specs.Sessions.{sessionAt}
-use Rattle.dispatcher.proofs.EventTurns.{tag-inside, part-small, closes-inside, stopped-plan, stopped-fits, end-fits, closing-plan}
+use Rattle.dispatcher.proofs.EventTurns.{tag-inside, part-small, closes-inside, stopped-plan, stopped-planned, end-planned, closing-plan}
 use Rattle.dispatcher.proofs.planning.plan_end.Statement.{statement}
 use Rattle.dispatcher.proofs.planning.plan_end.Tie as tie
 
@@ -43,7 +43,7 @@ add-t13 c =
     omega (arith, i .short, i .name, ap (λ (w : Span). w .len) (c .before .before .before .before .name-at .ensures))
 
 returns : tie.Need-returns
-returns c = λ (t : Table) (bindings : List ℕ).
+returns c = λ (table index own words schemas attributes bindings : List ℕ).
     let b = c .before .before .before .before .before .before .before in
     let a = b .args in
     let s = a .scene .now in
@@ -54,7 +54,7 @@ returns c = λ (t : Table) (bindings : List ℕ).
     let part = c .before .part-in in
     let inside = closes-inside s (a .at + 2) (name .result) (sym (closes .ensures) ∙ taken) in
     let small = part-small s (span (a .at + 2) (name .result .len)) (part .result) (i .short) (omega (arith, inside)) (part .ensures) in
-    (closing-plan t s (sessionAt (a .head) (a .levels .now) bindings) (i .some-open) (a .at) (name .result) (part .result) (closes .result) (name .ensures) (i .whole) (closes .ensures) taken (part .ensures), i .some-open, small .0, small .1)
+    (closing-plan (decode table) s (sessionAt (a .head) (a .levels .now) bindings) (i .some-open) (a .at) (name .result) (part .result) (closes .result) (name .ensures) (i .whole) (closes .ensures) taken (part .ensures), i .some-open, small .0, small .1)
 
 add-end-tag : tie.Need-add-end-tag
 add-end-tag c = search needs
@@ -81,20 +81,20 @@ stopped-requires : tie.Need-stopped-requires
 stopped-requires c κs = search needs
 
 returns-2 : tie.Need-returns-2
-returns-2 c = λ (t : Table) (bindings : List ℕ).
+returns-2 c = λ (table index own words schemas attributes bindings : List ℕ).
     let a = c .before .before .before .before .before .before .before .before .before .before .args in
     let r = c .before .before .before .before .end-tag in
-    end-fits t (a .scene .now) (sessionAt (a .head) (a .levels .now) bindings) (c .plan-named .result) (a .at) (r .result) _ (r .ensures) (c .before .before .tag .given .1) (c .plan-named .ensures t bindings)
+    end-planned table index (a .scene .now) (sessionAt (a .head) (a .levels .now) bindings) own words schemas attributes (c .plan-named .result) (a .at) (r .result) _ (r .ensures) (c .before .before .tag .given .1) (c .plan-named .ensures table index own words schemas attributes bindings)
 
 returns-3 : tie.Need-returns-3
-returns-3 c = λ (t : Table) (bindings : List ℕ).
+returns-3 c = λ (table index own words schemas attributes bindings : List ℕ).
     let b = c .before .before .before .before .before .before .before .before .before .before in
     let a = b .args in
     let s = a .scene .now in
     let z = sessionAt (a .head) (a .levels .now) bindings in
     let r = c .before .before .before .before .end-tag in
     let x = c .before .before .x .given in
-    end-fits t s z (c .stopped .result) (a .at) (r .result) _ (r .ensures) (x .1) (stopped-fits t s z (c .stopped .result) _ (x .0 .0) (c .stopped .ensures) (stopped-plan t s z (b .pre .0 .some-open) (a .at) (x .0 .0)))
+    end-planned table index s z own words schemas attributes (c .stopped .result) (a .at) (r .result) _ (r .ensures) (x .1) (stopped-planned table index s z own words schemas attributes (c .stopped .result) _ (x .0 .0) (c .stopped .ensures) (stopped-plan (decode table) s z (b .pre .0 .some-open) (a .at) (x .0 .0)))
 
 pub plan-end-spec : {M : Type 1} → statement M
 plan-end-spec =

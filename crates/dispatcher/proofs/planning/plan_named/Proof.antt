@@ -3,7 +3,7 @@ use Prim.Native.Nat.{ℕ}
 use mathlib.Core.List.{List}
 use native.Mathlib.Omega.{arith}
 use borrow.Author.Needs.{needs}
-use Rattle.table.specs.Table.{Table}
+use Rattle.table.specs.Table.{decode}
 use Rattle.dispatcher.specs.Sessions.{sessionAt}
 use Rattle.dispatcher.proofs.EventTurns.{span-small, unlike-named, alike-named}
 use Rattle.dispatcher.proofs.planning.plan_named.Statement.{statement}
@@ -22,19 +22,19 @@ same-name-requires : tie.Need-same-name-requires
 same-name-requires c κs = search needs
 
 returns : tie.Need-returns
-returns c = λ (t : Table) (bindings : List ℕ).
+returns c = λ (table index own words schemas attributes bindings : List ℕ).
     let b = c .before .before .before .before .before .before .before in
     let a = b .args in
     let whole = c .before .before .before .before .span-between in
     let name = c .before .before .name-at in
     let same = c .before .same-name in
-    (unlike-named t (a .scene .now) (sessionAt (a .head) (a .levels .now) bindings) (b .pre .0 .some-open) (a .at) (a .tag) (whole .result) (name .result) (same .result) (whole .ensures) (name .ensures) (same .ensures) (c .if1 .taken), λ e. omega arith)
+    (unlike-named (decode table) (a .scene .now) (sessionAt (a .head) (a .levels .now) bindings) (b .pre .0 .some-open) (a .at) (a .tag) (whole .result) (name .result) (same .result) (whole .ensures) (name .ensures) (same .ensures) (c .if1 .taken), λ e. omega arith)
 
 span-between-requires-2 : tie.Need-span-between-requires-2
 span-between-requires-2 c κs = search needs
 
 returns-2 : tie.Need-returns-2
-returns-2 c = λ (t : Table) (bindings : List ℕ).
+returns-2 c = λ (table index own words schemas attributes bindings : List ℕ).
     let b = c .before .before .before .before .before .before .before .before in
     let a = b .args in
     let i = b .pre .0 in
@@ -43,7 +43,7 @@ returns-2 c = λ (t : Table) (bindings : List ℕ).
     let same = c .before .before .same-name in
     let part = c .span-between2 in
     let small = span-small (a .tag .name .part) (a .tag .name .end) (part .result) (b .pre .2) (b .pre .1) (part .ensures) in (
-      alike-named t (a .scene .now) (sessionAt (a .head) (a .levels .now) bindings) (i .some-open) (a .at) (a .tag) (whole .result) (name .result) (same .result) (whole .ensures) (name .ensures) (same .ensures) (c .before .if1 .left) (part .result) (part .ensures),
+      alike-named (decode table) (a .scene .now) (sessionAt (a .head) (a .levels .now) bindings) (i .some-open) (a .at) (a .tag) (whole .result) (name .result) (same .result) (whole .ensures) (name .ensures) (same .ensures) (c .before .if1 .left) (part .result) (part .ensures),
       i .some-open,
       small .0,
       small .1,

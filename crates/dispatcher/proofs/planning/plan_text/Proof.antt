@@ -1,11 +1,12 @@
 -- `planning::plan_text` meets its contract, by what reading the text answers.
+use Prim.Native.Nat.{ℕ}
 use mathlib.Core.Path.{refl}
+use mathlib.Core.List.{List}
 use native.Mathlib.Omega.{arith}
 use borrow.Author.Needs.{needs}
-use Rattle.table.specs.Table.{Table}
 use Rattle.dispatcher.specs.declared.Session.{Session}
 use Rattle.dispatcher.specs.declared.Planned.the-variants as planned
-use Rattle.dispatcher.proofs.EventTurns.{text-inside, stopped-fits, text-fits}
+use Rattle.dispatcher.proofs.EventTurns.{text-inside, stopped-planned, text-planned}
 use Rattle.dispatcher.proofs.planning.plan_text.Statement.{statement}
 use Rattle.dispatcher.proofs.planning.plan_text.Tie as tie
 
@@ -22,23 +23,23 @@ stopped-requires : tie.Need-stopped-requires
 stopped-requires c κs = search needs
 
 returns : tie.Need-returns
-returns c = λ (t : Table) (z : Session) h.
+returns c = λ (table index own words schemas attributes : List ℕ) (z : Session) h.
     let b = c .before .before .before .before .before in
     let a = b .args in
     let s = a .scene .now in
     let v = c .before .before .before .text-end in
     let e = c .before .end .given in
     let i = text-inside s (a .at) _ (v .result) (v .ensures) (e .1) in
-    text-fits t s z (planned.Text (a .at) (e .0 .0)) (a .at) (v .result) _ (v .ensures) (e .1) (refl, h, omega (arith, b .pre .0, b .pre .1), omega (arith, b .pre .0, i))
+    text-planned table index s z own words schemas attributes (planned.Text (a .at) (e .0 .0)) (a .at) (v .result) _ (v .ensures) (e .1) (refl, h, omega (arith, b .pre .0, b .pre .1), omega (arith, b .pre .0, i))
 
 returns-2 : tie.Need-returns-2
-returns-2 c = λ (t : Table) (z : Session) h.
+returns-2 c = λ (table index own words schemas attributes : List ℕ) (z : Session) h.
     let b = c .before .before .before .before .before .before in
     let a = b .args in
     let s = a .scene .now in
     let v = c .before .before .before .before .text-end in
     let x = c .before .before .x .given in
-    text-fits t s z (c .stopped .result) (a .at) (v .result) _ (v .ensures) (x .1) (stopped-fits t s z (c .stopped .result) _ (x .0 .0) (c .stopped .ensures) refl)
+    text-planned table index s z own words schemas attributes (c .stopped .result) (a .at) (v .result) _ (v .ensures) (x .1) (stopped-planned table index s z own words schemas attributes (c .stopped .result) _ (x .0 .0) (c .stopped .ensures) refl)
 
 pub plan-text-spec : {M : Type 1} → statement M
 plan-text-spec =

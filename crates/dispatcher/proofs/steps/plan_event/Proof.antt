@@ -8,10 +8,10 @@ use Rattle.lexer.specs.declared.Begin.the-variants as begin
 use Rattle.strands.specs.Levels.{levelNames, levelSpaces, levelStrands}
 use Rattle.dispatcher.specs.Sessions.{sessionAt}
 use Rattle.dispatcher.specs.declared.Planned.the-variants as planned
-use Rattle.dispatcher.proofs.EventTurns.{stopped-fits}
+use Rattle.dispatcher.proofs.EventTurns.{stopped-planned}
 use Rattle.dispatcher.proofs.Besides.{text-beside, end-beside, awaited-beside}
 use Rattle.dispatcher.proofs.StartTurns.{innermost, awaited-innermost, start-begins, end-begins, text-begins}
-use Rattle.dispatcher.proofs.PlanTurns.{as-planned, begun-planned}
+use Rattle.dispatcher.proofs.PlanTurns.{begun-planned}
 use borrow.Author.Needs.{needs}
 use Rattle.dispatcher.proofs.steps.plan_event.Statement.{statement}
 use Rattle.dispatcher.proofs.steps.plan_event.Tie as tie
@@ -29,7 +29,7 @@ returns c =
     let s = a .scene .now in
     let z = sessionAt (a .head) (a .levels .now) (a .bindings .now) in
     let i = awaited-innermost (a .table .now) (headerOf (a .table .now)) (a .index .now) s (a .head) (levelNames (a .levels .now)) (a .bindings .now) (levelSpaces (a .levels .now)) (levelStrands (a .levels .now)) (h .ready) (c .before .if1 .taken) in (
-      as-planned (a .table .now) (a .index .now) s z (a .own .now) (a .words .now) (a .schemas .now) (a .attributes .now) (c .plan-awaited .result) _ (c .plan-awaited .ensures (decode (a .table .now)) (a .bindings .now)),
+      c .plan-awaited .ensures (a .table .now) (a .index .now) (a .own .now) (a .words .now) (a .schemas .now) (a .attributes .now) (a .bindings .now),
       h .beside,
       awaited-beside (decode (a .table .now)) (a .table .now) s (a .known .now) z (h .beside) (i .some-open) (c .before .if1 .taken),
     )
@@ -84,7 +84,7 @@ returns-3 c =
     let s = a .scene .now in
     let z = sessionAt (a .head) (a .levels .now) (a .bindings .now) in
     begun-planned (a .table .now) (a .index .now) s (a .head) (a .levels .now) (a .bindings .now) (c .before .before .before .before .before .before .if1 .left) (begin.End _) (c .before .before .before .before .begin-at .result) (c .before .before .before .before .begin-at .ensures) (c .before .before .at2 .given .1) (a .known .now) (a .own .now) (a .words .now) (a .schemas .now) (a .attributes .now) (c .plan-end .result)
-    (as-planned (a .table .now) (a .index .now) s z (a .own .now) (a .words .now) (a .schemas .now) (a .attributes .now) (c .plan-end .result) _ (c .plan-end .ensures (decode (a .table .now)) (a .bindings .now)))
+    (c .plan-end .ensures (a .table .now) (a .index .now) (a .own .now) (a .words .now) (a .schemas .now) (a .attributes .now) (a .bindings .now))
     (c .before .before .before .before .before .before .before .before .before .pre .beside) (end-beside (decode (a .table .now)) (a .table .now) s (a .known .now) z (c .before .before .before .before .before .before .before .before .before .pre .beside) _ (endTagAt s (_ + 2)))
 
 returns-4 : tie.Need-returns-4
@@ -94,7 +94,7 @@ returns-4 c =
     let z = sessionAt (a .head) (a .levels .now) (a .bindings .now) in
     let k = text-begins (a .scene .now) (a .head) (c .before .before .before .before .begin-at .result) (c .before .before .before .before .begin-at .ensures) _ (c .before .before .at3 .given .1) in
     begun-planned (a .table .now) (a .index .now) s (a .head) (a .levels .now) (a .bindings .now) (c .before .before .before .before .before .before .if1 .left) (begin.Text _) (c .before .before .before .before .begin-at .result) (c .before .before .before .before .begin-at .ensures) (c .before .before .at3 .given .1) (a .known .now) (a .own .now) (a .words .now) (a .schemas .now) (a .attributes .now) (c .plan-text .result)
-    (as-planned (a .table .now) (a .index .now) s z (a .own .now) (a .words .now) (a .schemas .now) (a .attributes .now) (c .plan-text .result) _ (c .plan-text .ensures (decode (a .table .now)) z (k .0)))
+    (c .plan-text .ensures (a .table .now) (a .index .now) (a .own .now) (a .words .now) (a .schemas .now) (a .attributes .now) z (k .0))
     (c .before .before .before .before .before .before .before .before .before .pre .beside) (text-beside (decode (a .table .now)) (a .table .now) s (a .known .now) z (c .before .before .before .before .before .before .before .before .before .pre .beside) _ (textEnd s _))
 
 returns-5 : tie.Need-returns-5
@@ -109,7 +109,7 @@ returns-6 c =
     let s = a .scene .now in
     let z = sessionAt (a .head) (a .levels .now) (a .bindings .now) in
     begun-planned (a .table .now) (a .index .now) s (a .head) (a .levels .now) (a .bindings .now) (c .before .before .before .before .before .before .if1 .left) (begin.Stopped (c .before .before .x .given .0 .0)) (c .before .before .before .before .begin-at .result) (c .before .before .before .before .begin-at .ensures) (c .before .before .x .given .1) (a .known .now) (a .own .now) (a .words .now) (a .schemas .now) (a .attributes .now) (c .stopped .result)
-    (as-planned (a .table .now) (a .index .now) s z (a .own .now) (a .words .now) (a .schemas .now) (a .attributes .now) (c .stopped .result) _ (stopped-fits (decode (a .table .now)) s z (c .stopped .result) _ (c .before .before .x .given .0 .0) (c .stopped .ensures) refl))
+    (stopped-planned (a .table .now) (a .index .now) s z (a .own .now) (a .words .now) (a .schemas .now) (a .attributes .now) (c .stopped .result) _ (c .before .before .x .given .0 .0) (c .stopped .ensures) refl)
     (c .before .before .before .before .before .before .before .before .before .pre .beside) (c .before .before .before .before .before .before .before .before .before .pre .beside)
 
 pub plan-event-spec : {M : Type 1} → statement M

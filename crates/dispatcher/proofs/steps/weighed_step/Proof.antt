@@ -5,7 +5,8 @@ use native.Mathlib.Omega.{arith}
 use lib.ListN.{length}
 use Rattle.table.specs.Table.{decode}
 use Rattle.dispatcher.specs.Sessions.{sessionAt}
-use Rattle.dispatcher.specs.Stepping.{Plan, planOf, weighed}
+use Rattle.dispatcher.specs.Stepping.{Plan, planOf}
+use Rattle.dispatcher.specs.Turns.{weighed}
 use Rattle.dispatcher.proofs.PlanTurns.{start-as, text-as, end-as, awaited-as, finished-as, refused-as, start-roomy, text-needs, weighed-turn, stop-weighed}
 use borrow.Author.Needs.{needs}
 use Rattle.dispatcher.proofs.steps.weighed_step.Statement.{statement}
