@@ -208,6 +208,7 @@ static void rig_rules(void) {
     list_rig();
     rule(0, ELEMENT, SCENE, VALIDATE, 0, 1);
     rule(0, ELEMENT, ANY, UNWRAP, 0, 0);
+    rule(0, ATTRIBUTE, ANY, UNWRAP, 0, 0);
     rule(1, ELEMENT, JOINTS, VALIDATE, 1, 2);
     rule(1, ELEMENT, JOINTS, ATTACH, 0, 4);
     rule(1, ELEMENT, MESHES, VALIDATE, 3, 5);
@@ -230,8 +231,10 @@ static void rig_rules(void) {
     rule(3, ATTRIBUTE, ANY, UNWRAP, 0, 3);
     rule(4, ELEMENT, JOINTS, ATTACH, 0, 4);
     rule(4, ELEMENT, ANY, UNWRAP, 0, 4);
+    rule(4, ATTRIBUTE, ANY, UNWRAP, 0, 4);
     rule(5, ELEMENT, WEIGHTS, ATTACH, 0, 5);
     rule(5, ELEMENT, ANY, UNWRAP, 0, 5);
+    rule(5, ATTRIBUTE, ANY, UNWRAP, 0, 5);
 }
 
 static const char *const bones[] = { "hip", "spine", "chest", "neck", "head", "clavicle", "shoulder", "elbow", "wrist", "thumb", "index", "knee", "ankle", "toe", "jaw", "eye", "tail" };
