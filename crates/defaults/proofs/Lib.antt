@@ -5,3 +5,4 @@ pub mod SameUris
 pub mod Former
 pub mod Meeting
 pub mod SameLimits
+pub mod SameEnds

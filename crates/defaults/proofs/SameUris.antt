@@ -21,13 +21,9 @@ use Rattle.table.proofs.Namespaces.{spanAt, spans, span-of}
 use Rattle.uris.specs.Uris.{stands, uriSpanOf, sliceOf, uriPart}
 use Rattle.uris.specs.declared.UriSpan.{UriSpan}
 use Rattle.uris.specs.declared.Source.the-variants.{Table, Scene}
-use Rattle.defaults.specs.Former.{addedWords, Suffices, withAny}
+use Rattle.defaults.specs.Former.{addedWords, Suffices, withAny, later}
 use Rattle.defaults.proofs.Added.{header-more, behind-more, uris-more}
 use Rattle.defaults.proofs.Judged.{accepted-more}
-
--- a part of the table stands n bytes further on, a part of the scene where it stood
-abbrev pub later : ℕ → UriSpan → UriSpan
-later n w = stands (w .source) (sliceOf (w .at + n) (w .at) (w .source)) (w .len)
 
 abbrev moved : ℕ → Listed → Listed
 moved n q = placed (q .at + n) (q .len)

@@ -1,5 +1,5 @@
 -- N3: "An accepted table keeps its former results once given, for each mode and kind that lacks an any rule, one with unwrap, next mode its own, if 128
--- rules suffice." The table with these rules, in bytes; when they suffice; when every strand meets a rule. Definitions.
+-- rules suffice." The table with these rules, in bytes; when they suffice; where its URIs stand; when every strand meets a rule. Definitions.
 use Prim.Native.Nat.{ℕ, _+_, _*_, _/_, _%_, _^_, _≤_, _<_}
 use mathlib.Core.Path.{_≡_}
 use mathlib.Core.List.{List, [], _∷_, _++_, map}
@@ -9,6 +9,8 @@ use Rattle.laws.specs.Lists.{any, tabulate}
 use Rattle.laws.specs.Gather.{gather}
 use Rattle.table.specs.Table.{Table, headerOf, anyClass, namesClass, rulesOf, allRules}
 use Rattle.table.specs.declared.Rule.{Rule}
+use Rattle.uris.specs.Uris.{stands, sliceOf}
+use Rattle.uris.specs.declared.UriSpan.{UriSpan}
 use Rattle.reader.specs.Events.{events}
 use Rattle.model.specs.Theory.{Record}
 use Rattle.model.specs.Tree.{treeOf}
@@ -46,6 +48,10 @@ withAny t =
     ++ take (4 * headerOf t .rules) (drop 4 t)
     ++ gather wordBytes (addedWords t)
     ++ drop (4 + 4 * headerOf t .rules) t
+
+-- "a listed URI stands 4 bytes further on for each rule added": n bytes further on in the table; a part of the scene stands where it stood
+abbrev pub later : ℕ → UriSpan → UriSpan
+later n w = stands (w .source) (sliceOf (w .at + n) (w .at) (w .source)) (w .len)
 
 -- every strand meets a rule everywhere: in each mode, of each kind, for every class
 abbrev pub Meets : List ℕ → Type 0

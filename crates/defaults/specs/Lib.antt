@@ -1,3 +1,4 @@
 pub mod Former
 pub mod Meeting
+pub mod Ends
 pub mod FormerExamples
