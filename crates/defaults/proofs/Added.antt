@@ -30,7 +30,7 @@ use Rattle.table.specs.declared.Fields.{Fields}
 use Rattle.table.specs.declared.Rule.{Rule}
 use Rattle.table.proofs.Accepted.{passed, header-in}
 use Rattle.table.proofs.Rules.{written-says}
-use Rattle.defaults.specs.Former.{unwrapAny, lackedBy, addedWords, wordBytes, withAny}
+use Rattle.defaults.specs.Former.{unwrapAny, lackedBy, addedWords, wordBytes, raisedCount, withAny}
 
 -- ---- a word
 abbrev pub anyFields : ℕ → ℕ → Fields
@@ -189,7 +189,7 @@ module _ (t : List ℕ) (a : Accepted t ≡ true) where
   more = addedWords t
 
   abbrev head : List ℕ
-  head = take 3 t ++ ((h .rules + length more) ∷ [])
+  head = take 3 t ++ (raisedCount t ∷ [])
 
   abbrev old : List ℕ
   old = take (4 * h .rules) (drop 4 t)
@@ -204,7 +204,7 @@ module _ (t : List ℕ) (a : Accepted t ≡ true) where
   three = length-take-le 3 t (omega (arith, enough))
 
   four : length head ≡ 4
-  four = omega (arith, length-append (take 3 t) ((h .rules + length more) ∷ []), three)
+  four = omega (arith, length-append (take 3 t) (raisedCount t ∷ []), three)
 
   length-old : length old ≡ 4 * h .rules
   length-old = length-take-le (4 * h .rules) (drop 4 t) (omega (arith, enough, length-drop 4 t))
@@ -229,7 +229,7 @@ module _ (t : List ℕ) (a : Accepted t ≡ true) where
   head-byte i l = front-byte i (omega arith) ∙ List·getD-append head old 0 i (omega (arith, four))
 
   first-byte : (i : ℕ) → i < 3 → getD (withAny t) i 0 ≡ getD t i 0
-  first-byte i l = head-byte i (omega arith) ∙ List·getD-append (take 3 t) ((h .rules + length more) ∷ []) 0 i (omega (arith, three)) ∙ getD-take 3 t i 0 l
+  first-byte i l = head-byte i (omega arith) ∙ List·getD-append (take 3 t) (raisedCount t ∷ []) 0 i (omega (arith, three)) ∙ getD-take 3 t i 0 l
 
   old-byte : (i : ℕ) → i < 4 * h .rules → getD (withAny t) (4 + i) 0 ≡ getD t (4 + i) 0
   old-byte i l =
@@ -241,7 +241,7 @@ module _ (t : List ℕ) (a : Accepted t ≡ true) where
 
   pub header-more : headerOf (withAny t) ≡ raised h (length more)
   header-more =
-      let e : getD (withAny t) 3 0 ≡ h .rules + length more = head-byte 3 (omega arith) ∙ getD-at (take 3 t) (h .rules + length more) [] 0 3 three in
+      let e : getD (withAny t) 3 0 ≡ h .rules + length more = head-byte 3 (omega arith) ∙ getD-at (take 3 t) (raisedCount t) [] 0 3 three in
       λ i. record { namespaces = first-byte 0 (omega arith) i; modes = first-byte 1 (omega arith) i; schemas = first-byte 2 (omega arith) i; rules = e i }
 
   pub behind-more : drop (4 + 4 * (h .rules + length more)) (withAny t) ≡ back

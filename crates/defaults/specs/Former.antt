@@ -36,15 +36,19 @@ addedWords t =
 abbrev pub wordBytes : ℕ → List ℕ
 wordBytes w = w / 2 ^ 24 % 2 ^ 8 ∷ w / 2 ^ 16 % 2 ^ 8 ∷ w / 2 ^ 8 % 2 ^ 8 ∷ w % 2 ^ 8 ∷ []
 
+-- "R raised by as many"
+abbrev pub raisedCount : List ℕ → ℕ
+raisedCount t = headerOf t .rules + length (addedWords t)
+
 -- "if 128 rules suffice"
 abbrev pub Suffices : List ℕ → Type 0
-Suffices t = headerOf t .rules + length (addedWords t) ≤ 128
+Suffices t = raisedCount t ≤ 128
 
--- "R raised by as many"; the rules stand behind the table's own, "their place among the rules is of no account"
+-- the rules stand behind the table's own, "their place among the rules is of no account"
 unfoldable pub withAny : List ℕ → List ℕ
 withAny t =
     take 3 t
-    ++ ((headerOf t .rules + length (addedWords t)) ∷ [])
+    ++ (raisedCount t ∷ [])
     ++ take (4 * headerOf t .rules) (drop 4 t)
     ++ gather wordBytes (addedWords t)
     ++ drop (4 + 4 * headerOf t .rules) t
