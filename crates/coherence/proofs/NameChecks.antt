@@ -1,19 +1,28 @@
--- Bytes that are a name part or a name as a whole, told by what reads them alone: a part that they cut is one.
---     part-past, part-stopped, part-cut     a part from a place on, by the ways that reading it ends
---     name-alone, name-colon, ..            a name, by what stands behind its first part
-use Prim.Native.Nat.{ℕ, _+_, _-_, _≤_, _<_}
+-- Bytes that are a name part or a name as a whole, told by what reads them alone: a part that they cut is one where a character ends with them.
+--     part-past, part-end, part-bad, part-long     a part from a place on, by the ways that reading it ends, but for
+--     whole-quick, Cutting, cutting-*              one that the bytes cut: by their last byte, or a turn of `ends_whole`
+--     name-alone, name-colon, ..                   a name, by what stands behind its first part
+use Prim.Native.Nat.{ℕ, zero, suc, _+_, _-_, _≤_, _<_, zero-le}
 use mathlib.Core.Path.{_≡_, refl, sym, ap, subst, _∙_}
 use mathlib.Core.List.{List, [], _∷_, _++_}
-use mathlib.Core.Bool.{Bool, true, false}
+use mathlib.Core.Bool.{Bool, true, false, cond, and-true}
 use native.Mathlib.Omega.{arith}
 use borrow.Author.Tests.{eq-eqb, ne-eqb, lt-ltb, eqb-false}
-use lib.ListN.{length, drop, getD, length-append, length-drop, List·getD-append}
+use lib.Arith.{lt-of-le-ne}
+use lib.ListN.{length, drop, getD, length-append, List·getD-append}
 use lib.Seq.{getD-at}
 use lib.Dec.{eqb}
-use Rattle.laws.specs.Reading.{RunNext, go, follow, run, run-go, run-stop, drop-here}
+use Rattle.laws.specs.Reading.{RunNext, go, stop, follow, run, run-go, run-stop, drop-here}
 use Rattle.laws.proofs.Holds.{holds-cond}
+use Rattle.laws.proofs.Flags.{differ}
+use Rattle.characters.specs.Utf8.{isForm}
+use Rattle.characters.specs.Forms.{fresh, nextForm, formOf, formFrom, Bounded}
+use Rattle.characters.specs.Deciding.{begins}
+use Rattle.characters.specs.declared.Form.{Form}
+use Rattle.characters.proofs.Laws.{form-more, whole-left, ascii-whole, ascii-breaks, begun-left}
 use Rattle.lexer.specs.Stops.{afterRead}
-use Rattle.lexer.specs.Names.{startLen, nameLen, partStep, partEnd, nameOf, prefixedAt, nameAt}
+use Rattle.lexer.specs.Characters.{withByte}
+use Rattle.lexer.specs.Names.{PartState, partState, partSet, partWhole, partStep, partEnd, nameOf, prefixedAt, nameAt}
 use Rattle.lexer.specs.Whole.{partTo, nameTo, isPart, isWholeName}
 use Rattle.lexer.specs.declared.Stop.{Stop}
 use Rattle.lexer.specs.declared.Stop.the-variants.{Bad, Long, Cut}
@@ -21,7 +30,8 @@ use Rattle.lexer.specs.declared.Read.{Read}
 use Rattle.lexer.specs.declared.Read.the-variants as read
 use Rattle.lexer.specs.declared.Named.the-variants as named
 use Rattle.lexer.proofs.Inside.{ReadInside, PartTo, part-inside}
-use Rattle.lexer.proofs.Stable.{start-same, name-same, part-stable}
+use Rattle.lexer.proofs.Parts.{part-refuses, no-zero-start, no-zero-char}
+use Rattle.lexer.proofs.Stable.{part-stable}
 
 -- a name whose last part is read: it ends where the part does
 name-to-part : (n at part : ℕ) (r : Read) → partTo n r ≡ nameTo n (afterRead named.Stopped r (λ (end : ℕ). nameOf at part end))
@@ -37,6 +47,59 @@ bad-cut j e = let z : _≡_ {A = ℕ} 0 1 = cc in absurd (omega arith)
 long-cut : {A : Type 0} (j : ℕ) → read.Stopped (Long j) ≡ read.Stopped Cut → A
 long-cut j e = let z : _≡_ {A = ℕ} 0 1 = cc in absurd (omega arith)
 
+abbrev behind : PartState → ℕ → PartState
+behind q b = partState (q .room - 1) (withByte (q .begun) b)
+
+-- a step behind which the machine is cut: the byte is allowed, and there is room
+steps-on : (q : PartState) (b i : ℕ) (k : PartState → Read) → follow (partStep q b i) k ≡ read.Stopped Cut → (begins (partSet q) (q .begun) b ≡ true) × (q .room ≡ 0 → ⊥)
+steps-on q b i k =
+    holds-cond Turn (begins (partSet q) (q .begun) b)
+    (λ e. holds-cond Turn (eqb (q .room) 0) (λ z f. long-cut i f) (λ z f. (e, eqb-false (q .room) 0 z)))
+    (λ e. holds-cond Out (partWhole q) (λ w f. differs i Cut f) (λ w f. bad-cut i f))
+  where
+    Out : Read → Type 0
+    Out r = r ≡ read.Stopped Cut → (begins (partSet q) (q .begun) b ≡ true) × (q .room ≡ 0 → ⊥)
+
+    Turn : RunNext PartState Read → Type 0
+    Turn n = Out (follow n k)
+
+-- a byte that no name has ends a part, or breaks it
+zero-stops : (q : PartState) (i : ℕ) → partStep q 0 i ≡ stop (cond (partWhole q) (read.End i) (read.Stopped (Bad i)))
+zero-stops q i = rw (part-refuses q 0 (omega arith) no-zero-start no-zero-char)
+
+-- a byte below 80 that is allowed stands behind a whole character, and is one
+low-whole : (q : PartState) (b : ℕ) → b < 0x80 → begins (partSet q) (q .begun) b ≡ true → withByte (q .begun) b ≡ []
+unfolding withByte
+low-whole q b h = by (q .begun)
+  where
+    by : (begun : List ℕ) → begins (partSet q) begun b ≡ true → cond (isForm (begun ++ (b ∷ []))) [] (begun ++ (b ∷ [])) ≡ []
+    by [] e = rw (ascii-whole b h)
+    by (a ∷ begun) e = absurd (differ (sym e ∙ ascii-breaks (partSet q) a begun b h))
+
+-- the form of bytes that are begun is another than that of none
+fresh-left : (bytes : List ℕ) → eqb (formOf bytes .left) 4 ≡ eqb (length bytes) 0
+unfolding formOf formFrom
+fresh-left [] = refl
+fresh-left (a ∷ bytes) = ne-eqb (formOf (a ∷ bytes) .left) 4 (λ e. omega (arith, begun-left a bytes)) ∙ sym (ne-eqb (length (a ∷ bytes)) 0 (λ e. omega arith))
+
+part-to : (w : Bool) (n : ℕ) → w ≡ partTo n (cond w (read.End n) (read.Stopped (Bad n)))
+part-to true n = sym (eq-eqb n n refl)
+part-to false n = refl
+
+-- a part from `at` on that l cuts, read up to i: the machine over l, and with a byte behind that no name has
+pub record Along (l : List ℕ) (at i : ℕ) (q : PartState) : Type 0 where
+  pub most : i ≤ length l
+  pub room : q .room + i ≡ at + 64
+  pub cut : run (read.Stopped Cut) partStep q (drop i l) i ≡ read.Stopped Cut
+  pub left : run (read.Stopped Cut) partStep q (drop i (l ++ (0 ∷ []))) i ≡ partEnd (l ++ (0 ∷ [])) at
+
+-- the same, and f what the bytes of a character that is not whole say
+pub record Cutting (l : List ℕ) (at : ℕ) (f : Form) (i : ℕ) : Type 0 where
+  pub state : PartState
+  pub along : Along l at i state
+  pub said : f ≡ formOf (state .begun)
+  pub small : Bounded f
+
 module _ (l : List ℕ) where
   -- with a byte behind that no name has
   abbrev ended : List ℕ
@@ -48,68 +111,110 @@ module _ (l : List ℕ) where
   ended-byte : getD ended (length l) 0 ≡ 0
   ended-byte = getD-at l 0 [] 0 (length l) refl
 
-  ended-name : nameLen ended (length l) ≡ 0
-  unfolding nameLen
-  ended-name = rw (lt-ltb (length l) (length ended) (omega (arith, ended-long)), ended-byte)
-
-  module _ (i : ℕ) (h : i < length l) where
-    step-same : (room b b′ : ℕ) → partStep l room b i ≡ partStep ended room b′ i
-    step-same room b b′ =
-        let e = List·getD-append l (0 ∷ []) 0 i h in
-        let m : i < length ended = omega (arith, ended-long) in
-        rw (start-same l ended i i h m e, name-same l ended i i h m e)
-
-  -- the machine that l cuts reads all of it, and stops behind it
-  through : (rest : List ℕ) (room i : ℕ) → drop i l ≡ rest → i ≤ length l → room ≤ 64 → (room ≡ 64 → i < length l)
-      → run (read.Stopped Cut) (partStep l) room rest i ≡ read.Stopped Cut
-      → run (read.Stopped Cut) (partStep ended) room (drop i ended) i ≡ read.End (length l)
-  unfolding run
-  through [] room i d le few first e =
-      let at-end : i ≡ length l = omega (arith, length-drop i l, ap length d) in
-      let n : nameLen ended i ≡ 0 = ap (nameLen ended) at-end ∙ ended-name in
-      let f : eqb room 64 ≡ false = ne-eqb room 64 (λ q. omega (arith, first q)) in
-      sym (run-stop (read.Stopped Cut) (partStep ended) _ room ended i refl (omega (arith, ended-long)) (read.End i) (simp (f, n))) ∙ ap read.End at-end
-  through (b ∷ rest) room i d le few first e =
-      let lt : i < length l = omega (arith, length-drop i l, ap length d) in
-      let here : getD l i 0 ∷ drop (i + 1) l ≡ b ∷ rest = sym (drop-here l i lt) ∙ d in
-      let behind : drop (i + 1) l ≡ rest = cc in
-      by lt (λ q m n f. through rest q (i + 1) behind (omega arith) m (λ z. absurd (n z)) f) (step-same i lt room b (getD ended i 0)) e
-    where
-      Goal : Type 0
-      Goal = run (read.Stopped Cut) (partStep ended) room (drop i ended) i ≡ read.End (length l)
-
-      Further : Type 0
-      Further =
-          (q : ℕ) → q ≤ 64 → (q ≡ 64 → ⊥) → run (read.Stopped Cut) (partStep l) q rest (i + 1) ≡ read.Stopped Cut
-          → run (read.Stopped Cut) (partStep ended) q (drop (i + 1) ended) (i + 1) ≡ read.End (length l)
-
-      Turn : RunNext ℕ Read → Type 0
-      Turn n = n ≡ partStep ended room (getD ended i 0) i → follow n (λ (q : ℕ). run (read.Stopped Cut) (partStep l) q rest (i + 1)) ≡ read.Stopped Cut → Goal
-
-      next : i < length l → Further → (q : ℕ) → q ≤ 64 → (q ≡ 64 → ⊥) → Turn (go q)
-      next lt ih q m n s f =
-          sym (run-go (read.Stopped Cut) (partStep ended) _ room ended i refl (omega (arith, ended-long)) q s) ∙ ih q m n f
-
-      by : i < length l → Further → Turn (partStep l room b i)
-      by lt ih =
-          holds-cond Turn (eqb room 64)
-          (λ p. holds-cond Turn (eqb (startLen l i) 0) (λ q s f. bad-cut i f) (λ q. next lt ih 63 (omega arith) (λ z. omega arith)))
-          (λ p. holds-cond Turn (eqb (nameLen l i) 0) (λ q s f. differs i Cut f)
-          (λ q. holds-cond Turn (eqb room 0) (λ r s f. long-cut i f)
-          (λ r. next lt ih (room - 1) (omega arith) (λ z. omega (arith, eqb-false room 64 p)))))
-
+  -- ---- a part that l cuts
   module _ (at : ℕ) where
-    part-whole : at < length l → partEnd l at ≡ read.Stopped Cut → partEnd ended at ≡ read.End (length l)
+    along-starts : at ≤ length l → partEnd l at ≡ read.Stopped Cut → Along l at at (partState 64 [])
     unfolding partEnd
-    part-whole h e = through (drop at l) 64 at refl (omega arith) (omega arith) (λ z. h) e
+    along-starts h e = record { most = h; room = omega arith; cut = e; left = refl }
 
+    module _ (i : ℕ) (q : PartState) (a : Along l at i q) (h : i < length l) where
+      along-goes : (begins (partSet q) (q .begun) (getD l i 0) ≡ true) × (q .room ≡ 0 → ⊥)
+      unfolding run
+      along-goes =
+          let f : PartState → Read = λ q′. run (read.Stopped Cut) partStep q′ (drop (i + 1) l) (i + 1) in
+          let e : follow (partStep q (getD l i 0) i) f ≡ read.Stopped Cut = ap (λ (m : List ℕ). run (read.Stopped Cut) partStep q m i) (sym (drop-here l i h)) ∙ a .cut in
+          steps-on q (getD l i 0) i f e
+
+      along-on : Along l at (i + 1) (behind q (getD l i 0))
+      along-on =
+          let r = a .room in
+          let n = along-goes .1 in
+          let g : go (behind q (getD l i 0)) ≡ partStep q (getD l i 0) i = rw (along-goes .0, ne-eqb (q .room) 0 n) in
+          record {
+            most = omega arith;
+            room = omega (arith, lt-of-le-ne zero-le (λ e. n (sym e)));
+            cut = run-go (read.Stopped Cut) partStep (read.Stopped Cut) q l i (a .cut) h (behind q (getD l i 0)) g;
+            left = run-go (read.Stopped Cut) partStep (partEnd ended at) q ended i (a .left) (omega (arith, ended-long)) (behind q (getD l i 0)) (rw (List·getD-append l (0 ∷ []) 0 i h) g);
+          }
+
+    along-to : partEnd l at ≡ read.Stopped Cut → (n j : ℕ) → at + n ≡ j → j ≤ length l → (q : PartState) × Along l at j q
+    along-to e zero j k h = let z : at ≡ j = omega arith in (partState 64 [], rw (← z) (along-starts (omega arith) e))
+    along-to e (suc n) j k h =
+        let t = along-to e n (at + n) refl (omega arith) in
+        let z : at + n + 1 ≡ j = omega arith in
+        subst (λ (m : ℕ). (q : PartState) × Along l at m q) z (behind (t .0) (getD l (at + n) 0), along-on (at + n) (t .0) (t .1) (omega arith))
+
+    module _ (q : PartState) (a : Along l at (length l) q) where
+      along-ends : cond (partWhole q) (read.End (length l)) (read.Stopped (Bad (length l))) ≡ partEnd ended at
+      along-ends =
+          run-stop (read.Stopped Cut) partStep (partEnd ended at) q ended (length l) (a .left) (omega (arith, ended-long)) _
+          (rw ended-byte (sym (zero-stops q (length l))))
+
+      along-told : at < length l → eqb (length (q .begun)) 0 ≡ partTo (length l) (partEnd ended at)
+      along-told h =
+          let w : partWhole q ≡ eqb (length (q .begun)) 0 = simp (ne-eqb (q .room) 64 (λ e. omega (arith, a .room)), and-true) in
+          sym w ∙ part-to (partWhole q) (length l) ∙ ap (partTo (length l)) along-ends
+
+    module _ (h : at < length l) (e : partEnd l at ≡ read.Stopped Cut) where
+      -- by the last byte
+      pub whole-quick : getD l (length l - 1) 0 < 0x80 → true ≡ partTo (length l) (partEnd ended at)
+      whole-quick low =
+          let i : ℕ = length l - 1 in
+          let t = along-to e (i - at) i (omega arith) (omega arith) in
+          let z = low-whole (t .0) (getD l i 0) low (along-goes i (t .0) (t .1) (omega arith) .0) in
+          let k : i + 1 ≡ length l = omega arith in
+          let q = behind (t .0) (getD l i 0) in
+          sym (ap (λ (m : List ℕ). eqb (length m) 0) z) ∙ along-told q (subst (λ (m : ℕ). Along l at m q) k (along-on i (t .0) (t .1) (omega arith))) h
+
+      pub cutting-starts : (f : Form) → (f ≡ fresh) × Bounded f → Cutting l at f at
+      unfolding formOf formFrom
+      cutting-starts f k = record { state = partState 64 []; along = along-starts (omega arith) e; said = k .0; small = k .1 }
+
+    module _ (f : Form) (i : ℕ) (r : Cutting l at f i) where
+      pub cutting-ends : at < length l → length l ≤ i → eqb (f .left) 4 ≡ partTo (length l) (partEnd ended at)
+      cutting-ends h past =
+          let q = r .state in
+          let k : i ≡ length l = omega (arith, r .along .most) in
+          ap (λ (g : Form). eqb (g .left) 4) (r .said) ∙ fresh-left (q .begun) ∙ along-told q (rw k at (r .along)) h
+
+      module _ (h : i < length l) (g : Form) (k : (g ≡ nextForm f (getD l i 0)) × Bounded g) where
+        abbrev q : PartState
+        q = r .state
+
+        next-said : g ≡ nextForm (formOf (q .begun)) (getD l i 0)
+        next-said = k .0 ∙ ap (λ (x : Form). nextForm x (getD l i 0)) (r .said)
+
+        -- whether the byte ends a character
+        next-whole : isForm (q .begun ++ (getD l i 0 ∷ [])) ≡ eqb (g .left) 0
+        next-whole = whole-left (partSet q) (q .begun) (getD l i 0) (along-goes i q (r .along) h .0) ∙ ap (λ (x : Form). eqb (x .left) 0) (sym next-said)
+
+        pub cutting-on : (g .left ≡ 0 → ⊥) → Cutting l at g (i + 1)
+        unfolding withByte
+        cutting-on z =
+            record {
+              state = behind q (getD l i 0);
+              along = along-on i q (r .along) h;
+              said = next-said ∙ sym (form-more (q .begun) (getD l i 0)) ∙ rw (next-whole, ne-eqb (g .left) 0 z);
+              small = k .1;
+            }
+
+        pub cutting-whole : g .left ≡ 0 → (f′ : Form) → (f′ ≡ fresh) × Bounded f′ → Cutting l at f′ (i + 1)
+        unfolding withByte formOf formFrom
+        cutting-whole z f′ n =
+            record {
+              state = behind q (getD l i 0);
+              along = along-on i q (r .along) h;
+              said = n .0 ∙ rw (next-whole, eq-eqb (g .left) 0 z);
+              small = n .1;
+            }
+
+    -- ---- the other ways out of a part from a place on
     part-kept : (r : Read) → r ≡ partEnd l at → (r ≡ read.Stopped Cut → ⊥) → partEnd ended at ≡ r
     part-kept r e n = part-stable l (0 ∷ []) at (λ q. n (e ∙ q)) ∙ sym e
 
     part-ends : (j : ℕ) → read.End j ≡ partEnd l at → (at < j) × (j < length l)
     part-ends j e = let h : PartTo l at j = subst (ReadInside (PartTo l at) l at) (sym e) (part-inside l at) in (h .0, h .1)
 
-    -- the ways out of a part from a place on
     pub part-past : length l ≤ at → false ≡ partTo (length l) (partEnd ended at)
     part-past h = by (partEnd ended at) (part-inside ended at)
       where
@@ -131,8 +236,8 @@ module _ (l : List ℕ) where
         pub part-long : (j : ℕ) → x ≡ Long j → false ≡ partTo (length l) (partEnd ended at)
         part-long j f = rw (part-kept (read.Stopped (Long j)) (sym (q ∙ ap read.Stopped f) ∙ a) (long-cut j))
 
-        pub part-cut : at < length l → x ≡ Cut → true ≡ partTo (length l) (partEnd ended at)
-        part-cut h f = rw (part-whole h (sym a ∙ q ∙ ap read.Stopped f)) (sym (eq-eqb (length l) (length l) refl))
+        pub part-cut : x ≡ Cut → partEnd l at ≡ read.Stopped Cut
+        part-cut f = sym a ∙ q ∙ ap read.Stopped f
 
   pub is-part : (r : Bool) → r ≡ partTo (length l) (partEnd ended 0) → r ≡ isPart l
   unfolding isPart
@@ -161,20 +266,22 @@ module _ (l : List ℕ) where
         rw (first-part, lt-ltb j (length ended) (omega (arith, ended-long)), List·getD-append l (0 ∷ []) 0 j h, ne-eqb (getD l j 0) 0x3A c)
         (sym (ne-eqb j (length l) (λ q. omega arith)))
 
-  name-alone-cut : 0 < length l → partEnd l 0 ≡ read.Stopped Cut → isPart l ≡ isWholeName l
+  -- a part that l cuts ends with it, or breaks there
+  name-alone-cut : partEnd l 0 ≡ read.Stopped Cut → isPart l ≡ isWholeName l
   unfolding isPart isWholeName nameAt
-  name-alone-cut h e = rw (part-whole 0 h e, lt-ltb (length l) (length ended) (omega (arith, ended-long)), ended-byte)
-
-name-none : isPart [] ≡ isWholeName []
-unfolding isPart isWholeName nameAt partEnd run startLen
-name-none = refl
+  name-alone-cut e =
+      let t = along-to 0 e (length l) (length l) (omega arith) (omega arith) in
+      by (partWhole (t .0)) (along-ends 0 (t .0) (t .1))
+    where
+      by : (w : Bool) → cond w (read.End (length l)) (read.Stopped (Bad (length l))) ≡ partEnd ended 0 → isPart l ≡ isWholeName l
+      by true f = rw (← f, lt-ltb (length l) (length ended) (omega (arith, ended-long)), ended-byte)
+      by false f = rw (← f)
 
 alone : (l : List ℕ) (x : Stop) → read.Stopped x ≡ partEnd l 0 → isPart l ≡ isWholeName l
 unfolding isPart isWholeName nameAt
 alone l (Bad j) e = rw (part-kept l 0 (read.Stopped (Bad j)) e (bad-cut j))
 alone l (Long j) e = rw (part-kept l 0 (read.Stopped (Long j)) e (long-cut j))
-alone [] Cut e = name-none
-alone (b ∷ l) Cut e = name-alone-cut (b ∷ l) (omega arith) (sym e)
+alone l Cut e = name-alone-cut l (sym e)
 
 -- no part is read to its end: a part alone, or no name
 pub name-alone : (l : List ℕ) (v : Read) → v ≡ partEnd l 0 → (x : Stop) → v ≡ read.Stopped x → (r : Bool) → r ≡ isPart l → r ≡ isWholeName l

@@ -1,14 +1,19 @@
 // Spans of a scene, and the names that they are to hold.
+use characters::forms::fresh_form;
+use characters::forms::next_form;
 use compare::part_of;
 use lexer::Read;
 use lexer::Stop;
 use lexer::names::part_end;
 use reader::Span;
 ghost use mathlib.Core.Path.{_≡_};
+ghost use Prim.Native.Nat.{_<_};
 ghost use mathlib.Core.List.{[], _∷_, _++_};
 ghost use lib.ListN.{length};
 ghost use Rattle.lexer.specs.Names.{partEnd};
 ghost use Rattle.lexer.specs.Whole.{partTo, isPart, isWholeName};
+ghost use Rattle.lexer.specs.declared.Read.the-variants as read;
+ghost use Rattle.lexer.specs.declared.Stop.the-variants.{Cut};
 ghost use Rattle.coherence.specs.Fitting.{spanInside};
 ghost use Rattle.coherence.specs.Checks.{nameFits};
 
@@ -20,6 +25,27 @@ pub fn inside(scene: &[u8], w: Span) -> bool
         return false;
     }
     w.at <= scene.len() - w.len
+}
+
+// Does a character end where the bytes do, of which a part from a place on is cut by their end?
+fn ends_whole(name: &[u8], at: usize) -> bool
+    requires { ⌜ (at < length (now name)) × (partEnd (now name) at ≡ read.Stopped Cut) ⌝ }
+    ensures { λ r. ⌜ r ≡ partTo (length (now (name .entry))) (partEnd (now (name .entry) ++ (0 ∷ [])) at) ⌝ }
+{
+    let len = name.len();
+    if name[len - 1] < 0x80 {
+        return true;
+    }
+    let mut f = fresh_form();
+    let mut i = at;
+    while i < len {
+        f = next_form(f, name[i]);
+        i += 1;
+        if f.left == 0 {
+            f = fresh_form();
+        }
+    }
+    f.left == 4
 }
 
 // Is what stands from a place on a name part, up to the last byte?
@@ -34,7 +60,7 @@ fn ends_as_part(name: &[u8], at: usize) -> bool
         Read::Stopped(x) => match x {
             Stop::Bad(_) => false,
             Stop::Long(_) => false,
-            Stop::Cut => true,
+            Stop::Cut => ends_whole(name, at),
         },
     }
 }

@@ -8,17 +8,20 @@ use mathlib.Core.Bool.{Bool, true, false, cond, not, _||_}
 use mathlib.Core.Logic.{_⊎_, inl, inr, ⊎-elim}
 use native.Mathlib.Omega.{arith}
 use borrow.Author.Tests.{eqb-true, eq-eqb, lt-ltb}
-use lib.ListN.{length, drop, getD, length-append}
+use lib.ListN.{length, getD, length-append}
 use lib.Dec.{eqb}
 use Rattle.laws.specs.Reading.{run, le-or-lt, drop-out}
+use Rattle.characters.specs.Deciding.{begins}
+use Rattle.characters.specs.declared.Set.the-variants as set
+use Rattle.lexer.specs.Computing.{computing}
 use Rattle.lexer.specs.Stops.{afterRead, afterName}
-use Rattle.lexer.specs.Names.{spacesEnd, startLen, partStep, partEnd, nameAt}
+use Rattle.lexer.specs.Names.{spacesEnd, nameAt}
 use Rattle.lexer.specs.Values.{valueEnd}
 use Rattle.lexer.specs.Tags.{wanted, equalsEnd, attrOf, quotedAt, attributeAt, slashAt, turnBehind, turnAt, TagRead, tagStopped, fullTurn, attrThen, turnThen, attrsFrom, tagAt, endTagAt}
 use Rattle.lexer.specs.Misc.{miscEnd}
 use Rattle.lexer.specs.Begins.{stoppedAhead, miscAhead, opensMisc, markupAt, eitherAt, ending, aheadAt, aheadThen, beginAt}
 use Rattle.lexer.specs.declared.Stop.{Stop}
-use Rattle.lexer.specs.declared.Stop.the-variants.{Bad, Cut}
+use Rattle.lexer.specs.declared.Stop.the-variants.{Bad, Long, Cut}
 use Rattle.lexer.specs.declared.Read.{Read}
 use Rattle.lexer.specs.declared.Read.the-variants as read
 use Rattle.lexer.specs.declared.Name.{Name}
@@ -39,9 +42,10 @@ use Rattle.lexer.specs.declared.Ahead.the-variants as ahead
 use Rattle.lexer.proofs.Inside.{ReadInside, SpacesTo, spaces-inside, NameInside, NamedInside, name-inside, ByteTo, wanted-inside, EqualsTo, equals-inside, AttrInside, AttributedInside, attribute-inside, TurnInside, turn-inside}
 use Rattle.lexer.proofs.Stable.{spaces-stable, name-stable, wanted-stable, equals-stable, attribute-stable, turn-stable}
 use Rattle.misc.proofs.BeginLaws.{begin-is, begin-held, CutAhead, ahead-stable}
-use Rattle.demands.proofs.CompletedForms.{Rest}
+use Rattle.lexer.proofs.Parts.{no-gt-char}
+use Rattle.demands.specs.Answers.{Overfull}
 use Rattle.demands.proofs.MiscCompleted.{misc-completed, misc-begins}
-use Rattle.demands.proofs.CompletedParts.{Byte, byte-in, byte-kept, read-so, spaces-here, spaces-completed, part-begins, part-stops, NameDone, name-completed, value-here, ValueDone, value-completed}
+use Rattle.demands.proofs.CompletedParts.{or-full, Byte, byte-in, byte-kept, Rest, read-so, spaces-here, spaces-completed, letter-part, NameDone, name-completed, value-here, ValueDone, value-completed}
 
 -- ---- an attribute
 wanted-here : (s : List ℕ) (i b : ℕ) → Byte s i b → wanted s i b ≡ read.End (i + 1)
@@ -73,6 +77,10 @@ equals-by : (s : List ℕ) (at : ℕ) → equalsEnd s at ≡ read.Stopped Cut �
 unfolding equalsEnd
 equals-by s at e = e
 
+no-equals-char : begins set.Name [] 0x3D ≡ false
+unfolding computing
+no-equals-char = refl
+
 -- its rest, up to its quote
 pub record AttrDone (s : List ℕ) (at : ℕ) : Type 0 where
   pub more : List ℕ
@@ -89,7 +97,7 @@ module _ (s : List ℕ) (at : ℕ) where
         few = omega (arith, length-append (n .more) w, n .few);
         done =
             λ u.
-            let d = n .done 0x3D (0x27 ∷ 0x27 ∷ u) refl refl in
+            let d = n .done 0x3D (0x27 ∷ 0x27 ∷ u) no-equals-char refl in
             let i = d .0 .end in
             let S = s ++ (n .more ++ (0x3D ∷ 0x27 ∷ 0x27 ∷ u)) in
             let b0 = byte-in s (n .more) (0x3D ∷ 0x27 ∷ 0x27 ∷ u) 0 i (omega (arith, d .2)) (omega arith) in
@@ -165,7 +173,7 @@ module _ (s : List ℕ) (at : ℕ) where
               );
         }
 
-  pub attribute-completed : at ≤ length s → attributeAt s at ≡ attributed.Stopped Cut → AttrDone s at
+  pub attribute-completed : at ≤ length s → attributeAt s at ≡ attributed.Stopped Cut → AttrDone s at ⊎ Overfull s (λ (S : List ℕ) (p : ℕ). attributeAt S at ≡ attributed.Stopped (Long p))
   unfolding attributeAt
   attribute-completed le e = by (nameAt s at) refl (name-inside s at) e
     where
@@ -195,10 +203,10 @@ module _ (s : List ℕ) (at : ℕ) where
       behind name f n (read.End quote) g to e = quoted name f quote (to .1) g e
       behind name f n (read.Stopped x) g to e = let c : read.Stopped x ≡ read.Stopped Cut = cc in equals name f n (spacesEnd s (name .end)) refl (spaces-inside s (name .end)) (equals-by s (name .end) (g ∙ c))
 
-      by : (r : Named) → nameAt s at ≡ r → NamedInside (NameInside s at) s at (nameAt s at) → afterName attributed.Stopped r Behind ≡ attributed.Stopped Cut → AttrDone s at
+      by : (r : Named) → nameAt s at ≡ r → NamedInside (NameInside s at) s at (nameAt s at) → afterName attributed.Stopped r Behind ≡ attributed.Stopped Cut → AttrDone s at ⊎ Overfull s (λ (S : List ℕ) (p : ℕ). attributeAt S at ≡ attributed.Stopped (Long p))
       by (named.Got name) f i e =
-          behind name f (subst (NamedInside (NameInside s at) s at) f i) (equalsEnd s (name .end)) refl (equals-inside s (name .end)) e
-      by (named.Stopped x) f i e = let c : named.Stopped x ≡ named.Stopped Cut = cc in attr-named (name-completed s at le (f ∙ c))
+          inl (behind name f (subst (NamedInside (NameInside s at) s at) f i) (equalsEnd s (name .end)) refl (equals-inside s (name .end)) e)
+      by (named.Stopped x) f i e = let c : named.Stopped x ≡ named.Stopped Cut = cc in or-full attr-named (λ t p r. rw r) (name-completed s at le (f ∙ c))
 
 -- ---- what stands behind a tag's name or an attribute: its >
 abbrev gt : List ℕ
@@ -228,7 +236,7 @@ turn-completed s at le e = by (spacesEnd s at) refl (spaces-inside s at) e
         (i + 1 + 1, true, slash-closes (s ++ gt) at i f′ (h .0, h .1 ∙ b) (byte-in s [] gt 0 (i + 1) (omega (arith, wanted-out s (i + 1) 0x3E (g ∙ c))) (omega arith)))
 
     byte : (i : ℕ) → i < length s → spacesEnd s at ≡ read.End i → (a : Bool) (b : Bool) → eqb (getD s i 0) 0x2F ≡ b → (c d : Bool)
-        → cond a (turn.Close (i + 1) false) (cond b (afterRead turn.Stopped (wanted s (i + 1) 0x3E) (λ (next : ℕ). turn.Close next true)) (cond c (turn.Stopped (Bad i)) (cond d (turn.Stopped (Bad i)) (turn.Attribute i)))) ≡ turn.Stopped Cut
+        → cond a (turn.Close (i + 1) false) (cond b (afterRead turn.Stopped (wanted s (i + 1) 0x3E) (λ (next : ℕ). turn.Close next true)) (cond c (turn.Stopped (Bad i)) (cond d (turn.Attribute i) (turn.Stopped (Bad i))))) ≡ turn.Stopped Cut
         → TurnDone s at
     byte i lt f true b q c d e = let z : _≡_ {A = ℕ} 0 1 = cc in absurd (omega arith)
     byte i lt f false true q c d e = slash i lt f (eqb-true (getD s i 0) 0x2F q) (wanted s (i + 1) 0x3E) refl e
@@ -239,7 +247,7 @@ turn-completed s at le e = by (spacesEnd s at) refl (spaces-inside s at) e
     by : (r : Read) → spacesEnd s at ≡ r → ReadInside (SpacesTo s at) s at (spacesEnd s at) → afterRead turn.Stopped r (λ (i : ℕ). turnBehind s at i) ≡ turn.Stopped Cut → TurnDone s at
     by (read.End i) f in′ e =
         let to : SpacesTo s at i = subst (ReadInside (SpacesTo s at) s at) f in′ in
-        byte i (to .1) f (eqb (getD s i 0) 0x3E) (eqb (getD s i 0) 0x2F) refl (eqb i at) (eqb (startLen s i) 0) (rw (lt-ltb i (length s) (to .1)) at e)
+        byte i (to .1) f (eqb (getD s i 0) 0x3E) (eqb (getD s i 0) 0x2F) refl (eqb i at) (begins set.Start [] (getD s i 0)) (rw (lt-ltb i (length s) (to .1)) at e)
     by (read.Stopped x) f in′ e =
         let c : read.Stopped x ≡ read.Stopped Cut = cc in
         (length s + 1, false, turn-closes (s ++ gt) at (length s) (spaces-completed s at le (f ∙ c) 0x3E [] refl) (byte-in s [] gt 0 (length s) (omega arith) (omega arith)))
@@ -264,9 +272,9 @@ pub record Done (s : List ℕ) (P : List ℕ → Type 0) : Type 0 where
   pub done : P (s ++ more)
 
 module _ (s : List ℕ) (name : Name) where
-  attrs-completed : (room : ℕ) (l : List Attr) (i : ℕ) → i ≤ length s → attrsFrom s name l room i .answer ≡ tagged.Stopped Cut → Done s (λ (S : List ℕ). IsTag (attrsFrom S name l room i .answer))
+  attrs-completed : (room : ℕ) (l : List Attr) (i : ℕ) → i ≤ length s → attrsFrom s name l room i .answer ≡ tagged.Stopped Cut → Done s (λ (S : List ℕ). IsTag (attrsFrom S name l room i .answer)) ⊎ Overfull s (λ (S : List ℕ) (p : ℕ). attrsFrom S name l room i .answer ≡ tagged.Stopped (Long p))
   unfolding attrsFrom
-  attrs-completed zero l i le e = by (turnAt s i) refl e
+  attrs-completed zero l i le e = inl (by (turnAt s i) refl e)
     where
       by : (r : Turn) → turnAt s i ≡ r → fullTurn name l r .answer ≡ tagged.Stopped Cut → Done s (λ (S : List ℕ). IsTag (fullTurn name l (turnAt S i) .answer))
       by (turn.Close next empty) f e = let z : _≡_ {A = ℕ} 0 1 = cc in absurd (omega arith)
@@ -278,22 +286,27 @@ module _ (s : List ℕ) (name : Name) where
       more S l′ k = attrsFrom S name l′ room k
 
       Ih : Type 0
-      Ih = (l′ : List Attr) (k : ℕ) → k ≤ length s → more s l′ k .answer ≡ tagged.Stopped Cut → Done s (λ (S : List ℕ). IsTag (more S l′ k .answer))
+      Ih = (l′ : List Attr) (k : ℕ) → k ≤ length s → more s l′ k .answer ≡ tagged.Stopped Cut → Done s (λ (S : List ℕ). IsTag (more S l′ k .answer)) ⊎ Overfull s (λ (S : List ℕ) (p : ℕ). more S l′ k .answer ≡ tagged.Stopped (Long p))
 
       Goal : Type 0
-      Goal = Done s (λ (S : List ℕ). IsTag (turnThen S (more S) name l (turnAt S i) .answer))
+      Goal = Done s (λ (S : List ℕ). IsTag (turnThen S (more S) name l (turnAt S i) .answer)) ⊎ Overfull s (λ (S : List ℕ) (p : ℕ). turnThen S (more S) name l (turnAt S i) .answer ≡ tagged.Stopped (Long p))
 
       turns : (j : ℕ) → turnAt s i ≡ turn.Attribute j → (t : List ℕ) → turnAt (s ++ t) i ≡ turn.Attribute j
       turns j f t = turn-stable s t i (λ c. let d : turn.Attribute j ≡ turn.Stopped Cut = sym f ∙ c in let z : _≡_ {A = ℕ} 0 1 = cc in omega arith) ∙ f
 
       attr : (j : ℕ) → j < length s → turnAt s i ≡ turn.Attribute j → (r : Attributed) → attributeAt s j ≡ r → AttributedInside (AttrInside s j) s j r → attrThen (more s) l r .answer ≡ tagged.Stopped Cut → Ih → Goal
       attr j lt f (attributed.Got a) g n e ih =
-          let d = ih (l ++ (a ∷ [])) (a .stop + 1) (omega (arith, n .inside)) e in
-          let g′ : attributeAt (s ++ d .more) j ≡ attributed.Got a = attribute-stable s (d .more) j (λ c. let y : attributed.Got a ≡ attributed.Stopped Cut = sym g ∙ c in let z : _≡_ {A = ℕ} 0 1 = cc in omega arith) ∙ g in
-          record { more = d .more; few = d .few; done = rw (turns j f (d .more), g′) (d .done) }
+          or-full
+          (λ d. record { more = d .more; few = d .few; done = rw (turns j f (d .more), so (d .more)) (d .done) })
+          (λ t p r. rw (turns j f t, so t) r)
+          (ih (l ++ (a ∷ [])) (a .stop + 1) (omega (arith, n .inside)) e)
+        where
+          so : (t : List ℕ) → attributeAt (s ++ t) j ≡ attributed.Got a
+          so t = attribute-stable s t j (λ c. let y : attributed.Got a ≡ attributed.Stopped Cut = sym g ∙ c in let z : _≡_ {A = ℕ} 0 1 = cc in omega arith) ∙ g
       attr j lt f (attributed.Stopped x) g n e ih =
           let c : attributed.Stopped x ≡ attributed.Stopped Cut = cc in
-          let d = attribute-completed s j (omega arith) (g ∙ c) in
+          or-full
+          (λ d.
           let r = d .done gt in
           let t = d .more ++ gt in
           let h = byte-in s (d .more) gt 0 (r .0 .stop + 1) (omega (arith, r .2)) (omega arith) in
@@ -301,36 +314,40 @@ module _ (s : List ℕ) (name : Name) where
             more = t;
             few = omega (arith, length-append (d .more) gt, d .few);
             done = rw (turns j f t, r .1) (attrs-here (s ++ t) name room (l ++ (r .0 ∷ [])) (r .0 .stop + 1) h);
-          }
+          })
+          (λ t p r. rw (turns j f t) (ap (λ (x : Attributed). attrThen (more (s ++ t)) l x .answer) r))
+          (attribute-completed s j (omega arith) (g ∙ c))
 
       by : (r : Turn) → turnAt s i ≡ r → TurnInside s i (turnAt s i) → turnThen s (more s) name l r .answer ≡ tagged.Stopped Cut → Ih → Goal
       by (turn.Close next empty) f n e ih = let z : _≡_ {A = ℕ} 0 1 = cc in absurd (omega arith)
       by (turn.Attribute j) f n e ih =
           let to : TurnInside s i (turn.Attribute j) = subst (TurnInside s i) f n in
           attr j (to .1) f (attributeAt s j) refl (attribute-inside s j) e ih
-      by (turn.Stopped x) f n e ih = let c : turn.Stopped x ≡ turn.Stopped Cut = cc in let d = turn-completed s i le (f ∙ c) in record { more = gt; few = omega arith; done = rw (d .2) tt }
+      by (turn.Stopped x) f n e ih = let c : turn.Stopped x ≡ turn.Stopped Cut = cc in let d = turn-completed s i le (f ∙ c) in inl (record { more = gt; few = omega arith; done = rw (d .2) tt })
 
-pub tag-completed : (s : List ℕ) (at : ℕ) → at ≤ length s → tagAt s at .answer ≡ tagged.Stopped Cut → Done s (λ (S : List ℕ). IsTag (tagAt S at .answer))
+pub tag-completed : (s : List ℕ) (at : ℕ) → at ≤ length s → tagAt s at .answer ≡ tagged.Stopped Cut → Done s (λ (S : List ℕ). IsTag (tagAt S at .answer)) ⊎ Overfull s (λ (S : List ℕ) (p : ℕ). tagAt S at .answer ≡ tagged.Stopped (Long p))
 unfolding tagAt
 tag-completed s at le e = by (nameAt s at) refl (name-inside s at) e
   where
     Behind : List ℕ → Name → TagRead
     Behind S name = attrsFrom S name [] 16 (name .end)
 
-    by : (r : Named) → nameAt s at ≡ r → NamedInside (NameInside s at) s at (nameAt s at) → afterName (tagStopped []) r (Behind s) .answer ≡ tagged.Stopped Cut → Done s (λ (S : List ℕ). IsTag (afterName (tagStopped []) (nameAt S at) (Behind S) .answer))
+    by : (r : Named) → nameAt s at ≡ r → NamedInside (NameInside s at) s at (nameAt s at) → afterName (tagStopped []) r (Behind s) .answer ≡ tagged.Stopped Cut → Done s (λ (S : List ℕ). IsTag (afterName (tagStopped []) (nameAt S at) (Behind S) .answer)) ⊎ Overfull s (λ (S : List ℕ) (p : ℕ). tagAt S at .answer ≡ tagged.Stopped (Long p))
     by (named.Got name) f i e =
         let n : NameInside s at name = subst (NamedInside (NameInside s at) s at) f i in
-        let d = attrs-completed s name 16 [] (name .end) (omega (arith, n .inside)) e in
-        record { more = d .more; few = d .few; done = rw (named-so s at name f (d .more)) (d .done) }
+        or-full (λ d. record { more = d .more; few = d .few; done = rw (named-so s at name f (d .more)) (d .done) }) (λ t p r. rw (named-so s at name f t) r) (attrs-completed s name 16 [] (name .end) (omega (arith, n .inside)) e)
     by (named.Stopped x) f i e =
         let c : named.Stopped x ≡ named.Stopped Cut = cc in
-        let n = name-completed s at le (f ∙ c) in
-        let d = n .done 0x3E [] refl refl in
+        or-full
+        (λ n.
+        let d = n .done 0x3E [] no-gt-char refl in
         record {
           more = n .more ++ gt;
           few = omega (arith, length-append (n .more) gt, n .few);
           done = rw (d .1) (attrs-here (s ++ (n .more ++ gt)) (d .0) 16 [] (d .0 .end) (byte-in s (n .more) gt 0 (d .0 .end) (omega (arith, d .2)) (omega arith)));
-        }
+        })
+        (λ t p r. rw r)
+        (name-completed s at le (f ∙ c))
 
 abbrev pub IsEnd : Ended → Type 0
 IsEnd (ended.Got t) = Unit {0}
@@ -340,7 +357,7 @@ end-here : (s : List ℕ) (at : ℕ) (name : Name) (i : ℕ) → nameAt s at ≡
 unfolding endTagAt
 end-here s at name i f g h = rw (f, g, wanted-here s i 0x3E h) tt
 
-pub endTag-completed : (s : List ℕ) (at : ℕ) → at ≤ length s → endTagAt s at ≡ ended.Stopped Cut → Done s (λ (S : List ℕ). IsEnd (endTagAt S at))
+pub endTag-completed : (s : List ℕ) (at : ℕ) → at ≤ length s → endTagAt s at ≡ ended.Stopped Cut → Done s (λ (S : List ℕ). IsEnd (endTagAt S at)) ⊎ Overfull s (λ (S : List ℕ) (p : ℕ). endTagAt S at ≡ ended.Stopped (Long p))
 unfolding endTagAt
 endTag-completed s at le e = by (nameAt s at) refl (name-inside s at) e
   where
@@ -364,28 +381,30 @@ endTag-completed s at le e = by (nameAt s at) refl (name-inside s at) e
           done = end-here (s ++ gt) at name (length s) (named-so s at name f gt) (spaces-completed s (name .end) lt (g ∙ c) 0x3E [] refl) (byte-in s [] gt 0 (length s) (omega arith) (omega arith));
         }
 
-    by : (r : Named) → nameAt s at ≡ r → NamedInside (NameInside s at) s at (nameAt s at) → afterName ended.Stopped r (λ (name : Name). afterRead ended.Stopped (spacesEnd s (name .end)) (Behind name)) ≡ ended.Stopped Cut → Goal
+    by : (r : Named) → nameAt s at ≡ r → NamedInside (NameInside s at) s at (nameAt s at) → afterName ended.Stopped r (λ (name : Name). afterRead ended.Stopped (spacesEnd s (name .end)) (Behind name)) ≡ ended.Stopped Cut → Goal ⊎ Overfull s (λ (S : List ℕ) (p : ℕ). endTagAt S at ≡ ended.Stopped (Long p))
     by (named.Got name) f i e =
         let n : NameInside s at name = subst (NamedInside (NameInside s at) s at) f i in
-        spaced name f (omega (arith, n .inside)) (spacesEnd s (name .end)) refl (spaces-inside s (name .end)) e
+        inl (spaced name f (omega (arith, n .inside)) (spacesEnd s (name .end)) refl (spaces-inside s (name .end)) e)
     by (named.Stopped x) f i e =
         let c : named.Stopped x ≡ named.Stopped Cut = cc in
-        let n = name-completed s at le (f ∙ c) in
-        let d = n .done 0x3E [] refl refl in
+        or-full
+        (λ n.
+        let d = n .done 0x3E [] no-gt-char refl in
         let S = s ++ (n .more ++ gt) in
         let b = byte-in s (n .more) gt 0 (d .0 .end) (omega (arith, d .2)) (omega arith) in
         record {
           more = n .more ++ gt;
           few = omega (arith, length-append (n .more) gt, n .few);
           done = end-here S at (d .0) (d .0 .end) (d .1) (spaces-here S (d .0 .end) 0x3E b refl) b;
-        }
+        })
+        (λ t p r. rw r)
+        (name-completed s at le (f ∙ c))
 
 -- ---- where the next event begins: <a>, or behind the root the end of the scene
 tag-here : (s : List ℕ) (i : ℕ) → Byte s i 0x61 → Byte s (i + 1) 0x3E → IsTag (tagAt s i .answer)
-unfolding tagAt nameAt partEnd
+unfolding tagAt nameAt
 tag-here s i h k =
-    let p : run (read.Stopped Cut) (partStep s) 64 (drop i s) i ≡ read.End (i + 1) = part-begins s 64 i 0x61 refl h refl ∙ part-stops s 63 (i + 1) 0x3E refl k refl in
-    rw (p, lt-ltb (i + 1) (length s) (k .0), k .1) (attrs-here s (record { at = i; part = i; end = i + 1 }) 16 [] (i + 1) k)
+    rw (letter-part s i 0x3E h k no-gt-char, lt-ltb (i + 1) (length s) (k .0), k .1) (attrs-here s (record { at = i; part = i; end = i + 1 }) 16 [] (i + 1) k)
 
 -- a tag that is whole begins, or nothing more
 abbrev pub Begins : List ℕ → ℕ → Bool → Bool → Type 0
@@ -398,14 +417,19 @@ pub record BeginDone (s : List ℕ) (at : ℕ) (inside closed : Bool) : Type 0 w
   pub few : length more ≤ 19
   pub begins : Begins (s ++ more) at inside closed
 
+-- or the scene is overfull
+abbrev AheadDone : List ℕ → ℕ → Bool → Bool → Type 0
+AheadDone s at inside closed = BeginDone s at inside closed ⊎ Overfull s (λ (S : List ℕ) (p : ℕ). aheadAt S inside closed at ≡ stoppedAhead (Long p))
+
 module _ (s : List ℕ) (inside closed : Bool) where
   begun : (at : ℕ) (b : Begin) → aheadAt s inside closed at ≡ ahead.Event b → beginAt s at inside closed ≡ b
   begun at b e = begin-is s at inside closed ∙ ap (aheadThen (λ (j : ℕ). beginAt s j inside closed)) e
 
+  over : (at j : ℕ) → aheadAt s inside closed at ≡ ahead.Misc j → beginAt s at inside closed ≡ beginAt s j inside closed
+  over at j e = begin-is s at inside closed ∙ ap (aheadThen (λ (j : ℕ). beginAt s j inside closed)) e
+
   begins-behind : (at j : ℕ) → aheadAt s inside closed at ≡ ahead.Misc j → Begins s j inside closed → Begins s at inside closed
-  begins-behind at j e =
-      let same : beginAt s at inside closed ≡ beginAt s j inside closed = begin-is s at inside closed ∙ ap (aheadThen (λ (j : ℕ). beginAt s j inside closed)) e in
-      ⊎-elim (λ t. inl (t .0, same ∙ t .1, t .2)) (λ f. inr (same ∙ f))
+  begins-behind at j e = ⊎-elim (λ t. inl (t .0, over at j e ∙ t .1, t .2)) (λ f. inr (over at j e ∙ f))
 
   -- <a> at i
   either-tag : (i : ℕ) → (inside || not closed) ≡ true → Byte s i 0x3C → Byte s (i + 1) 0x61 → eitherAt s inside closed i ≡ ahead.Event (begin.Start i)
@@ -493,9 +517,9 @@ module _ (s : List ℕ) (at : ℕ) (inside closed : Bool) (i : ℕ) (lt : i < le
   unfolding markupAt
   opens-misc t h n o = rw (lt-ltb (i + 1) (length (s ++ t)) (h .0), n, o)
 
-  from-markup : markupAt s inside closed i ≡ stoppedAhead Cut → BeginDone s at inside closed
+  from-markup : markupAt s inside closed i ≡ stoppedAhead Cut → AheadDone s at inside closed
   unfolding markupAt miscAhead
-  from-markup e = ⊎-elim last behind (le-or-lt (length s) (i + 1))
+  from-markup e = ⊎-elim (λ le. inl (last le)) behind (le-or-lt (length s) (i + 1))
     where
       last : length s ≤ i + 1 → BeginDone s at inside closed
       last le = by (inside || not closed) refl
@@ -511,25 +535,24 @@ module _ (s : List ℕ) (at : ℕ) (inside closed : Bool) (i : ℕ) (lt : i < le
               let h = byte-in s [] (w ++ u) 0 (i + 1) (omega arith) (omega arith) in
               opens-misc (w ++ u) (h .0, refl) (rw (h .1)) (rw (h .1)))
 
-      behind : i + 1 < length s → BeginDone s at inside closed
+      behind : i + 1 < length s → AheadDone s at inside closed
       behind lt′ = by (eqb b 0x2F) refl (opensMisc b) refl inside (inside || not closed) (rw (lt-ltb (i + 1) (length s) lt′) at e)
         where
           b : ℕ
           b = getD s (i + 1) 0
 
-          misc : eqb b 0x2F ≡ false → opensMisc b ≡ true → (r : Read) → miscEnd s i ≡ r → afterRead stoppedAhead r (λ (j : ℕ). ahead.Misc j) ≡ stoppedAhead Cut → BeginDone s at inside closed
+          misc : eqb b 0x2F ≡ false → opensMisc b ≡ true → (r : Read) → miscEnd s i ≡ r → afterRead stoppedAhead r (λ (j : ℕ). ahead.Misc j) ≡ stoppedAhead Cut → AheadDone s at inside closed
           misc n o (read.End j) f e = let z : _≡_ {A = ℕ} 0 1 = cc in absurd (omega arith)
           misc n o (read.Stopped x) f e =
               let c : read.Stopped x ≡ read.Stopped Cut = cc in
-              let r = misc-completed s i lt′ (f ∙ c) in
-              from-misc r
-              (λ u.
-              let h = byte-kept s (r .more ++ u) (i + 1) lt′ in
-              opens-misc (r .more ++ u) (h .0, refl) (rw (h .1) n) (rw (h .1) o))
+              or-full (λ r. from-misc r (λ u. opens (r .more ++ u))) (λ t p r. markup t ∙ opens t ∙ rw r) (misc-completed s i lt′ (f ∙ c))
+            where
+              opens : (t : List ℕ) → markupAt (s ++ t) inside closed i ≡ miscAhead (s ++ t) i
+              opens t = let h = byte-kept s t (i + 1) lt′ in opens-misc t (h .0, refl) (rw (h .1) n) (rw (h .1) o)
 
           by : (x : Bool) → eqb b 0x2F ≡ x → (y : Bool) → opensMisc b ≡ y → (v w : Bool)
               → cond x (cond v (ahead.Event (begin.End i)) (stoppedAhead (Bad (i + 1)))) (cond y (afterRead stoppedAhead (miscEnd s i) (λ (j : ℕ). ahead.Misc j)) (cond w (ahead.Event (begin.Start i)) (stoppedAhead (Bad (i + 1))))) ≡ stoppedAhead Cut
-              → BeginDone s at inside closed
+              → AheadDone s at inside closed
           by true p y q true w f = let z : _≡_ {A = ℕ} 0 1 = cc in absurd (omega arith)
           by true p y q false w f = let z : _≡_ {A = ℕ} 0 1 = cc in absurd (omega arith)
           by false p true q v w f = misc p q (miscEnd s i) refl f
@@ -537,18 +560,18 @@ module _ (s : List ℕ) (at : ℕ) (inside closed : Bool) (i : ℕ) (lt : i < le
           by false p false q v false f = let z : _≡_ {A = ℕ} 0 1 = cc in absurd (omega arith)
 
 -- a byte stands at i
-from-byte : (s : List ℕ) (at : ℕ) (inside closed : Bool) (i : ℕ) → i < length s → ((t : List ℕ) → aheadAt (s ++ t) inside closed at ≡ eitherAt (s ++ t) inside closed i) → eitherAt s inside closed i ≡ stoppedAhead Cut → BeginDone s at inside closed
+from-byte : (s : List ℕ) (at : ℕ) (inside closed : Bool) (i : ℕ) → i < length s → ((t : List ℕ) → aheadAt (s ++ t) inside closed at ≡ eitherAt (s ++ t) inside closed i) → eitherAt s inside closed i ≡ stoppedAhead Cut → AheadDone s at inside closed
 unfolding eitherAt
 from-byte s at inside closed i lt looks e = by (eqb (getD s i 0) 0x3C) refl inside (rw (lt-ltb i (length s) lt) at e)
   where
-    by : (t : Bool) → eqb (getD s i 0) 0x3C ≡ t → (v : Bool) → cond t (markupAt s inside closed i) (cond v (ahead.Event (begin.Text i)) (stoppedAhead (Bad i))) ≡ stoppedAhead Cut → BeginDone s at inside closed
+    by : (t : Bool) → eqb (getD s i 0) 0x3C ≡ t → (v : Bool) → cond t (markupAt s inside closed i) (cond v (ahead.Event (begin.Text i)) (stoppedAhead (Bad i))) ≡ stoppedAhead Cut → AheadDone s at inside closed
     by true q v f = from-markup s at inside closed i lt (eqb-true (getD s i 0) 0x3C q) looks f
     by false q true f = let z : _≡_ {A = ℕ} 0 1 = cc in absurd (omega arith)
     by false q false f = let z : _≡_ {A = ℕ} 0 1 = cc in absurd (omega arith)
 
-ahead-completed : (s : List ℕ) (at : ℕ) (inside closed : Bool) → at ≤ length s → aheadAt s inside closed at ≡ stoppedAhead Cut → BeginDone s at inside closed
+ahead-completed : (s : List ℕ) (at : ℕ) (inside closed : Bool) → at ≤ length s → aheadAt s inside closed at ≡ stoppedAhead Cut → AheadDone s at inside closed
 unfolding aheadAt
-ahead-completed s at true closed le e = ⊎-elim out (λ lt. from-byte s at true closed at lt (λ t. refl) e) (le-or-lt (length s) at)
+ahead-completed s at true closed le e = ⊎-elim (λ h. inl (out h)) (λ lt. from-byte s at true closed at lt (λ t. refl) e) (le-or-lt (length s) at)
   where
     out : length s ≤ at → BeginDone s at true closed
     out h =
@@ -562,25 +585,26 @@ ahead-completed s at false closed le e = by (spacesEnd s at) refl (spaces-inside
         let c : read.Stopped x ≡ read.Stopped Cut = cc in
         from-none s at false closed (rw q) (rw (spaces-completed s at le (g ∙ c) 0x3C (0x61 ∷ 0x3E ∷ []) refl))
 
-    by : (r : Read) → spacesEnd s at ≡ r → ReadInside (SpacesTo s at) s at (spacesEnd s at) → afterRead (ending closed) r (λ (i : ℕ). eitherAt s false closed i) ≡ stoppedAhead Cut → BeginDone s at false closed
+    by : (r : Read) → spacesEnd s at ≡ r → ReadInside (SpacesTo s at) s at (spacesEnd s at) → afterRead (ending closed) r (λ (i : ℕ). eitherAt s false closed i) ≡ stoppedAhead Cut → AheadDone s at false closed
     by (read.End i) g in′ e =
         let to : SpacesTo s at i = subst (ReadInside (SpacesTo s at) s at) g in′ in
         from-byte s at false closed i (to .1) (λ t. rw (read-so (spacesEnd s at) (spacesEnd (s ++ t) at) i g (spaces-stable s t at))) e
-    by (read.Stopped x) g in′ e = none x g closed refl e
+    by (read.Stopped x) g in′ e = inl (none x g closed refl e)
 
-pub begin-completed : (s : List ℕ) (at : ℕ) (inside closed : Bool) → at ≤ length s → beginAt s at inside closed ≡ begin.Stopped Cut → BeginDone s at inside closed
+pub begin-completed : (s : List ℕ) (at : ℕ) (inside closed : Bool) → at ≤ length s → beginAt s at inside closed ≡ begin.Stopped Cut → BeginDone s at inside closed ⊎ Overfull s (λ (S : List ℕ) (p : ℕ). beginAt S at inside closed ≡ begin.Stopped (Long p))
 begin-completed s at inside closed le e =
-    begin-held s inside closed (λ (i : ℕ) (b : Begin). b ≡ begin.Stopped Cut → i ≤ length s → BeginDone s i inside closed)
-    (λ i b f q h. ahead-completed s i inside closed h (f ∙ ap ahead.Event q))
-    (λ i j b f to d q h. behind i j f (d q (to .1)))
+    begin-held s inside closed (λ (i : ℕ) (b : Begin). b ≡ begin.Stopped Cut → i ≤ length s → BeginDone s i inside closed ⊎ Overfull s (λ (S : List ℕ) (p : ℕ). beginAt S i inside closed ≡ begin.Stopped (Long p)))
+    (λ i b f q h. or-full (λ d. d) (λ t p r. begun (s ++ t) inside closed i (begin.Stopped (Long p)) r) (ahead-completed s i inside closed h (f ∙ ap ahead.Event q)))
+    (λ i j b f to d q h. or-full (behind i j f) (λ t p r. over (s ++ t) inside closed i j (same i j f t) ∙ r) (d q (to .1)))
     at
     e
     le
   where
-    behind : (i j : ℕ) → aheadAt s inside closed i ≡ ahead.Misc j → BeginDone s j inside closed → BeginDone s i inside closed
-    behind i j f d =
-        let same : aheadAt (s ++ d .more) inside closed i ≡ ahead.Misc j = ahead-stable s (d .more) inside closed i (λ c. whole (subst CutAhead f c)) ∙ f in
-        record { more = d .more; few = d .few; begins = begins-behind (s ++ d .more) inside closed i j same (d .begins) }
+    same : (i j : ℕ) → aheadAt s inside closed i ≡ ahead.Misc j → (t : List ℕ) → aheadAt (s ++ t) inside closed i ≡ ahead.Misc j
+    same i j f t = ahead-stable s t inside closed i (λ c. whole (subst CutAhead f c)) ∙ f
       where
         whole : CutAhead (ahead.Misc j) → ⊥
         whole = ⊎-elim (λ q. let z : _≡_ {A = ℕ} 0 1 = cc in omega arith) (λ q. let z : _≡_ {A = ℕ} 0 1 = cc in omega arith)
+
+    behind : (i j : ℕ) → aheadAt s inside closed i ≡ ahead.Misc j → BeginDone s j inside closed → BeginDone s i inside closed
+    behind i j f d = record { more = d .more; few = d .few; begins = begins-behind (s ++ d .more) inside closed i j (same i j f (d .more)) (d .begins) }

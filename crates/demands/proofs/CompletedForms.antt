@@ -1,18 +1,19 @@
 -- A form is what is read from a place on and ends by itself. Where it was cut, some bytes behind the scene end it.
---     Rest, Goes, Fresh, Ends                        the bytes that end it; the word of one that has not begun
+--     Goes, Fresh, Ends                              the bytes that end it; the word of one that has not begun
 --     ends-then, ends-spaced, ends-peek              a form behind a form, behind space, by its first byte
 --     ends-machine, ends-wanted, ends-word, ends-equals
 use Prim.Native.Nat.{ℕ, _+_, _≤_, _<_}
 use mathlib.Core.Path.{_≡_, refl, sym, ap, subst, _∙_}
 use mathlib.Core.List.{List, [], _∷_, _++_, append-assoc}
 use mathlib.Core.Bool.{Bool, true, false, cond}
-use mathlib.Core.Logic.{_⊎_, inl, inr, ⊎-elim}
+use mathlib.Core.Logic.{⊎-elim}
 use native.Mathlib.Omega.{arith}
 use borrow.Author.Tests.{eq-eqb, lt-ltb}
 use lib.ListN.{length, drop, getD, length-append}
 use lib.Seq.{drop-at}
 use lib.Dec.{eqb}
-use Rattle.laws.specs.Reading.{RunNext, go, stop, run, peek, Stable, le-or-lt}
+use Rattle.laws.specs.Reading.{RunNext, run, peek, Stable, le-or-lt}
+use Rattle.laws.proofs.Holds.{Turned}
 use Rattle.lexer.specs.Stops.{afterRead}
 use Rattle.lexer.specs.Names.{isSpace, spacesEnd}
 use Rattle.lexer.specs.Tags.{wanted, equalsEnd}
@@ -23,19 +24,10 @@ use Rattle.lexer.specs.declared.Read.the-variants as read
 use Rattle.lexer.proofs.Inside.{ReadInside, SpacesTo, spaces-inside}
 use Rattle.lexer.proofs.Stable.{spaces-stable, wanted-stable}
 use Rattle.misc.proofs.MiscLaws.{Onward, byte-inside}
-use Rattle.demands.proofs.CompletedParts.{byte-in, byte-kept, reaches, read-so, spaces-here, spaces-completed}
-
-abbrev pub Form : Type 0
-Form = List ℕ → ℕ → Read
+use Rattle.demands.proofs.CompletedParts.{byte-in, byte-kept, Form, Rest, NotCut, runs-out, read-so, spaces-here, spaces-completed}
 
 abbrev pub Refused : Form
 Refused s at = read.Stopped (Bad at)
-
--- bytes behind a scene that end a form, which begins at a place of it
-pub record Rest (f : Form) (s : List ℕ) (at k : ℕ) : Type 0 where
-  pub more : List ℕ
-  pub few : length more ≤ k
-  pub done : (u : List ℕ) → f (s ++ (more ++ u)) at ≡ read.End (length s + length more)
 
 -- a form of which a byte is there: at most k more
 abbrev pub Goes : Form → ℕ → Type 0
@@ -185,39 +177,27 @@ module _ (f : Form) (word : List ℕ) (j : ℕ) (h : Ends f word j) where
   fresh-next c s u = fresh-behind f word (h .fresh) s (c ∷ []) u (length s + 1) (omega arith)
 
 -- ---- a machine, from a state on. J: what its states keep
-module _ (step : ℕ → ℕ → ℕ → RunNext ℕ Read) (J : ℕ → Type 0) (keeps : (q q′ b i : ℕ) → J q → step q b i ≡ go q′ → J q′) (never : (q b i : ℕ) → step q b i ≡ stop (read.Stopped Cut) → ⊥) (k : ℕ) where
+module _ {St : Type 0} (step : St → ℕ → ℕ → RunNext St Read) (k : ℕ) where
   -- bytes with which it stops behind them
-  pub record Stops (q : ℕ) : Type 0 where
+  pub record Stops (q : St) : Type 0 where
     pub word : List ℕ
     pub few : length word ≤ k
     pub stops : (u : List ℕ) (i : ℕ) → run (read.Stopped Cut) step q (word ++ u) i ≡ read.End (i + length word)
 
-  module _ (each : (q : ℕ) → J q → Stops q) (q : ℕ) (j : J q) where
+  module _ (J : St → Type 0) (turn : (q : St) (b i : ℕ) → J q → Turned J NotCut (step q b i)) (each : (q : St) → J q → Stops q) (q : St) (j : J q) where
     abbrev pub Runs : Form
     Runs s at = run (read.Stopped Cut) step q (drop at s) at
 
     pub ends-machine : Ends Runs (each q j .word) k
-    ends-machine = record { fresh = λ s u. rw (drop-at s (each q j .word ++ u) (length s) refl) (each q j .stops u (length s)); goes = goes }
-      where
-        goes : Goes Runs k
-        goes s at lt e =
-            let r = reaches (read.Stopped Cut) (λ (l : List ℕ). step) s (λ (q i : ℕ). J q) (λ q q′ i lt j f. keeps q q′ (getD s i 0) i j f) (λ t q i lt m. refl) (drop at s) q at refl (omega arith) j e in
-            by (r .state) (r .place) (r .kept) (r .same) (r .ends)
-          where
-            by : (p i : ℕ) → J p → ((t : List ℕ) → Runs (s ++ t) at ≡ run (read.Stopped Cut) step p (drop i (s ++ t)) i) → (i ≡ length s) ⊎ ((i < length s) × (step p (getD s i 0) i ≡ stop (read.Stopped Cut))) → Rest Runs s at k
-            by p i j same (inr h) = absurd (never p (getD s i 0) i (h .1))
-            by p i j same (inl h) =
-                let w = each p j in
-                record {
-                  more = w .word;
-                  few = w .few;
-                  done =
-                      λ u.
-                      same (w .word ++ u)
-                      ∙ ap (λ (l : List ℕ). run (read.Stopped Cut) step p l i) (drop-at s (w .word ++ u) i (sym h))
-                      ∙ w .stops u i
-                      ∙ ap read.End (omega arith);
-                }
+    ends-machine =
+        record {
+          fresh = λ s u. rw (drop-at s (each q j .word ++ u) (length s) refl) (each q j .stops u (length s));
+          goes =
+              λ s at lt e.
+              let r = runs-out step s (λ (q : St) (i : ℕ). J q) (λ q i lt. turn q (getD s i 0) i) q at (omega arith) j e in
+              let w = each (r .state) (r .kept) in
+              record { more = w .word; few = w .few; done = λ u. r .same (w .word ++ u) ∙ w .stops u (length s) };
+        }
 
 -- ---- words
 abbrev pub OneByte : ℕ → Form

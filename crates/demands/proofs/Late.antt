@@ -19,12 +19,17 @@ use Rattle.laws.specs.Reading.{RunNext, go, stop, follow, run, peek, le-or-lt, 
 use Rattle.laws.specs.Text.{bytes}
 use Rattle.laws.proofs.Flags.{differ, and-left, and-right}
 use Rattle.laws.proofs.Holds.{holds-cond, holds-peek, Turned, run-held}
+use Rattle.characters.specs.Deciding.{begins}
+use Rattle.characters.specs.Utf8.{isForm}
+use Rattle.characters.specs.declared.Set.{Set}
+use Rattle.characters.specs.declared.Set.the-variants as set
 use Rattle.lexer.specs.Stops.{afterRead, afterName}
-use Rattle.lexer.specs.Names.{isSpace, spaceStep, spacesEnd, startLen, nameLen, partStep, partEnd, nameOf, prefixedAt, nameAt}
-use Rattle.lexer.specs.Values.{references, common, wholeOf, furthest, noReference, referenceEnd, isText, referred, closes, valueStep, valueFrom, valueEnd}
+use Rattle.lexer.specs.Characters.{charStep, charEnd}
+use Rattle.lexer.specs.Names.{isSpace, spaceStep, spacesEnd, partState, partSet, partWhole, partStep, partEnd, nameOf, prefixedAt, nameAt}
+use Rattle.lexer.specs.Values.{references, common, wholeOf, furthest, noReference, referenceEnd, textAt, passedOver, closes, valueStep, valueFrom, valueEnd}
 use Rattle.lexer.specs.Tags.{wanted, equalsEnd, attrOf, quotedAt, attributeAt, slashAt, turnBehind, turnAt, TagRead, tagStopped, fullTurn, attrThen, turnThen, attrsFrom, tagAt, endTagAt}
 use Rattle.lexer.specs.Declaration.{wordEnd, isLetter, isFieldByte, someStep, someEnd, versionEnd, encodingEnd, answerEnd, standaloneEnd, fieldWord, fieldValue, quotedEnd, fieldEnd, turnFrom, fieldTurn, fieldThen, lastRest, standaloneThen, encodingRest, encodingThen, eitherThen, versionRest, versionThen, declarationEnd}
-use Rattle.lexer.specs.Misc.{isFree, commentStep, commentRest, commentEnd, contentStep, contentEnd, behindTarget, isXml, isDeclared, instructionEnd, miscEnd}
+use Rattle.lexer.specs.Misc.{miscState, freeStep, commentStep, commentRest, commentEnd, contentStep, contentEnd, behindTarget, isXml, isDeclared, instructionEnd, miscEnd}
 use Rattle.lexer.specs.Begins.{stoppedAhead, miscAhead, opensMisc, markupAt, eitherAt, ending, aheadAt, aheadThen, beginAt}
 use Rattle.lexer.specs.declared.Stop.{Stop}
 use Rattle.lexer.specs.declared.Stop.the-variants.{Bad, Long, Cut}
@@ -49,8 +54,8 @@ use Rattle.lexer.specs.declared.Begin.the-variants as begin
 use Rattle.lexer.specs.declared.Ahead.{Ahead}
 use Rattle.lexer.specs.declared.Ahead.the-variants as ahead
 use Rattle.lexer.proofs.Common.{common-kept}
-use Rattle.lexer.proofs.ValueLaws.{Within, ReferenceTo, reference-inside, reference-stable, closes-kept, closes-behind}
-use Rattle.lexer.proofs.Stable.{start-stable, nameLen-stable}
+use Rattle.lexer.proofs.CharacterLaws.{Within, PassedTo}
+use Rattle.lexer.proofs.ValueLaws.{reference-inside, reference-stable, text-inside, closes-kept, closes-behind}
 use Rattle.misc.proofs.MiscLaws.{xml-three, declared-kept, xml-kept}
 use Rattle.misc.proofs.BeginLaws.{begin-is, begin-held, CutAhead, ahead-stable}
 use Rattle.demands.specs.Answers.{settled}
@@ -188,14 +193,14 @@ grows-peek L s t at cut e h =
 -- a machine, of which each scene has its own steps. I: the states in which all that is still said is late
 module _ {St Out : Type 0} (cut : Out) (step step′ : St → ℕ → ℕ → RunNext St Out) (s t : List ℕ) (I : St → ℕ → Type 0) (L : Out → Type 0) (e : L cut)
     (turn : (q : St) (i : ℕ) → i < length (s ++ t) → I q i → Turned (λ (q′ : St). I q′ (i + 1)) L (step′ q (getD (s ++ t) i 0) i))
-    (begins : (q : St) (i : ℕ) → length s ≤ i → I q i)
+    (behind : (q : St) (i : ℕ) → length s ≤ i → I q i)
     (agree : (q : St) (i : ℕ) → i < length s → Ext (Turned (λ (q′ : St). I q′ (i + 1)) L) (step q (getD s i 0) i) (step′ q (getD s i 0) i)) where
   late-run : (q : St) (i : ℕ) → I q i → L (run cut step′ q (drop i (s ++ t)) i)
   late-run q i h = run-held cut step′ (s ++ t) I L e turn q i h
 
   ext-from : (l : List ℕ) (q : St) (i : ℕ) → drop i s ≡ l → Ext L (run cut step q l i) (run cut step′ q (drop i (s ++ t)) i)
   unfolding run
-  ext-from [] q i d = inr (late-run q i (begins q i (omega (arith, ap length d, length-drop i s))))
+  ext-from [] q i d = inr (late-run q i (behind q i (omega (arith, ap length d, length-drop i s))))
   ext-from (b ∷ l) q i d =
       let lt : i < length s = omega (arith, length-drop i s, ap length d) in
       let more : i < length (s ++ t) = simp length-append (omega arith) in
@@ -225,14 +230,14 @@ module _ {St Out : Type 0} (cut : Out) (step step′ : St → ℕ → ℕ → Ru
       late (stop o) h = h
 
   pub run-grows : (q : St) (i : ℕ) → Grows L (length s) i (run cut step q (drop i s) i) (run cut step′ q (drop i (s ++ t)) i)
-  run-grows q i = (ext-from (drop i s) q i refl, λ out. late-run q i (begins q i out))
+  run-grows q i = (ext-from (drop i s) q i refl, λ out. late-run q i (behind q i out))
 
 -- a machine that knows nothing of the scene but its byte, and names that byte
-pub local-grows : (step : ℕ → ℕ → ℕ → RunNext ℕ Read) (s t : List ℕ)
-    → ((q b i : ℕ) → length s ≤ i → Turned (λ (q′ : ℕ). length s ≤ i + 1) (LateRead (s ++ t) (length s)) (step q b i))
-    → (at : ℕ) → Grows (LateRead (s ++ t) (length s)) (length s) at (run (read.Stopped Cut) step 0 (drop at s) at) (run (read.Stopped Cut) step 0 (drop at (s ++ t)) at)
-local-grows step s t h =
-    run-grows (read.Stopped Cut) step step s t (λ (q i : ℕ). length s ≤ i) (LateRead (s ++ t) (length s)) tt (λ q i lt. h q (getD (s ++ t) i 0) i) (λ q i out. out) (λ q i lt. inl refl) 0
+pub local-grows : {St : Type 0} (step : St → ℕ → ℕ → RunNext St Read) (first : St) (s t : List ℕ)
+    → ((q : St) (b i : ℕ) → length s ≤ i → Turned (λ (q′ : St). length s ≤ i + 1) (LateRead (s ++ t) (length s)) (step q b i))
+    → (at : ℕ) → Grows (LateRead (s ++ t) (length s)) (length s) at (run (read.Stopped Cut) step first (drop at s) at) (run (read.Stopped Cut) step first (drop at (s ++ t)) at)
+local-grows {St} step first s t h =
+    run-grows (read.Stopped Cut) step step s t (λ (q : St) (i : ℕ). length s ≤ i) (LateRead (s ++ t) (length s)) tt (λ q i lt. h q (getD (s ++ t) i 0) i) (λ q i out. out) (λ q i lt. inl refl) first
 
 -- ---- references
 common-word : (l word : List ℕ) → common l word ≤ length word
@@ -321,11 +326,11 @@ module _ (s t : List ℕ) (at : ℕ) (inside : at ≤ length s) where
       by (read.Stopped (Long j)) e = inl (reference-stable s t at (λ c. let d : read.Stopped (Long j) ≡ read.Stopped Cut = sym e ∙ c in let z : _≡_ {A = ℕ} 0 1 = cc in omega arith))
       by (read.Stopped Cut) e = inr (late-reference e)
 
--- ---- space, parts, values
+-- ---- space, parts, characters, values
 module _ (s t : List ℕ) where
   -- a step at a byte behind the scene
-  abbrev LateStep : ℕ → RunNext ℕ Read → Type 0
-  LateStep i = Turned (λ (q′ : ℕ). length s ≤ i + 1) (LateRead (s ++ t) (length s))
+  abbrev LateStep : {St : Type 0} → ℕ → RunNext St Read → Type 0
+  LateStep {St} i = Turned (λ (q′ : St). length s ≤ i + 1) (LateRead (s ++ t) (length s))
 
   -- what is read from a place on
   abbrev Reads : ℕ → Read → Read → Type 0
@@ -350,23 +355,28 @@ module _ (s t : List ℕ) where
 
   pub spaces-grows : (at : ℕ) → Reads at (spacesEnd s at) (spacesEnd (s ++ t) at)
   unfolding spacesEnd
-  spaces-grows = local-grows spaceStep s t (λ q b i out. holds-cond (LateStep i) (isSpace b) (λ e. omega arith) (λ e. out))
+  spaces-grows = local-grows spaceStep 0 s t (λ q b i out. holds-cond (LateStep i) (isSpace b) (λ e. omega arith) (λ e. out))
 
   pub part-grows : (at : ℕ) → Reads at (partEnd s at) (partEnd (s ++ t) at)
   unfolding partEnd
   part-grows =
-      run-grows (read.Stopped Cut) (partStep s) (partStep (s ++ t)) s t (λ (q i : ℕ). length s ≤ i) (LateRead (s ++ t) (length s)) tt turn (λ q i out. out)
-      (λ room i lt. inl (simp (start-stable s t i lt, nameLen-stable s t i lt)))
-      64
-    where
-      turn : (room i : ℕ) → i < length (s ++ t) → length s ≤ i → LateStep i (partStep (s ++ t) room (getD (s ++ t) i 0) i)
-      turn room i lt out =
-          holds-cond (LateStep i) (eqb room 64)
-          (λ e. holds-cond (LateStep i) (eqb (startLen (s ++ t) i) 0) (λ e. omega arith) (λ e. omega arith))
-          (λ e. holds-cond (LateStep i) (eqb (nameLen (s ++ t) i) 0) (λ e. out) (λ e. holds-cond (LateStep i) (eqb room 0) (λ e. omega arith) (λ e. omega arith)))
+      local-grows partStep (partState 64 []) s t (λ q b i out.
+      holds-cond (LateStep i) (begins (partSet q) (q .begun) b)
+      (λ e. holds-cond (LateStep i) (eqb (q .room) 0) (λ e. omega arith) (λ e. omega arith))
+      (λ e. holds-cond (LateRead (s ++ t) (length s)) (partWhole q) (λ e. out) (λ e. omega arith)))
+
+  char-grows : (x : Set) (at : ℕ) → Reads at (charEnd x s at) (charEnd x (s ++ t) at)
+  unfolding charEnd
+  char-grows x =
+      local-grows (charStep x) [] s t (λ begun b i out.
+      holds-cond (LateStep i) (begins x begun b) (λ e. holds-cond (LateStep i) (isForm (begun ++ (b ∷ []))) (λ e. omega arith) (λ e. omega arith)) (λ e. omega arith))
+
+  text-ext : (b i : ℕ) → Ext (LateRead (s ++ t) (length s)) (textAt s b i) (textAt (s ++ t) b i)
+  unfolding textAt
+  text-ext b i = ext-cond (LateRead (s ++ t) (length s)) (eqb b 0x3C) (inl refl) (char-grows set.Char i .0)
 
   module _ (at quote : ℕ) where
-    -- a value's step at a byte behind the scene, or at one of a reference that reaches behind it
+    -- a value's step at a byte behind the scene, or at one of a reference or a character that reaches behind it
     abbrev LateValue : ℕ → RunNext ℕ Read → Type 0
     LateValue i = Turned (λ (left : ℕ). length s ≤ i + 1 + left) (LateRead (s ++ t) (length s))
 
@@ -378,13 +388,13 @@ module _ (s t : List ℕ) where
         holds-cond (LateValue i) (eqb b quote) (λ e. out)
         (λ e. holds-cond (LateValue i) (eqb b 0x26) (λ e. passed out (referenceEnd (s ++ t) i) (reference-inside (s ++ t) i))
         (λ e. holds-cond (LateValue i) (closes (s ++ t) at quote b i) (λ c. omega (arith, settled-closes (s ++ t) at quote i c))
-        (λ e. holds-cond (LateValue i) (isText b) (λ e. omega arith) (λ e. omega arith)))))
+        (λ e. passed out (textAt (s ++ t) b i) (text-inside (s ++ t) b i lt)))))
         (λ z. omega (arith, eqb-false left 0 z))
       where
         b : ℕ
         b = getD (s ++ t) i 0
 
-        passed : length s ≤ i → (r : Read) → Within (ReferenceTo (s ++ t) i) (s ++ t) i r → LateValue i (referred i r)
+        passed : length s ≤ i → (r : Read) → Within (PassedTo (s ++ t) i) (s ++ t) i r → LateValue i (passedOver i r)
         passed out (read.End j) w = omega arith
         passed out (read.Stopped (Bad j)) w = omega arith
         passed out (read.Stopped (Long j)) w = absurd w
@@ -395,12 +405,16 @@ module _ (s t : List ℕ) where
         rw (closes-kept s t at quote (getD s i 0) i lt)
         (ext-cond (LateValue i) (eqb left 0)
         (ext-cond (LateValue i) (eqb (getD s i 0) quote) (inl refl)
-        (ext-cond (LateValue i) (eqb (getD s i 0) 0x26) (ext-bind (LateRead (s ++ t) (length s)) (LateValue i) (referred i) (referred i) (λ r. inl refl) late (referenceEnd s i) (referenceEnd (s ++ t) i) (reference-ext s t i (omega arith))) (inl refl)))
+        (ext-cond (LateValue i) (eqb (getD s i 0) 0x26) (over (referenceEnd s i) (referenceEnd (s ++ t) i) (reference-ext s t i (omega arith)))
+        (ext-cond (LateValue i) (closes s at quote (getD s i 0) i) (inl refl) (over (textAt s (getD s i 0) i) (textAt (s ++ t) (getD s i 0) i) (text-ext (getD s i 0) i)))))
         (inl refl))
       where
-        late : (r : Read) → LateRead (s ++ t) (length s) r → LateValue i (referred i r)
+        late : (r : Read) → LateRead (s ++ t) (length s) r → LateValue i (passedOver i r)
         late (read.End j) l = omega arith
         late (read.Stopped x) l = l
+
+        over : (r r′ : Read) → Ext (LateRead (s ++ t) (length s)) r r′ → Ext (LateValue i) (passedOver i r) (passedOver i r′)
+        over = ext-bind (LateRead (s ++ t) (length s)) (LateValue i) (passedOver i) (passedOver i) (λ r. inl refl) late
 
     pub value-grows : Reads at (valueEnd s at quote) (valueEnd (s ++ t) at quote)
     unfolding valueFrom
@@ -466,21 +480,14 @@ module _ (s t : List ℕ) where
       L : Turn → Type 0
       L = LateTurn (s ++ t) (length s)
 
-  -- a refused byte, or an attribute's first
-  start-grows : (i : ℕ) → Turns i (cond (eqb (startLen s i) 0) (turn.Stopped (Bad i)) (turn.Attribute i)) (cond (eqb (startLen (s ++ t) i) 0) (turn.Stopped (Bad i)) (turn.Attribute i))
-  start-grows i =
-      grows-split L (length s) i (λ out. holds-cond L (eqb (startLen (s ++ t) i) 0) (λ e. omega arith) (λ e. out)) (λ lt. inl (rw (start-stable s t i lt)))
-    where
-      L : Turn → Type 0
-      L = LateTurn (s ++ t) (length s)
-
   behind-grows : (at i : ℕ) → Turns i (turnBehind s at i) (turnBehind (s ++ t) at i)
   unfolding turnBehind
   behind-grows at i =
       grows-peek L s t i (turn.Stopped Cut) tt (λ b.
       grows-cond L (length s) i (eqb b 0x3E) (grows-same L (length s) i (turn.Close (i + 1) false) (λ out. omega arith))
       (grows-cond L (length s) i (eqb b 0x2F) (slash-grows i)
-      (grows-cond L (length s) i (eqb i at) (grows-same L (length s) i (turn.Stopped (Bad i)) (λ out. omega arith)) (start-grows i))))
+      (grows-cond L (length s) i (eqb i at) (grows-same L (length s) i (turn.Stopped (Bad i)) (λ out. omega arith))
+      (grows-cond L (length s) i (begins set.Start [] b) (grows-same L (length s) i (turn.Attribute i) (λ out. out)) (grows-same L (length s) i (turn.Stopped (Bad i)) (λ out. omega arith))))))
     where
       L : Turn → Type 0
       L = LateTurn (s ++ t) (length s)
@@ -542,7 +549,7 @@ module _ (s t : List ℕ) where
   some-grows : (f : Field) (at quote : ℕ) → Reads at (someEnd s f at quote) (someEnd (s ++ t) f at quote)
   unfolding someEnd
   some-grows f at quote =
-      local-grows (someStep f quote) s t
+      local-grows (someStep f quote) 0 s t
       (λ q b i out. holds-cond (LateStep i) (eqb q 1 && eqb b quote) (λ e. omega arith) (λ e. holds-cond (LateStep i) (isFieldByte f b) (λ e. omega arith) (λ e. omega arith)))
       at
 
@@ -610,18 +617,21 @@ module _ (s t : List ℕ) where
   declaration-grows at = byte at (λ b. either at (isSpace b) (then at (spaces-grows at) version-grows) (bad-grows at))
 
   -- ---- comments and instructions
+  free-late : (mark : ℕ) (begun : List ℕ) (b i : ℕ) → length s ≤ i → LateStep i (freeStep mark begun b i)
+  free-late mark begun b i out = holds-cond (LateStep i) (begins set.Char begun b) (λ e. omega arith) (λ e. omega arith)
+
   comment-grows : (at : ℕ) → Reads at (commentEnd s at) (commentEnd (s ++ t) at)
   unfolding commentEnd commentRest
   comment-grows at =
       then at (word-grows at (bytes "--"))
-      (local-grows commentStep s t (λ q b i out.
-      holds-cond (LateStep i) (eqb q 2) (λ e. holds-cond (LateStep i) (eqb b 0x3E) (λ e. omega arith) (λ e. omega arith))
-      (λ e. holds-cond (LateStep i) (eqb b 0x2D) (λ e. omega arith) (λ e. holds-cond (LateStep i) (isFree b) (λ e. omega arith) (λ e. omega arith)))))
+      (local-grows commentStep (miscState 0 []) s t (λ q b i out.
+      holds-cond (LateStep i) (eqb (q .mark) 2) (λ e. holds-cond (LateStep i) (eqb b 0x3E) (λ e. omega arith) (λ e. omega arith))
+      (λ e. free-late (cond (eqb b 0x2D) (q .mark + 1) 0) (q .begun) b i out)))
 
   content-grows : (at : ℕ) → Reads at (contentEnd s at) (contentEnd (s ++ t) at)
   unfolding contentEnd
   content-grows =
-      local-grows contentStep s t (λ q b i out. holds-cond (LateStep i) (eqb q 1 && eqb b 0x3E) (λ e. omega arith) (λ e. holds-cond (LateStep i) (isFree b) (λ e. omega arith) (λ e. omega arith)))
+      local-grows contentStep (miscState 0 []) s t (λ q b i out. holds-cond (LateStep i) (eqb (q .mark) 1 && eqb b 0x3E) (λ e. omega arith) (λ e. free-late (cond (eqb b 0x3F) 1 0) (q .begun) b i out))
 
   target-grows : (at : ℕ) → Reads at (behindTarget s at) (behindTarget (s ++ t) at)
   unfolding behindTarget

@@ -1,23 +1,32 @@
 -- Bytes behind a scene with which a comment, an instruction or the declaration that was cut is read to its end.
---     declaration-goes, instruction-completed, misc-completed    sixteen bytes suffice
+--     declaration-goes, instruction-completed, misc-completed    sixteen bytes suffice, unless the target is overfull
 --     misc-begins                                                behind a <
-use Prim.Native.Nat.{ℕ, zero, suc, _+_, _≤_, _<_}
+use Prim.Native.Nat.{ℕ, zero, suc, _+_, _≤_, _<_, zero-le}
 use mathlib.Core.Path.{_≡_, refl, sym, ap, subst, _∙_}
 use mathlib.Core.List.{List, [], _∷_, _++_, append-assoc}
 use mathlib.Core.Bool.{Bool, true, false, cond, _&&_, _||_}
+use mathlib.Core.Logic.{_⊎_, inl, inr, ⊎-elim}
 use native.Mathlib.Omega.{arith}
 use borrow.Author.Tests.{eqb-true, eqb-false, eq-eqb, ne-eqb, lt-ltb}
-use lib.ListN.{length, drop, getD, length-append, List·getD-append}
+use lib.Arith.{lt-of-le-ne}
+use lib.ListN.{length, drop, getD, length-append}
 use lib.Dec.{ltb, eqb}
 use Rattle.laws.specs.Reading.{RunNext, go, stop, follow, run}
 use Rattle.laws.specs.Text.{bytes}
-use Rattle.laws.proofs.Flags.{and-left, and-right}
+use Rattle.laws.proofs.Flags.{differ}
+use Rattle.laws.proofs.Holds.{holds-cond, Turned}
+use Rattle.characters.specs.Utf8.{isForm}
+use Rattle.characters.specs.Deciding.{begins}
+use Rattle.characters.specs.declared.Set.the-variants as set
+use Rattle.characters.proofs.Laws.{ascii-whole, ascii-breaks}
+use Rattle.lexer.specs.Computing.{computing}
+use Rattle.lexer.specs.Characters.{withByte}
 use Rattle.lexer.specs.Stops.{afterRead}
-use Rattle.lexer.specs.Names.{isSpace, spacesEnd, isStart, isName, partStep, partEnd}
+use Rattle.lexer.specs.Names.{isSpace, spacesEnd, partState, partStep, partEnd}
 use Rattle.lexer.specs.Tags.{wanted, slashAt}
 use Rattle.lexer.specs.Declaration.{wordEnd, isLetter, isFieldByte, someStep, someEnd, versionEnd, encodingEnd, answerEnd, standaloneEnd, fieldWord, fieldValue, quotedEnd, fieldEnd, turnFrom, fieldTurn, fieldThen, lastRest, standaloneThen, encodingRest, encodingThen, eitherThen, versionRest, versionThen, declarationEnd}
-use Rattle.lexer.specs.Misc.{isFree, commentStep, commentRest, commentEnd, contentStep, contentEnd, behindTarget, isXml, isDeclared, instructionEnd, miscEnd}
-use Rattle.lexer.specs.declared.Stop.the-variants.{Bad, Cut}
+use Rattle.lexer.specs.Misc.{MiscState, miscState, freeStep, commentStep, commentRest, commentEnd, contentStep, contentEnd, behindTarget, isXml, isDeclared, instructionEnd, miscEnd}
+use Rattle.lexer.specs.declared.Stop.the-variants.{Bad, Long, Cut}
 use Rattle.lexer.specs.declared.Read.{Read}
 use Rattle.lexer.specs.declared.Read.the-variants as read
 use Rattle.lexer.specs.declared.Turn.the-variants as turn
@@ -26,75 +35,111 @@ use Rattle.lexer.specs.declared.Field.the-variants as field
 use Rattle.lexer.proofs.Inside.{ReadInside, PartTo, part-inside}
 use Rattle.lexer.proofs.Stable.{part-stable}
 use Rattle.misc.proofs.MiscLaws.{word-inside, answer-inside, field-word-inside, field-inside, word-stable, answer-stable, field-stable, declared-kept, xml-kept, xml-three}
-use Rattle.demands.proofs.CompletedParts.{Byte, byte-in, byte-kept, read-so, part-begins, part-goes, part-stops, PartDone, part-completed}
-use Rattle.demands.proofs.CompletedForms.{Form, Refused, Rest, Goes, Ends, goes-more, ends-at, fresh-behind, ends-same, ends-then, Spaced, ends-spaced, Peeked, goes-peek, ends-peek, goes-cond, goes-bad, Next, goes-next, fresh-next, Stops, ends-machine, OneByte, Word, ends-wanted, behindFirst, ends-word, Equalled, ends-equals}
+use Rattle.demands.specs.Answers.{Overfull}
+use Rattle.demands.proofs.CompletedParts.{or-full, byte-in, byte-kept, Form, Rest, NotCut, read-so, Unfinished, unfinished, rest-read, part-stops, letter-then, letter-part, PartDone, part-completed}
+use Rattle.demands.proofs.CompletedForms.{Refused, Goes, Ends, goes-more, ends-at, fresh-behind, ends-same, ends-then, Spaced, ends-spaced, Peeked, goes-peek, ends-peek, goes-cond, goes-bad, Next, goes-next, fresh-next, Stops, ends-machine, OneByte, Word, ends-wanted, behindFirst, ends-word, Equalled, ends-equals}
 
--- ---- the machines
-comment-ends : Ends commentRest (0x2D ∷ 0x2D ∷ 0x3E ∷ []) 3
-unfolding commentRest run
-comment-ends = ends-machine commentStep (λ (q : ℕ). q ≤ 2) keeps never 3 each 0 (omega arith)
+-- ---- comments and the content of instructions: a mark stands between characters, none inside of one
+abbrev Kept : MiscState → Type 0
+Kept q = ((q .begun ≡ []) × (q .mark ≤ 2)) ⊎ ((q .mark ≡ 0) × Unfinished set.Char (q .begun))
+
+-- a byte k below 80 leaves the mark m: it is a character by itself
+module _ (k m : ℕ) (low : k < 0x80) (begun : List ℕ) (b : ℕ) where
+  marks : eqb b k ≡ true → begins set.Char begun b ≡ true → begun ≡ []
+  marks q e = by begun e
+    where
+      by : (l : List ℕ) → begins set.Char l b ≡ true → l ≡ []
+      by [] e = refl
+      by (a ∷ l) e = absurd (differ (sym e ∙ ascii-breaks set.Char a l b (omega (arith, eqb-true b k q))))
+
+  free-turn : (i : ℕ) → m ≤ 2 → Turned Kept NotCut (freeStep (cond (eqb b k) m 0) begun b i)
+  unfolding withByte
+  free-turn i hi = holds-cond (Turned Kept NotCut) (begins set.Char begun b) (λ e. by e (eqb b k) refl) (λ e. tt)
+    where
+      by : begins set.Char begun b ≡ true → (t : Bool) → eqb b k ≡ t → Kept (miscState (cond t m 0) (withByte begun b))
+      by e true q = rw (marks q e, ascii-whole b (omega (arith, eqb-true b k q))) (inl (refl, hi))
+      by e false q = holds-cond (λ (l : List ℕ). Kept (miscState 0 l)) (isForm (begun ++ (b ∷ []))) (λ f. inl (refl, zero-le)) (λ f. inr (refl, unfinished set.Char begun b e f))
+
+  free-goes : (i : ℕ) → 0 < length begun → begins set.Char begun b ≡ true → freeStep (cond (eqb b k) m 0) begun b i ≡ go (miscState 0 (withByte begun b))
+  free-goes i h e = by (eqb b k) refl
+    where
+      by : (t : Bool) → eqb b k ≡ t → freeStep (cond t m 0) begun b i ≡ go (miscState 0 (withByte begun b))
+      by true q = absurd (omega (arith, ap length (marks q e)))
+      by false q = rw e
+
+-- marked: what ends it between characters
+module _ (step : MiscState → ℕ → ℕ → RunNext MiscState Read) (k : ℕ) (marked : (m : ℕ) → m ≤ 2 → Stops step k (miscState m [])) (few : 3 + length (marked 0 zero-le .word) ≤ k)
+    (goes : (begun : List ℕ) (b i : ℕ) → 0 < length begun → begins set.Char begun b ≡ true → step (miscState 0 begun) b i ≡ go (miscState 0 (withByte begun b))) where
+  each : (m : ℕ) (begun : List ℕ) → Kept (miscState m begun) → Stops step k (miscState m begun)
+  each m [] (inl h) = marked m (h .1)
+  each m (a ∷ begun) (inl h) = absurd (omega (arith, ap length (h .0)))
+  each m begun (inr h) =
+      let u = h .1 in
+      let w = marked 0 zero-le in
+      let size = length-append (u .rest) (w .word) in
+      record {
+        word = u .rest ++ w .word;
+        few = omega (arith, u .few);
+        stops =
+            λ t i.
+            rw (h .0, append-assoc (u .rest) (w .word) t)
+            (rest-read step set.Char (u .character) (u .allowed) (λ (n : ℕ). miscState 0) (λ n l b i some e. goes l b i some) (u .rest) begun (w .word ++ t) i (u .some) (u .lacks) (u .form)
+            ∙ w .stops t (i + length (u .rest))
+            ∙ ap read.End (omega arith));
+      }
+
+  free-ends : ((q : MiscState) (b i : ℕ) → Kept q → Turned Kept NotCut (step q b i)) → Ends (λ (s : List ℕ) (at : ℕ). run (read.Stopped Cut) step (miscState 0 []) (drop at s) at) (marked 0 zero-le .word) k
+  unfolding each
+  free-ends turn = ends-machine step k Kept turn (λ q. each (q .mark) (q .begun)) (miscState 0 []) (inl (refl, zero-le))
+
+comment-marked : (m : ℕ) → m ≤ 2 → Stops commentStep 6 (miscState m [])
+unfolding run computing
+comment-marked zero h = record { word = 0x2D ∷ 0x2D ∷ 0x3E ∷ []; few = omega arith; stops = λ u i. ap read.End (omega arith) }
+comment-marked (suc zero) h = record { word = 0x2D ∷ 0x3E ∷ []; few = omega arith; stops = λ u i. ap read.End (omega arith) }
+comment-marked (suc (suc zero)) h = record { word = 0x3E ∷ []; few = omega arith; stops = λ u i. refl }
+comment-marked (suc (suc (suc m))) h = absurd (omega arith)
+
+comment-ends : Ends commentRest (0x2D ∷ 0x2D ∷ 0x3E ∷ []) 6
+unfolding commentRest comment-marked
+comment-ends = free-ends commentStep 6 comment-marked (omega arith) (λ begun b. free-goes 0x2D 1 (omega arith) begun b) turn
   where
-    keeps : (q q′ b i : ℕ) → q ≤ 2 → commentStep q b i ≡ go q′ → q′ ≤ 2
-    keeps q q′ b i j e = by (eqb q 2) refl (eqb b 0x3E) (eqb b 0x2D) (isFree b) e
+    turn : (q : MiscState) (b i : ℕ) → Kept q → Turned Kept NotCut (commentStep q b i)
+    turn q b i j =
+        holds-cond (Turned Kept NotCut) (eqb (q .mark) 2)
+        (λ e. holds-cond (Turned Kept NotCut) (eqb b 0x3E) (λ f. tt) (λ f. tt))
+        (λ e. free-turn 0x2D (q .mark + 1) (omega arith) (q .begun) b i (less (⊎-elim (λ h. h .1) (λ h. omega arith) j) (eqb-false (q .mark) 2 e)))
       where
-        by : (x : Bool) → eqb q 2 ≡ x → (y z w : Bool) → cond x (cond y (stop (read.End (i + 1))) (stop (read.Stopped (Bad i)))) (cond z (go (q + 1)) (cond w (go 0) (stop (read.Stopped (Bad i))))) ≡ go q′ → q′ ≤ 2
-        by true p true z w e = let z : _≡_ {A = ℕ} 0 1 = cc in absurd (omega arith)
-        by true p false z w e = let z : _≡_ {A = ℕ} 0 1 = cc in absurd (omega arith)
-        by false p y true w e = let f : q + 1 ≡ q′ = cc in omega (arith, eqb-false q 2 p)
-        by false p y false true e = let f : 0 ≡ q′ = cc in omega arith
-        by false p y false false e = let z : _≡_ {A = ℕ} 0 1 = cc in absurd (omega arith)
+        less : q .mark ≤ 2 → (q .mark ≡ 2 → ⊥) → q .mark + 1 ≤ 2
+        less h n = omega (arith, lt-of-le-ne h n)
 
-    never : (q b i : ℕ) → commentStep q b i ≡ stop (read.Stopped Cut) → ⊥
-    never q b i e = by (eqb q 2) (eqb b 0x3E) (eqb b 0x2D) (isFree b) e
-      where
-        by : (x y z w : Bool) → _≡_ {A = RunNext ℕ Read} (cond x (cond y (stop (read.End (i + 1))) (stop (read.Stopped (Bad i)))) (cond z (go (q + 1)) (cond w (go 0) (stop (read.Stopped (Bad i)))))) (stop (read.Stopped Cut)) → ⊥
-        by true true z w e = let z : _≡_ {A = ℕ} 0 1 = cc in omega arith
-        by true false z w e = let z : _≡_ {A = ℕ} 0 1 = cc in omega arith
-        by false y true w e = let z : _≡_ {A = ℕ} 0 1 = cc in omega arith
-        by false y false true e = let z : _≡_ {A = ℕ} 0 1 = cc in omega arith
-        by false y false false e = let z : _≡_ {A = ℕ} 0 1 = cc in omega arith
-
-    each : (q : ℕ) → q ≤ 2 → Stops commentStep (λ (q : ℕ). q ≤ 2) keeps never 3 q
-    each zero j = record { word = 0x2D ∷ 0x2D ∷ 0x3E ∷ []; few = omega arith; stops = λ u i. ap read.End (omega arith) }
-    each (suc zero) j = record { word = 0x2D ∷ 0x3E ∷ []; few = omega arith; stops = λ u i. ap read.End (omega arith) }
-    each (suc (suc zero)) j = record { word = 0x3E ∷ []; few = omega arith; stops = λ u i. refl }
-    each (suc (suc (suc q))) j = absurd (omega arith)
-
-content-ends : Ends contentEnd (0x3F ∷ 0x3E ∷ []) 2
-unfolding contentEnd run
-content-ends = ends-machine contentStep (λ (q : ℕ). Unit {0}) (λ q q′ b i j e. tt) never 2 (λ q j. each q) 0 tt
+content-marked : (m : ℕ) → m ≤ 2 → Stops contentStep 5 (miscState m [])
+unfolding run computing
+content-marked m h = record { word = 0x3F ∷ 0x3E ∷ []; few = omega arith; stops = λ u i. by (eqb m 1) u i }
   where
-    never : (q b i : ℕ) → contentStep q b i ≡ stop (read.Stopped Cut) → ⊥
-    never q b i e = by (eqb q 1 && eqb b 0x3E) (isFree b) e
-      where
-        by : (x y : Bool) → _≡_ {A = RunNext ℕ Read} (cond x (stop (read.End (i + 1))) (cond y (go (cond (eqb b 0x3F) 1 0)) (stop (read.Stopped (Bad i))))) (stop (read.Stopped Cut)) → ⊥
-        by true y e = let z : _≡_ {A = ℕ} 0 1 = cc in omega arith
-        by false true e = let z : _≡_ {A = ℕ} 0 1 = cc in omega arith
-        by false false e = let z : _≡_ {A = ℕ} 0 1 = cc in omega arith
+    by : (x : Bool) (u : List ℕ) (i : ℕ) → follow (cond {A = RunNext MiscState Read} (x && false) (stop (read.End (i + 1))) (freeStep 1 [] 0x3F i)) (λ (p : MiscState). run (read.Stopped Cut) contentStep p (0x3E ∷ u) (i + 1)) ≡ read.End (i + 2)
+    by true u i = ap read.End (omega arith)
+    by false u i = ap read.End (omega arith)
 
-    each : (q : ℕ) → Stops contentStep (λ (q : ℕ). Unit {0}) (λ q q′ b i j e. tt) never 2 q
-    each q = record { word = 0x3F ∷ 0x3E ∷ []; few = omega arith; stops = λ u i. by (eqb q 1) u i }
-      where
-        by : (x : Bool) (u : List ℕ) (i : ℕ) → follow (cond {A = RunNext ℕ Read} (x && false) (stop (read.End (i + 1))) (go 1)) (λ (p : ℕ). run (read.Stopped Cut) contentStep p (0x3E ∷ u) (i + 1)) ≡ read.End (i + 2)
-        by true u i = ap read.End (omega arith)
-        by false u i = ap read.End (omega arith)
+content-ends : Ends contentEnd (0x3F ∷ 0x3E ∷ []) 5
+unfolding contentEnd content-marked
+content-ends = free-ends contentStep 5 content-marked (omega arith) (λ begun b. free-goes 0x3F 1 (omega arith) begun b) turn
+  where
+    turn : (q : MiscState) (b i : ℕ) → Kept q → Turned Kept NotCut (contentStep q b i)
+    turn q b i j = holds-cond (Turned Kept NotCut) (eqb (q .mark) 1 && eqb b 0x3E) (λ e. tt) (λ e. free-turn 0x3F 1 (omega arith) (q .begun) b i (omega arith))
 
 abbrev Some : Field → ℕ → Form
 Some f quote s at = someEnd s f at quote
 
 some-ends : (f : Field) (c quote : ℕ) → isFieldByte f c ≡ true → Ends (Some f quote) (c ∷ quote ∷ []) 2
 unfolding someEnd run
-some-ends f c quote fit = ends-machine (someStep f quote) (λ (q : ℕ). Unit {0}) (λ q q′ b i j e. tt) never 2 (λ q j. each q (eqb q 1) refl) 0 tt
+some-ends f c quote fit = ends-machine (someStep f quote) 2 (λ (q : ℕ). Unit {0}) turn (λ q j. each q (eqb q 1) refl) 0 tt
   where
-    never : (q b i : ℕ) → someStep f quote q b i ≡ stop (read.Stopped Cut) → ⊥
-    never q b i e = by (eqb q 1 && eqb b quote) (isFieldByte f b) e
-      where
-        by : (x y : Bool) → _≡_ {A = RunNext ℕ Read} (cond x (stop (read.End (i + 1))) (cond y (go 1) (stop (read.Stopped (Bad i))))) (stop (read.Stopped Cut)) → ⊥
-        by true y e = let z : _≡_ {A = ℕ} 0 1 = cc in omega arith
-        by false true e = let z : _≡_ {A = ℕ} 0 1 = cc in omega arith
-        by false false e = let z : _≡_ {A = ℕ} 0 1 = cc in omega arith
+    turn : (q b i : ℕ) → Unit {0} → Turned (λ (q : ℕ). Unit {0}) NotCut (someStep f quote q b i)
+    turn q b i j =
+        holds-cond (Turned (λ (q : ℕ). Unit {0}) NotCut) (eqb q 1 && eqb b quote) (λ e. tt)
+        (λ e. holds-cond (Turned (λ (q : ℕ). Unit {0}) NotCut) (isFieldByte f b) (λ e. tt) (λ e. tt))
 
-    each : (q : ℕ) (x : Bool) → eqb q 1 ≡ x → Stops (someStep f quote) (λ (q : ℕ). Unit {0}) (λ q q′ b i j e. tt) never 2 q
+    each : (q : ℕ) (x : Bool) → eqb q 1 ≡ x → Stops (someStep f quote) 2 q
     each q true x = record { word = quote ∷ []; few = omega arith; stops = λ u i. rw (x, eq-eqb quote quote refl) }
     each q false x = record { word = c ∷ quote ∷ []; few = omega arith; stops = λ u i. rw (x, fit, eq-eqb quote quote refl) (ap read.End (omega arith)) }
 
@@ -295,141 +340,66 @@ declaration-goes =
     (λ b. goes-cond (Spaced (λ (at : ℕ). versionThen)) Refused 16 (isSpace b) (ends-spaced (λ (at : ℕ). versionThen) 0x76 _ 16 16 refl (λ at. version-then-ends) (omega arith) (omega arith) .goes) (goes-bad 16))
 
 -- ---- comments and instructions
-comment-end-ends : Ends commentEnd (bytes "---->") 5
+comment-end-ends : Ends commentEnd (bytes "---->") 6
 unfolding commentEnd
 comment-end-ends =
-    ends-then (Word (bytes "--")) commentRest (λ s at. word-inside s at 0x2D (0x2D ∷ [])) (λ s t at. word-stable s t at (bytes "--")) (bytes "--") (bytes "-->") 1 3 5 (ends-word (bytes "--")) comment-ends (omega arith) (omega arith)
+    ends-then (Word (bytes "--")) commentRest (λ s at. word-inside s at 0x2D (0x2D ∷ [])) (λ s t at. word-stable s t at (bytes "--")) (bytes "--") (bytes "-->") 1 6 6 (ends-word (bytes "--")) comment-ends (omega arith) (omega arith)
 
-target-ends : Ends behindTarget closing 2
+target-ends : Ends behindTarget closing 5
 unfolding behindTarget
 target-ends =
     let gt = ends-wanted 0x3E in
-    ends-peek (λ (b : ℕ) (s : List ℕ) (at : ℕ). cond (isSpace b) (contentEnd s (at + 1)) (cond (eqb b 0x3F) (wanted s (at + 1) 0x3E) (read.Stopped (Bad at)))) 0x3F (0x3E ∷ []) 2
+    ends-peek (λ (b : ℕ) (s : List ℕ) (at : ℕ). cond (isSpace b) (contentEnd s (at + 1)) (cond (eqb b 0x3F) (wanted s (at + 1) 0x3E) (read.Stopped (Bad at)))) 0x3F (0x3E ∷ []) 5
     (fresh-next (OneByte 0x3E) (0x3E ∷ []) 0 gt 0x3F)
     (λ b.
-    goes-cond (Next contentEnd closing 2 content-ends) (λ (s : List ℕ) (at : ℕ). cond (eqb b 0x3F) (wanted s (at + 1) 0x3E) (read.Stopped (Bad at))) 2 (isSpace b) (goes-next contentEnd closing 2 content-ends 2 (omega arith) (omega arith))
-    (goes-cond (Next (OneByte 0x3E) (0x3E ∷ []) 0 gt) Refused 2 (eqb b 0x3F) (goes-next (OneByte 0x3E) (0x3E ∷ []) 0 gt 2 (omega arith) (omega arith)) (goes-bad 2)))
-
--- ---- a target xml: with a byte more it is another
-either : (b x y : ℕ) (P : ℕ → Type 0) → P x → P y → (eqb b x || eqb b y) ≡ true → P b
-either b x y P p q e = by (eqb b x) refl e
-  where
-    by : (t : Bool) → eqb b x ≡ t → (t || eqb b y) ≡ true → P b
-    by true f e = subst P (sym (eqb-true b x f)) p
-    by false f e = subst P (sym (eqb-true b y e)) q
-
--- its letters
-record Letters (s : List ℕ) (at : ℕ) : Type 0 where
-  first : isStart (getD s at 0) ≡ true
-  second : isName (getD s (at + 1) 0) ≡ true
-  third : isName (getD s (at + 2) 0) ≡ true
-
-xml-letters : (s : List ℕ) (at end : ℕ) → isXml s at end ≡ true → Letters s at
-unfolding isXml
-xml-letters s at end e =
-    let a = eqb end (at + 3) in
-    let x = eqb (getD s at 0) 0x58 || eqb (getD s at 0) 0x78 in
-    let m = eqb (getD s (at + 1) 0) 0x4D || eqb (getD s (at + 1) 0) 0x6D in
-    let l = eqb (getD s (at + 2) 0) 0x4C || eqb (getD s (at + 2) 0) 0x6C in
-    let axm = and-left (a && x && m) l e in
-    record {
-      first = either (getD s at 0) 0x58 0x78 (λ (b : ℕ). isStart b ≡ true) refl refl (and-right a x (and-left (a && x) m axm));
-      second = either (getD s (at + 1) 0) 0x4D 0x6D (λ (b : ℕ). isName b ≡ true) refl refl (and-right (a && x) m axm);
-      third = either (getD s (at + 2) 0) 0x4C 0x6C (λ (b : ℕ). isName b ≡ true) refl refl (and-right (a && x && m) l e);
-    }
-
-letters-kept : (s t : List ℕ) (at : ℕ) → at + 2 < length s → Letters s at → Letters (s ++ t) at
-letters-kept s t at h l =
-    record {
-      first = rw (List·getD-append s t 0 at (omega arith)) (l .first);
-      second = rw (List·getD-append s t 0 (at + 1) (omega arith)) (l .second);
-      third = rw (List·getD-append s t 0 (at + 2) h) (l .third);
-    }
-
-letters-before : (s t : List ℕ) (at : ℕ) → at + 2 < length s → Letters (s ++ t) at → Letters s at
-letters-before s t at h l =
-    record {
-      first = rw (List·getD-append s t 0 at (omega arith)) at (l .first);
-      second = rw (List·getD-append s t 0 (at + 1) (omega arith)) at (l .second);
-      third = rw (List·getD-append s t 0 (at + 2) h) at (l .third);
-    }
-
-four-letters : (s : List ℕ) (at : ℕ) → Letters s at → Byte s (at + 3) 0x61 → Byte s (at + 4) 0x3F → partEnd s at ≡ read.End (at + 4)
-unfolding partEnd
-four-letters s at l a q =
-    let two : at + 1 + 1 ≡ at + 2 = omega arith in
-    let three : at + 2 + 1 ≡ at + 3 = omega arith in
-    let more : at + 3 + 1 ≡ at + 4 = omega arith in
-    part-begins s 64 at (getD s at 0) refl (omega arith, refl) (l .first)
-    ∙ part-goes s 63 (at + 1) (getD s (at + 1) 0) refl refl (omega arith, refl) (l .second)
-    ∙ ap (From 62) two
-    ∙ part-goes s 62 (at + 2) (getD s (at + 2) 0) refl refl (omega arith, refl) (l .third)
-    ∙ ap (From 61) three
-    ∙ part-goes s 61 (at + 3) 0x61 refl refl a refl
-    ∙ ap (From 60) more
-    ∙ part-stops s 60 (at + 4) 0x3F refl q refl
-  where
-    From : ℕ → ℕ → Read
-    From room i = run (read.Stopped Cut) (partStep s) room (drop i s) i
+    goes-cond (Next contentEnd closing 5 content-ends) (λ (s : List ℕ) (at : ℕ). cond (eqb b 0x3F) (wanted s (at + 1) 0x3E) (read.Stopped (Bad at))) 5 (isSpace b) (goes-next contentEnd closing 5 content-ends 5 (omega arith) (omega arith))
+    (goes-cond (Next (OneByte 0x3E) (0x3E ∷ []) 0 gt) Refused 5 (eqb b 0x3F) (goes-next (OneByte 0x3E) (0x3E ∷ []) 0 gt 5 (omega arith) (omega arith)) (goes-bad 5)))
 
 xml-not : (s : List ℕ) (at end : ℕ) → (end ≡ at + 3 → ⊥) → isXml s at end ≡ false
 unfolding isXml
 xml-not s at end n = rw (ne-eqb end (at + 3) n)
 
 -- ---- an instruction
+no-question : begins set.Name [] 0x3F ≡ false
+unfolding computing
+no-question = refl
+
 -- its target, then ?>
 instruction-closes : (s : List ℕ) (at j : ℕ) → partEnd s at ≡ read.End j → isXml s at j ≡ false → behindTarget s j ≡ read.End (j + 2) → instructionEnd s at ≡ read.End (j + 2)
 unfolding instructionEnd
 instruction-closes s at j p x b = rw (p, x, b)
 
 module _ (s : List ℕ) (at : ℕ) where
-  -- the target is cut
+  -- the target is cut. Where it has three bytes, as xml has, an a more
   target-cut : PartDone s at → Rest instructionEnd s at 16
-  target-cut p = by (isXml (l ++ (0x3F ∷ [])) at (length s + length (p .more))) refl
+  unfolding run
+  target-cut p = by (eqb j (at + 3)) refl
     where
-      l : List ℕ
-      l = s ++ p .more
-
       j : ℕ
       j = length s + length (p .more)
 
-      long : length l ≡ j
-      long = length-append s (p .more)
+      closed : (w : List ℕ) → length w ≤ 1 → (j + length w ≡ at + 3 → ⊥) → ((u : List ℕ) → run (read.Stopped Cut) partStep (partState (p .room) []) (w ++ (0x3F ∷ 0x3E ∷ u)) j ≡ read.End (j + length w)) → Rest instructionEnd s at 16
+      closed w le n part =
+          let m = p .more ++ w in
+          let size = length-append (p .more) w in
+          let all = length-append m closing in
+          record {
+            more = m ++ closing;
+            few = omega (arith, p .few);
+            done =
+                λ u.
+                let S = s ++ (m ++ (0x3F ∷ 0x3E ∷ u)) in
+                rw (append-assoc m closing u)
+                (instruction-closes S at (j + length w)
+                (rw (append-assoc (p .more) w (0x3F ∷ 0x3E ∷ u)) (p .reads (w ++ (0x3F ∷ 0x3E ∷ u)) ∙ part u))
+                (xml-not S at (j + length w) n)
+                (fresh-behind behindTarget closing (target-ends .fresh) s m u (j + length w) (omega arith) ∙ ap read.End (omega arith))
+                ∙ ap read.End (omega arith));
+          }
 
-      by : (t : Bool) → isXml (l ++ (0x3F ∷ [])) at j ≡ t → Rest instructionEnd s at 16
-      by false x =
-          record {
-            more = p .more ++ closing;
-            few = omega (arith, p .few, length-append (p .more) closing);
-            done =
-                λ u.
-                let S = s ++ (p .more ++ (0x3F ∷ 0x3E ∷ u)) in
-                let same : S ≡ (l ++ (0x3F ∷ [])) ++ (0x3E ∷ u) = sym (append-assoc s (p .more) (0x3F ∷ 0x3E ∷ u)) ∙ sym (append-assoc l (0x3F ∷ []) (0x3E ∷ u)) in
-                let no : isXml S at j ≡ false = ap (λ (r : List ℕ). isXml r at j) same ∙ xml-kept (l ++ (0x3F ∷ [])) (0x3E ∷ u) at j (omega (arith, long, length-append l (0x3F ∷ []))) ∙ x in
-                let ends : behindTarget S j ≡ read.End (j + 2) = fresh-behind behindTarget closing (target-ends .fresh) s (p .more) u j refl ∙ ap read.End (omega (arith, length-append (p .more) closing)) in
-                let last : j + 2 ≡ length s + length (p .more ++ closing) = omega (arith, length-append (p .more) closing) in
-                rw (append-assoc (p .more) closing u) (instruction-closes S at j (p .done 0x3F (0x3E ∷ u) refl) no ends ∙ ap read.End last);
-          }
-      by true x =
-          let three : j ≡ at + 3 = xml-three (l ++ (0x3F ∷ [])) at j x in
-          let letters : Letters l at = letters-before l (0x3F ∷ []) at (omega (arith, long)) (xml-letters (l ++ (0x3F ∷ [])) at j x) in
-          let w : List ℕ = 0x61 ∷ 0x3F ∷ 0x3E ∷ [] in
-          record {
-            more = p .more ++ w;
-            few = omega (arith, p .few, length-append (p .more) w);
-            done =
-                λ u.
-                let S = l ++ (w ++ u) in
-                let same : s ++ ((p .more ++ w) ++ u) ≡ S = ap (λ (r : List ℕ). s ++ r) (append-assoc (p .more) w u) ∙ sym (append-assoc s (p .more) (w ++ u)) in
-                let part : partEnd S at ≡ read.End (at + 4) = four-letters S at (letters-kept l (w ++ u) at (omega (arith, long)) letters) (byte-in l [] (w ++ u) 0 (at + 3) (omega (arith, long)) (omega arith)) (byte-in l [] (w ++ u) 1 (at + 4) (omega (arith, long)) (omega arith)) in
-                let no : isXml S at (at + 4) ≡ false = not-three S in
-                let ends : behindTarget S (at + 4) ≡ read.End (at + 4 + 2) = fresh-behind behindTarget closing (target-ends .fresh) l (0x61 ∷ []) u (at + 4) (omega (arith, long)) ∙ ap read.End (omega (arith, long)) in
-                let last : at + 4 + 2 ≡ length s + length (p .more ++ w) = omega (arith, length-append (p .more) w) in
-                ap (λ (r : List ℕ). instructionEnd r at) same ∙ instruction-closes S at (at + 4) part no ends ∙ ap read.End last;
-          }
-        where
-          not-three : (S : List ℕ) → isXml S at (at + 4) ≡ false
-          not-three S = xml-not S at (at + 4) (λ e. omega arith)
+      by : (t : Bool) → eqb j (at + 3) ≡ t → Rest instructionEnd s at 16
+      by false x = closed [] (omega arith) (λ e. eqb-false j (at + 3) x (omega arith)) (λ u. part-stops (p .room) 0x3F j (0x3E ∷ u) (p .some) no-question ∙ ap read.End (omega arith))
+      by true x = let three = eqb-true j (at + 3) x in closed (0x61 ∷ []) (omega arith) (λ e. omega arith) (λ u. letter-then (p .room) 0x3F j (0x3E ∷ u) (omega (arith, p .left)) (omega (arith, p .some)) no-question)
 
   -- the target is whole
   target-whole : (j : ℕ) → partEnd s at ≡ read.End j → PartTo s at j → (x : Bool) → isXml s at j ≡ x → (d : Bool) → isDeclared s at ≡ d → cond x (cond d (declarationEnd s j) (read.Stopped (Bad at))) (behindTarget s j) ≡ read.Stopped Cut → Rest instructionEnd s at 16
@@ -457,16 +427,16 @@ module _ (s : List ℕ) (at : ℕ) where
             rw (read-so (partEnd s at) (partEnd (s ++ t) at) j p (part-stable s t at), xml-kept s t at j (to .1), x) (r .done u);
       }
 
-  instruction-completed : at ≤ length s → instructionEnd s at ≡ read.Stopped Cut → Rest instructionEnd s at 16
+  instruction-completed : at ≤ length s → instructionEnd s at ≡ read.Stopped Cut → Rest instructionEnd s at 16 ⊎ Overfull s (λ (S : List ℕ) (p : ℕ). instructionEnd S at ≡ read.Stopped (Long p))
   unfolding instructionEnd
   instruction-completed le e = by (partEnd s at) refl (part-inside s at) e
     where
-      by : (r : Read) → partEnd s at ≡ r → ReadInside (PartTo s at) s at (partEnd s at) → afterRead read.Stopped r (λ (j : ℕ). cond (isXml s at j) (cond (isDeclared s at) (declarationEnd s j) (read.Stopped (Bad at))) (behindTarget s j)) ≡ read.Stopped Cut → Rest instructionEnd s at 16
-      by (read.End j) p in′ e = target-whole j p (subst (ReadInside (PartTo s at) s at) p in′) (isXml s at j) refl (isDeclared s at) refl e
-      by (read.Stopped x) p in′ e = target-cut (part-completed s at le (p ∙ e))
+      by : (r : Read) → partEnd s at ≡ r → ReadInside (PartTo s at) s at (partEnd s at) → afterRead read.Stopped r (λ (j : ℕ). cond (isXml s at j) (cond (isDeclared s at) (declarationEnd s j) (read.Stopped (Bad at))) (behindTarget s j)) ≡ read.Stopped Cut → Rest instructionEnd s at 16 ⊎ Overfull s (λ (S : List ℕ) (p : ℕ). instructionEnd S at ≡ read.Stopped (Long p))
+      by (read.End j) p in′ e = inl (target-whole j p (subst (ReadInside (PartTo s at) s at) p in′) (isXml s at j) refl (isDeclared s at) refl e)
+      by (read.Stopped x) p in′ e = or-full target-cut (λ t k r. rw r) (part-completed s at le (p ∙ e))
 
 -- ---- a misc whose < stands at a place, a ! or ? behind it
-pub misc-completed : (s : List ℕ) (at : ℕ) → at + 1 < length s → miscEnd s at ≡ read.Stopped Cut → Rest miscEnd s at 16
+pub misc-completed : (s : List ℕ) (at : ℕ) → at + 1 < length s → miscEnd s at ≡ read.Stopped Cut → Rest miscEnd s at 16 ⊎ Overfull s (λ (S : List ℕ) (p : ℕ). miscEnd S at ≡ read.Stopped (Long p))
 unfolding miscEnd
 misc-completed s at lt e = by (eqb (getD s (at + 1) 0) 0x3F) refl (rw (lt-ltb (at + 1) (length s) lt) at e)
   where
@@ -481,20 +451,23 @@ misc-completed s at lt e = by (eqb (getD s (at + 1) 0) 0x3F) refl (rw (lt-ltb (a
               rw (lt-ltb (at + 1) (length (s ++ (r .more ++ u))) (b .0), b .1, q) (sym (same (s ++ (r .more ++ u))) ∙ r .done u);
         }
 
-    by : (t : Bool) → eqb (getD s (at + 1) 0) 0x3F ≡ t → cond t (instructionEnd s (at + 2)) (commentEnd s (at + 2)) ≡ read.Stopped Cut → Rest miscEnd s at 16
-    by true q e = kept instructionEnd true q (λ l. refl) (instruction-completed s (at + 2) (omega arith) e)
-    by false q e = kept commentEnd false q (λ l. refl) (ends-at commentEnd (bytes "---->") 5 16 comment-end-ends (omega arith) (omega arith) s (at + 2) (omega arith) e)
+    by : (t : Bool) → eqb (getD s (at + 1) 0) 0x3F ≡ t → cond t (instructionEnd s (at + 2)) (commentEnd s (at + 2)) ≡ read.Stopped Cut → Rest miscEnd s at 16 ⊎ Overfull s (λ (S : List ℕ) (p : ℕ). miscEnd S at ≡ read.Stopped (Long p))
+    by true q e =
+        or-full (kept instructionEnd true q (λ l. refl))
+        (λ t p r. let b = byte-kept s t (at + 1) lt in rw (lt-ltb (at + 1) (length (s ++ t)) (b .0), b .1, q) r)
+        (instruction-completed s (at + 2) (omega arith) e)
+    by false q e = inl (kept commentEnd false q (λ l. refl) (ends-at commentEnd (bytes "---->") 6 16 comment-end-ends (omega arith) (omega arith) s (at + 2) (omega arith) e))
 
 -- its < is the scene's last byte: <?a?>
 pub misc-begins : (s u : List ℕ) (at : ℕ) → at + 1 ≡ length s → miscEnd (s ++ (bytes "?a?>" ++ u)) at ≡ read.End (length s + 4)
-unfolding miscEnd partEnd
+unfolding miscEnd
 misc-begins s u at e =
     let w : List ℕ = 0x3F ∷ 0x61 ∷ 0x3F ∷ 0x3E ∷ u in
     let S = s ++ w in
     let b0 = byte-in s [] w 0 (at + 1) (omega arith) (omega arith) in
     let b1 = byte-in s [] w 1 (at + 2) (omega arith) (omega arith) in
     let b2 = byte-in s [] w 2 (at + 2 + 1) (omega arith) (omega arith) in
-    let part : partEnd S (at + 2) ≡ read.End (at + 2 + 1) = part-begins S 64 (at + 2) 0x61 refl b1 refl ∙ part-stops S 63 (at + 2 + 1) 0x3F refl b2 refl in
+    let part : partEnd S (at + 2) ≡ read.End (at + 2 + 1) = letter-part S (at + 2) 0x3F b1 b2 no-question in
     let no : isXml S (at + 2) (at + 2 + 1) ≡ false = xml-not S (at + 2) (at + 2 + 1) (λ f. omega arith) in
     let ends : behindTarget S (at + 2 + 1) ≡ read.End (at + 2 + 1 + 2) = fresh-behind behindTarget closing (target-ends .fresh) s (0x3F ∷ 0x61 ∷ []) u (at + 2 + 1) (omega arith) ∙ ap read.End (omega arith) in
     let last : at + 2 + 1 + 2 ≡ length s + 4 = omega arith in

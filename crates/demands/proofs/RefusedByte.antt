@@ -2,9 +2,9 @@
 -- changes nothing. A scene that ends too soon can go on.
 --     refused-before, refused-closed     the bytes before the place of a refusal by the reader: 1, behind the root 1 or 9
 --     refused-after, refused-until       the bytes up to the place of a 2 or a 3, and those that settle it: the same, whatever stands behind; until then the same or 1
---     cut-completed                      1: a few bytes more, and the event is read to its end, or the scene finishes
+--     cut-completed                      1: a few bytes more, and the event is read to its end, or the scene finishes; or the scene is overfull
 use Prim.Native.Nat.{ℕ, _+_, _≤_, _<_}
-use mathlib.Core.Path.{_≡_, refl, sym, subst, _∙_}
+use mathlib.Core.Path.{_≡_, refl, sym, ap, subst, _∙_}
 use mathlib.Core.List.{List, _++_}
 use mathlib.Core.Bool.{true, false}
 use mathlib.Core.Logic.{_⊎_, inl, inr, ⊎-elim}
@@ -22,9 +22,10 @@ use Rattle.dispatcher.specs.Coherence.{coherent}
 use Rattle.dispatcher.specs.Stepping.{Step, refusedStep, longest, stepOf}
 use Rattle.dispatcher.specs.declared.Session.{Session}
 use Rattle.demands.proofs.CoherentHeld.{coherent-held, coherent-more}
+use Rattle.demands.proofs.CompletedParts.{or-full}
 use Rattle.demands.proofs.CompletedNext.{Whole, next-completed}
 use Rattle.demands.proofs.LateNext.{LateNext, next-ext, next-stays, next-until}
-use Rattle.demands.specs.Answers.{Ready, Answered, bad-table, long-scene, bad-session, unread, all-read, limited, no-room, wrote, settled, Through, Completes}
+use Rattle.demands.specs.Answers.{Ready, Answered, bad-table, long-scene, bad-session, unread, all-read, limited, no-room, wrote, settled, Through, Overfull, Overlong, Completes}
 use Rattle.demands.proofs.Refusals.{answered-by, answered-so, exactly-read}
 
 -- n at the place p, by the reader
@@ -85,16 +86,21 @@ module _ (table s : List ℕ) (z : Session) (out : List ℕ) (n p : ℕ) (lo : 2
       ready = let r = reads .0 in record { accepted = r .accepted; short = omega (arith, r .short, length-take k s); fits = c }
 
 -- ---- 1: the scene ends, nothing else wrong so far
-pub cut-completed : (table s : List ℕ) (z : Session) (out : List ℕ) → stepOf standard table s z out .answer .number ≡ 1 → Completes table s z out
+pub cut-completed : (table s : List ℕ) (z : Session) (out : List ℕ) → stepOf standard table s z out .answer .number ≡ 1 → Completes table s z out ⊎ Overfull s (Overlong table z out)
 cut-completed table s z out q =
     let c = exactly-read table s z out 1 (omega arith) (omega arith) .only q in
     let h = coherent-held (decode table) s z (c .0 .fits) in
-    let d = next-completed s (readerOf z) (h .place) (stepOf standard table s z out .answer .place) (c .1) in
+    or-full
+    (λ d.
     record {
       more = d .more;
       few = d .few;
       reads = λ l. by (d .more) l (c .0 .accepted) (coherent-more (decode table) s (d .more) z (c .0 .fits)) (d .done) (answered-by table (s ++ d .more) z out);
-    }
+    })
+    (λ t p r l.
+    let so = answered-so table (s ++ t) z out (unread (record { accepted = c .0 .accepted; short = l; fits = coherent-more (decode table) s t z (c .0 .fits) }) 3 p r (omega arith) (omega arith)) in
+    (ap (λ (r : Step). r .answer .number) so, ap (λ (r : Step). r .answer .place) so))
+    (next-completed s (readerOf z) (h .place) (stepOf standard table s z out .answer .place) (c .1))
   where
     by : (u : List ℕ) → length (s ++ u) ≤ longest → judged table .number ≡ 0 → coherent (decode table) (s ++ u) z ≡ true → Whole (next (s ++ u) (readerOf z)) → {r : Step} → Answered table (s ++ u) z out r → Through (r .answer .number) ⊎ (r .answer .number ≡ 9)
     by u l a c w (bad-table lo hi) = absurd (omega arith)

@@ -9,6 +9,7 @@ use Rattle.laws.specs.Over.{overwrite}
 use Rattle.laws.specs.Gather.{gather}
 use Rattle.table.specs.Table.{Table, decode, standard}
 use Rattle.table.specs.Judge.{judged}
+use Rattle.characters.specs.Utf8.{utf8}
 use Rattle.lexer.specs.Values.{closes}
 use Rattle.lexer.specs.Misc.{isXml}
 use Rattle.reader.specs.Events as scene
@@ -122,6 +123,25 @@ settled s p = cond (isXml s p (p + 3)) 3 (cond (closes s p 0x3C (getD s (p + 2) 
 -- an event was read to its end: 0, or a number that is said of a whole event
 abbrev pub Through : ℕ → Type 0
 Through n = (n ≡ 0) ⊎ (((4 ≤ n) × (n ≤ 6)) ⊎ ((21 ≤ n) × (n ≤ 25)))
+
+-- "A sequence cut by the scene's end is 1", also where the 64 bytes of a part cannot hold the rest of its last character: some character begins with
+-- the bytes that end the scene, and with its rest behind the scene the part's 65th byte is refused, inside the character. Refused: that this is
+-- so of a scene, at a place
+pub record Overfull (s : List ℕ) (Refused : List ℕ → ℕ → Type 0) : Type 0 where
+  pub part : ℕ
+  pub character : ℕ
+  pub behind : part ≤ character
+  pub inside : character < length s
+  pub code : ℕ
+  pub rest : List ℕ
+  pub form : utf8 code ≡ drop character s ++ rest
+  pub long : part + 64 < length (s ++ rest)
+  pub refused : Refused (s ++ rest) (part + 64)
+
+-- the step gives 3 there, where the scene is not too long
+abbrev pub Overlong : List ℕ → Session → List ℕ → List ℕ → ℕ → Type 0
+Overlong table z out s p =
+    length s ≤ longest → (stepOf standard table s z out .answer .number ≡ 3) × (stepOf standard table s z out .answer .place ≡ p)
 
 -- a few bytes with which the step reads its event to the end, or behind the root finishes, where the scene with them is not too long
 pub record Completes (table s : List ℕ) (z : Session) (out : List ℕ) : Type 0 where

@@ -2,16 +2,20 @@
 use Prim.Native.Nat.{ℕ, zero, suc, _+_, _-_, _≤_, _<_}
 use mathlib.Core.Path.{_≡_, refl, sym, subst, _∙_}
 use mathlib.Core.List.{List, [], _∷_, _++_}
-use mathlib.Core.Bool.{Bool, false, _||_}
-use mathlib.Core.Logic.{_⊎_, inl, inr}
+use mathlib.Core.Bool.{Bool, true, false, cond, not, _||_}
+use mathlib.Core.Logic.{_⊎_, inl, inr, ⊎-elim}
 use native.Mathlib.Omega.{arith}
-use borrow.Author.Tests.{eqb-true, eqb-false}
+use borrow.Author.Tests.{eqb-true, eqb-false, not-true}
 use lib.ListN.{length, getD, length-append}
 use lib.Dec.{eqb}
 use Rattle.laws.specs.Members.{All}
+use Rattle.laws.specs.Reading.{le-or-lt}
+use Rattle.laws.proofs.Flags.{and-right}
 use Rattle.laws.proofs.Holds.{holds-cond, holds-peek, Turned, run-held, each-more}
 use Rattle.lexer.specs.Stops.{afterRead, afterName}
-use Rattle.lexer.specs.Names.{isSpace, spaceStep, spacesEnd, startLen, nameLen, partStep, partEnd, nameOf, prefixedAt, nameAt}
+use Rattle.characters.specs.Deciding.{begins}
+use Rattle.characters.specs.declared.Set.the-variants as set
+use Rattle.lexer.specs.Names.{isSpace, spaceStep, spacesEnd, PartState, partState, partSet, partWhole, partStep, partEnd, nameOf, prefixedAt, nameAt}
 use Rattle.lexer.specs.Values.{valueEnd}
 use Rattle.lexer.specs.Tags.{wanted, equalsEnd, quotedAt, attributeAt, slashAt, turnBehind, turnAt, TagRead, tagStopped, tagClosed, fullTurn, attrThen, turnThen, attrsFrom, tagAt, endTagAt}
 use Rattle.lexer.specs.declared.Stop.{Stop}
@@ -32,7 +36,8 @@ use Rattle.lexer.specs.declared.Tagged.the-variants as tagged
 use Rattle.lexer.specs.declared.EndTag.{EndTag}
 use Rattle.lexer.specs.declared.Ended.{Ended}
 use Rattle.lexer.specs.declared.Ended.the-variants as ended
-use Rattle.lexer.proofs.ValueLaws.{Within, ValueTo, value-inside}
+use Rattle.lexer.proofs.CharacterLaws.{Within}
+use Rattle.lexer.proofs.ValueLaws.{ValueTo, value-inside}
 
 -- a stop's place is inside the slice, at or behind the place where reading began
 abbrev pub StopInside : List ℕ → ℕ → Stop → Type 0
@@ -88,20 +93,26 @@ PartTo s at j = (at < j) × (j < length s) × (j ≤ at + 64)
 
 pub part-inside : (s : List ℕ) (at : ℕ) → ReadInside (PartTo s at) s at (partEnd s at)
 unfolding partEnd
-part-inside s at = run-held (read.Stopped Cut) (partStep s) s Room In tt turn 64 at (omega arith)
+part-inside s at = run-held (read.Stopped Cut) partStep s Room In tt turn (partState 64 []) at (omega arith)
   where
-    Room : ℕ → ℕ → Type 0
-    Room room j = (at ≤ j) × (j + room ≡ at + 64)
+    Room : PartState → ℕ → Type 0
+    Room q j = (at ≤ j) × (j + q .room ≡ at + 64)
 
     In : Read → Type 0
     In = ReadInside (PartTo s at) s at
 
-    turn : (room j : ℕ) → j < length s → Room room j → Turned (λ (q : ℕ). Room q (j + 1)) In (partStep s room (getD s j 0) j)
-    turn room j hi h =
-        holds-cond (Turned (λ (q : ℕ). Room q (j + 1)) In) (eqb room 64)
-        (λ e. holds-cond (Turned (λ (q : ℕ). Room q (j + 1)) In) (eqb (startLen s j) 0) (λ _. (h .0, hi)) (λ _. omega (arith, eqb-true room 64 e)))
-        (λ e. holds-cond (Turned (λ (q : ℕ). Room q (j + 1)) In) (eqb (nameLen s j) 0) (λ _. omega (arith, eqb-false room 64 e))
-        (λ _. holds-cond (Turned (λ (q : ℕ). Room q (j + 1)) In) (eqb room 0) (λ _. (h .0, hi)) (λ z. omega (arith, eqb-false room 0 z))))
+    ends : (q : PartState) (j : ℕ) → j < length s → Room q j → (t : Bool) → (t ≡ true → q .room ≡ 64 → ⊥) → In (cond t (read.End j) (read.Stopped (Bad j)))
+    ends q j hi h true n = let m = n refl in (omega (arith, low m), hi, omega arith)
+      where
+        low : (q .room ≡ 64 → ⊥) → at < j
+        low m = ⊎-elim (λ le. absurd (m (omega arith))) (λ lt. lt) (le-or-lt j at)
+    ends q j hi h false n = (h .0, hi)
+
+    turn : (q : PartState) (j : ℕ) → j < length s → Room q j → Turned (λ (q′ : PartState). Room q′ (j + 1)) In (partStep q (getD s j 0) j)
+    turn q j hi h =
+        holds-cond (Turned (λ (q′ : PartState). Room q′ (j + 1)) In) (begins (partSet q) (q .begun) (getD s j 0))
+        (λ _. holds-cond (Turned (λ (q′ : PartState). Room q′ (j + 1)) In) (eqb (q .room) 0) (λ _. (h .0, hi)) (λ z. omega (arith, eqb-false (q .room) 0 z)))
+        (λ _. ends q j hi h (partWhole q) (λ w e. eqb-false (q .room) 64 (not-true _ (and-right (eqb (length (q .begun)) 0) (not (eqb (q .room) 64)) w)) e))
 
 -- ---- names
 -- a prefix and its colon, before the part at a place
@@ -253,7 +264,7 @@ behind-inside s at i le =
     holds-cond In (eqb (getD s i 0) 0x3E) (λ e. omega arith) (λ e.
     holds-cond In (eqb (getD s i 0) 0x2F) (λ e. later (slashAt s i) (slash-inside s i)) (λ e.
     holds-cond In (eqb i at) (λ e. omega arith) (λ ne.
-    holds-cond In (eqb (startLen s i) 0) (λ e. omega arith) (λ e. omega (arith, eqb-false i at ne))))))
+    holds-cond In (begins set.Start [] (getD s i 0)) (λ e. omega (arith, eqb-false i at ne)) (λ e. omega arith)))))
   where
     In : Turn → Type 0
     In = TurnInside s at

@@ -1,5 +1,6 @@
--- The test of a name byte by the bits of two numbers, tried at every byte below 128.
---     low-bits, high-bits, no-bits     a byte below 64, below 128, any other
+-- Bytes below 128: the test of a name byte by the bits of two numbers, and the sets of characters on them, tried at every such byte.
+--     low-bits, high-bits, no-bits         a byte below 64, below 128, any other
+--     start-ascii, name-ascii, char-ascii  the code's tests of such bytes are the sets'
 use Prim.Native.Nat.{ℕ, _+_, _-_, _/_, _%_, _^_, _≤_, _<_}
 use mathlib.Core.Path.{_≡_, refl, sym, _∙_}
 use mathlib.Core.Bool.{Bool, true, false, not, and-false}
@@ -10,10 +11,19 @@ use lib.Bits.{bitAnd}
 use lib.Dec.{eqb}
 use lib.ListN.{getD}
 use Rattle.laws.specs.Bits.{mask1}
-use Rattle.laws.specs.Lists.{all, tabulate}
+use mathlib.Core.List.{[]}
+use mathlib.Core.Logic.{⊎-elim}
+use Rattle.laws.specs.Lists.{any, all, tabulate}
+use Rattle.laws.specs.Reading.{le-or-lt}
+use Rattle.laws.proofs.Flags.{differ}
 use Rattle.laws.proofs.Lists.{getD-tabulate, length-tabulate}
 use Rattle.laws.proofs.Members.{in-at, all-in}
-use Rattle.lexer.specs.Names.{isName}
+use Rattle.characters.specs.Sets.{member, rangesOf}
+use Rattle.characters.specs.Deciding.{begins}
+use Rattle.characters.specs.declared.Set.{Set}
+use Rattle.characters.specs.declared.Set.the-variants as set
+use Rattle.characters.proofs.Laws.{ascii-begins}
+use Rattle.lexer.specs.Shortcuts.{isStart, isName, isChar}
 
 -- two tests agree
 abbrev alike : Bool → Bool → Bool
@@ -56,3 +66,37 @@ no-bits b h =
       ne-eqb b 0x5F (λ e. omega arith),
       and-false,
     )
+
+no-start : (b : ℕ) → 128 ≤ b → false ≡ isStart b
+no-start b h = simp (lt-leb b 0x5A (omega arith), lt-leb b 0x7A (omega arith), ne-eqb b 0x5F (λ e. omega arith), and-false)
+
+-- ---- the sets
+module _ (x : Set) (test : ℕ → Bool) where
+  abbrev fits : ℕ → Bool
+  fits b = alike (test b) (member (rangesOf x) b)
+
+  fit : all fits (tabulate (λ (k : ℕ). k) 0 128) ≡ true → (b : ℕ) → b < 128 → test b ≡ member (rangesOf x) b
+  fit e b h =
+      let bytes = tabulate (λ (k : ℕ). k) 0 128 in
+      let q : getD bytes b 0 ≡ b = getD-tabulate (λ (k : ℕ). k) 0 128 b 0 h ∙ omega arith in
+      let r : fits (getD bytes b 0) ≡ true = all-in fits _ bytes e (in-at bytes b 0 (rw (length-tabulate (λ (k : ℕ). k) 0 128) h)) in
+      alike-same _ _ (rw q at r)
+
+pub start-ascii : (b : ℕ) → b < 128 → isStart b ≡ begins set.Start [] b
+unfolding all tabulate member any
+start-ascii b h = fit set.Start isStart refl b h ∙ sym (ascii-begins set.Start b h)
+
+pub name-ascii : (b : ℕ) → b < 128 → isName b ≡ begins set.Name [] b
+unfolding all tabulate member any
+name-ascii b h = fit set.Name isName refl b h ∙ sym (ascii-begins set.Name b h)
+
+pub char-ascii : (b : ℕ) → b < 128 → isChar b ≡ member (rangesOf set.Char) b
+unfolding all tabulate member any
+char-ascii b h = fit set.Char isChar refl b h
+
+-- a byte that the name tests take is below 128
+pub start-low : (b : ℕ) → isStart b ≡ true → b < 128
+start-low b e = ⊎-elim (λ h. absurd (differ (sym e ∙ sym (no-start b h)))) (λ h. h) (le-or-lt 128 b)
+
+pub name-low : (b : ℕ) → isName b ≡ true → b < 128
+name-low b e = ⊎-elim (λ h. absurd (differ (sym e ∙ sym (no-bits b h)))) (λ h. h) (le-or-lt 128 b)

@@ -6,14 +6,15 @@ use mathlib.Core.List.{List, [], _∷_, _++_}
 use mathlib.Core.Bool.{true, false, cond, _||_}
 use mathlib.Core.Logic.{_⊎_, inl, inr}
 use native.Mathlib.Omega.{arith}
-use borrow.Author.Tests.{lt-ltb}
-use lib.ListN.{length, take, getD, length-append, List·getD-append}
+use lib.ListN.{length, take}
 use lib.Seq.{take-length}
 use lib.Dec.{eqb}
-use Rattle.laws.specs.Reading.{stop, Stable, stable-same, stable-cond, stable-peek, run-stable, run-agree-at}
-use Rattle.laws.proofs.Kept.{Kept, kept-bind, stable-inside, cut-short}
+use Rattle.laws.specs.Reading.{Stable, stable-same, stable-cond, stable-peek, run-stable}
+use Rattle.laws.proofs.Kept.{Kept, kept-bind, cut-short}
+use Rattle.characters.specs.Deciding.{begins}
+use Rattle.characters.specs.declared.Set.the-variants as set
 use Rattle.lexer.specs.Stops.{stopPlace, afterRead, afterName}
-use Rattle.lexer.specs.Names.{spaceStep, spacesEnd, startLen, nameLen, partStep, partEnd, nameOf, prefixedAt, nameAt}
+use Rattle.lexer.specs.Names.{spaceStep, spacesEnd, partState, partStep, partEnd, nameOf, prefixedAt, nameAt}
 use Rattle.lexer.specs.Values.{valueEnd}
 use Rattle.lexer.specs.Tags.{wanted, equalsEnd, attrOf, quotedAt, attributeAt, slashAt, turnBehind, turnAt, TagRead, tagStopped, fullTurn, attrThen, turnThen, attrsFrom, tagAt, endTagAt}
 use Rattle.lexer.specs.declared.Stop.{Stop}
@@ -58,29 +59,11 @@ module _ {A : Type 0} (f : Stop → A) where
   pub stable-afterName : (k k′ : Name → A) → ((n : Name) → Stable (f Cut) (k n) (k′ n)) → (r r′ : Named) → Stable (named.Stopped Cut) r r′ → Stable (f Cut) (afterName f r k) (afterName f r′ k′)
   stable-afterName = kept-afterName (λ (a : A). a ≡ f Cut) f refl
 
--- ---- a name character, by its bytes
-pub start-same : (s s′ : List ℕ) (i i′ : ℕ) → i < length s → i′ < length s′ → getD s′ i′ 0 ≡ getD s i 0 → startLen s′ i′ ≡ startLen s i
-unfolding startLen
-start-same s s′ i i′ h h′ e = rw (lt-ltb i (length s) h, lt-ltb i′ (length s′) h′, e)
-
-pub name-same : (s s′ : List ℕ) (i i′ : ℕ) → i < length s → i′ < length s′ → getD s′ i′ 0 ≡ getD s i 0 → nameLen s′ i′ ≡ nameLen s i
-unfolding nameLen
-name-same s s′ i i′ h h′ e = rw (lt-ltb i (length s) h, lt-ltb i′ (length s′) h′, e)
-
 -- the answers of a start tag that may change
 abbrev pub CutTag : TagRead → Type 0
 CutTag r = r .answer ≡ tagged.Stopped Cut
 
 module _ (s t : List ℕ) where
-  longer : (at : ℕ) → at < length s → at < length (s ++ t)
-  longer at h = simp length-append (omega arith)
-
-  pub start-stable : (at : ℕ) → at < length s → startLen (s ++ t) at ≡ startLen s at
-  start-stable at h = start-same s (s ++ t) at at h (longer at h) (List·getD-append s t 0 at h)
-
-  pub nameLen-stable : (at : ℕ) → at < length s → nameLen (s ++ t) at ≡ nameLen s at
-  nameLen-stable at h = name-same s (s ++ t) at at h (longer at h) (List·getD-append s t 0 at h)
-
   -- ---- space, parts, names
   pub spaces-stable : (at : ℕ) → Stable (read.Stopped Cut) (spacesEnd s at) (spacesEnd (s ++ t) at)
   unfolding spacesEnd
@@ -88,7 +71,7 @@ module _ (s t : List ℕ) where
 
   pub part-stable : (at : ℕ) → Stable (read.Stopped Cut) (partEnd s at) (partEnd (s ++ t) at)
   unfolding partEnd
-  part-stable at = run-agree-at (read.Stopped Cut) (partStep s) (partStep (s ++ t)) 64 s t at (λ room b j lo hi n. simp (start-stable j hi, nameLen-stable j hi))
+  part-stable at = run-stable (read.Stopped Cut) partStep (partState 64 []) s t at
 
   pub prefixed-stable : (at part : ℕ) → Stable (named.Stopped Cut) (prefixedAt s at part) (prefixedAt (s ++ t) at part)
   unfolding prefixedAt
@@ -136,13 +119,10 @@ module _ (s t : List ℕ) where
   pub behind-stable : (at i : ℕ) → Stable (turn.Stopped Cut) (turnBehind s at i) (turnBehind (s ++ t) at i)
   unfolding turnBehind
   behind-stable at i =
-      stable-inside (turn.Stopped Cut) s t i _ _ (λ lt (b : ℕ).
+      stable-peek (turn.Stopped Cut) s t i _ _ (λ (b : ℕ).
       stable-cond (turn.Stopped Cut) (eqb b 0x3E) (stable-same (turn.Stopped Cut) (turn.Close (i + 1) false))
       (stable-cond (turn.Stopped Cut) (eqb b 0x2F) (slash-stable i)
-      (spaced lt)))
-    where
-      spaced : i < length s → Stable (turn.Stopped Cut) (cond (eqb i at) (turn.Stopped (Bad i)) (cond (eqb (startLen s i) 0) (turn.Stopped (Bad i)) (turn.Attribute i))) (cond (eqb i at) (turn.Stopped (Bad i)) (cond (eqb (startLen (s ++ t) i) 0) (turn.Stopped (Bad i)) (turn.Attribute i)))
-      spaced lt n = rw (start-stable i lt)
+      (stable-same (turn.Stopped Cut) (cond (eqb i at) (turn.Stopped (Bad i)) (cond (begins set.Start [] b) (turn.Attribute i) (turn.Stopped (Bad i)))))))
 
   pub turn-stable : (at : ℕ) → Stable (turn.Stopped Cut) (turnAt s at) (turnAt (s ++ t) at)
   unfolding turnAt

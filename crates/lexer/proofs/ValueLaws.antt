@@ -1,6 +1,5 @@
 -- References and values: the place that an answer names is inside the scene, and an answer other than `Cut` stays when more bytes come.
---     Within                                what an answer says of its place
---     reference-inside, value-inside        which places those are; end-of, bad-of, no-long take them out
+--     reference-inside, value-inside        which places an answer names
 --     reference-stable, value-stable        more bytes
 use Prim.Native.Nat.{ℕ, _+_, _-_, _≤_, _<_}
 use mathlib.Core.Path.{_≡_, refl, sym, ap, subst, _∙_}
@@ -16,29 +15,14 @@ use Rattle.laws.specs.Reading.{RunNext, go, stop, Stable, stable-same, stable-c
 use Rattle.laws.specs.Text.{bytes}
 use Rattle.laws.proofs.Flags.{and-left, and-right}
 use Rattle.laws.proofs.Holds.{holds-cond, Turned, run-held}
-use Rattle.lexer.specs.Values.{references, common, wholeOf, furthest, noReference, referenceEnd, isText, referred, closes, valueStep, valueFrom, valueEnd}
+use Rattle.lexer.specs.Values.{references, common, wholeOf, furthest, noReference, referenceEnd, textAt, passedOver, closes, valueStep, valueFrom, valueEnd}
 use Rattle.lexer.specs.declared.Stop.the-variants.{Bad, Long, Cut}
 use Rattle.lexer.specs.declared.Read.{Read}
 use Rattle.lexer.specs.declared.Read.the-variants.{End, Stopped}
+use Rattle.characters.specs.declared.Set.the-variants as set
+use Rattle.lexer.proofs.CharacterLaws.{Within, PassedTo, char-inside, char-stable}
 use Rattle.lexer.proofs.Common.{common-none, common-all, common-kept}
 use Rattle.lexer.proofs.References.{found-in, none-cut}
-
--- P: what holds of the end. A byte that cannot stand there is inside the scene; a reference and a value are never too long
-abbrev pub Within : (ℕ → Type 0) → List ℕ → ℕ → Read → Type 0
-Within P s at (End j) = P j
-Within P s at (Stopped (Bad j)) = (at ≤ j) × (j < length s)
-Within P s at (Stopped (Long j)) = ⊥
-Within P s at (Stopped Cut) = Unit
-
-module _ (P : ℕ → Type 0) (s : List ℕ) (at j : ℕ) (r : Read) (w : Within P s at r) where
-  pub end-of : r ≡ End j → P j
-  end-of e = subst (Within P s at) e w
-
-  pub bad-of : r ≡ Stopped (Bad j) → (at ≤ j) × (j < length s)
-  bad-of e = subst (Within P s at) e w
-
-  pub no-long : r ≡ Stopped (Long j) → ⊥
-  no-long e = subst (Within P s at) e w
 
 -- ---- one of the five, or none
 data Reference : List ℕ → Type 0 where
@@ -69,23 +53,25 @@ some w quot = omega arith
 some w apos = omega arith
 
 -- ---- inside
-abbrev pub ReferenceTo : List ℕ → ℕ → ℕ → Type 0
-ReferenceTo s at j = (at < j) × (j ≤ length s)
-
-none-inside : (s : List ℕ) (at : ℕ) → Within (ReferenceTo s at) s at (noReference s at)
+none-inside : (s : List ℕ) (at : ℕ) → Within (PassedTo s at) s at (noReference s at)
 unfolding noReference
 none-inside s at =
-    holds-cond (Within (ReferenceTo s at) s at) (leb (length s) k) (λ e. tt) (λ e. (omega arith, leb-false (length s) k e))
+    holds-cond (Within (PassedTo s at) s at) (leb (length s) k) (λ e. tt) (λ e. (omega arith, leb-false (length s) k e))
   where
     k : ℕ
     k = at + furthest (drop at s) references
 
-pub reference-inside : (s : List ℕ) (at : ℕ) → Within (ReferenceTo s at) s at (referenceEnd s at)
+pub reference-inside : (s : List ℕ) (at : ℕ) → Within (PassedTo s at) s at (referenceEnd s at)
 unfolding referenceEnd
 reference-inside s at =
-    each (Within (ReferenceTo s at) s at) s at (noReference s at)
+    each (Within (PassedTo s at) s at) s at (noReference s at)
     (λ (w : List ℕ) o e. (omega (arith, some w o), found-in s w at (length w) (sym e) (some w o)))
     (none-inside s at)
+
+-- a character other than <
+pub text-inside : (s : List ℕ) (b i : ℕ) → i < length s → Within (PassedTo s i) s i (textAt s b i)
+unfolding textAt
+text-inside s b i h = holds-cond (Within (PassedTo s i) s i) (eqb b 0x3C) (λ _. (omega arith, h)) (λ _. char-inside set.Char s i)
 
 -- where ]]> is refused, three bytes of the text have been read
 pub closes-behind : (s : List ℕ) (at quote b i : ℕ) → closes s at quote b i ≡ true → at + 2 ≤ i
@@ -112,7 +98,7 @@ value-inside s at quote = run-held (Stopped Cut) (valueStep s at quote) s (λ (l
     Turn : ℕ → RunNext ℕ Read → Type 0
     Turn j = Turned (λ (left : ℕ). at ≤ j + 1) In
 
-    passed : (j : ℕ) → at ≤ j → (r : Read) → Within (ReferenceTo s j) s j r → Turn j (referred j r)
+    passed : (j : ℕ) → at ≤ j → (r : Read) → Within (PassedTo s j) s j r → Turn j (passedOver j r)
     passed j lo (End k) w = omega arith
     passed j lo (Stopped (Bad k)) w = omega arith
     passed j lo (Stopped (Long k)) w = w
@@ -124,7 +110,7 @@ value-inside s at quote = run-held (Stopped Cut) (valueStep s at quote) s (λ (l
         (λ _. holds-cond (Turn j) (eqb (getD s j 0) quote) (λ e. (lo, hi, eqb-true (getD s j 0) quote e))
         (λ _. holds-cond (Turn j) (eqb (getD s j 0) 0x26) (λ _. passed j lo (referenceEnd s j) (reference-inside s j))
         (λ _. holds-cond (Turn j) (closes s at quote (getD s j 0) j) (λ c. omega (arith, closes-behind s at quote (getD s j 0) j c))
-        (λ _. holds-cond (Turn j) (isText (getD s j 0)) (λ _. omega arith) (λ _. (lo, hi))))))
+        (λ _. passed j lo (textAt s (getD s j 0) j) (text-inside s (getD s j 0) j hi)))))
         (λ _. omega arith)
 
 -- ---- more bytes
@@ -190,6 +176,10 @@ reference-stable s t at = ⊎-elim ends goes (le-or-lt (length s) (at + furthest
         let i : furthest (drop at s) references < length (drop at s) = simp length-drop (omega arith) in
         rw (none-kept s t at h) (whole-kept s t at (noReference s at) (omega arith) references i)
 
+pub text-stable : (s t : List ℕ) (b i : ℕ) → Stable (Stopped Cut) (textAt s b i) (textAt (s ++ t) b i)
+unfolding textAt
+text-stable s t b i = stable-cond (Stopped Cut) (eqb b 0x3C) (stable-same (Stopped Cut) (Stopped (Bad i))) (char-stable set.Char s t i)
+
 pub closes-kept : (s t : List ℕ) (at quote b i : ℕ) → i < length s → closes (s ++ t) at quote b i ≡ closes s at quote b i
 unfolding closes
 closes-kept s t at quote b i h = rw (List·getD-append s t 0 (i - 1) (omega arith), List·getD-append s t 0 (i - 2) (omega arith))
@@ -201,10 +191,13 @@ value-stable s t at quote = run-agree-at cut (valueStep s at quote) (valueStep (
     cut : Read
     cut = Stopped Cut
 
+    over : (j : ℕ) (r r′ : Read) → Stable cut r r′ → Stable (stop cut) (passedOver j r) (passedOver j r′)
+    over j = stable-bind cut (stop cut) (passedOver j) (passedOver j) refl (λ (r : Read). stable-same (stop cut) (passedOver j r))
+
     agree : (left b j : ℕ) → at ≤ j → j < length s → Stable (stop cut) (valueStep s at quote left b j) (valueStep (s ++ t) at quote left b j)
     agree left b j lo hi =
         stable-cond (stop cut) (eqb left 0)
         (stable-cond (stop cut) (eqb b quote) (stable-same (stop cut) (stop (End j)))
-        (stable-cond (stop cut) (eqb b 0x26) (stable-bind cut (stop cut) (referred j) (referred j) refl (λ (r : Read). stable-same (stop cut) (referred j r)) (referenceEnd s j) (referenceEnd (s ++ t) j) (reference-stable s t j))
-        (rw (closes-kept s t at quote b j hi) (stable-same (stop cut) (cond (closes s at quote b j) (stop (Stopped (Bad (j - 2)))) (cond (isText b) (go 0) (stop (Stopped (Bad j)))))))))
+        (stable-cond (stop cut) (eqb b 0x26) (over j (referenceEnd s j) (referenceEnd (s ++ t) j) (reference-stable s t j))
+        (rw (closes-kept s t at quote b j hi) (stable-cond (stop cut) (closes s at quote b j) (stable-same (stop cut) (stop (Stopped (Bad (j - 2))))) (over j (textAt s b j) (textAt (s ++ t) b j) (text-stable s t b j))))))
         (stable-same (stop cut) (go (left - 1)))

@@ -127,7 +127,7 @@ texts = (refl, refl, refl, refl, refl, refl, refl, refl, refl, refl)
 bytes-and-places :
     (beginAt (0xEF ∷ 0xBB ∷ 0xBF ∷ bytes "<r/>") 0 false false ≡ begin.Stopped (Bad 0))
     × (miscEnd (bytes "<!--" ++ (0x0B ∷ [])) 0 ≡ read.Stopped (Bad 4))
-    × (miscEnd (bytes "<!--" ++ (0xFF ∷ bytes "-->")) 0 ≡ read.End 8)
+    × (miscEnd (bytes "<!--" ++ (0xFF ∷ bytes "-->")) 0 ≡ read.Stopped (Bad 4))
     × (miscEnd (bytes "<!--<&]]>&x;?>-->") 0 ≡ read.End 17)
     × (miscEnd (bytes "<?" ++ replicate 64 0x74 ++ bytes "?>") 0 ≡ read.End 68)
     × (miscEnd (bytes "<?" ++ replicate 65 0x74) 0 ≡ read.Stopped (Long 66))

@@ -1,5 +1,7 @@
 pub mod Stops
+pub mod Characters
 pub mod Names
+pub mod Shortcuts
 pub mod Values
 pub mod Attrs
 pub mod Tags

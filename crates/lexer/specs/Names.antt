@@ -1,12 +1,15 @@
--- Space, name parts and names. The two name tests stand here and nowhere else: what lies above asks how many bytes of a name character
--- stand at a place. Definitions.
+-- Space, name parts and names. Definitions.
 use Prim.Native.Nat.{ℕ, _+_, _-_}
-use mathlib.Core.List.{List}
-use mathlib.Core.Bool.{Bool, cond, _&&_, _||_}
-use lib.ListN.{drop}
+use mathlib.Core.List.{List, []}
+use mathlib.Core.Bool.{Bool, cond, not, _&&_, _||_}
+use lib.ListN.{length, drop}
 use lib.Dec.{leb, eqb}
 use Rattle.laws.specs.Reading.{RunNext, go, stop, run, peek}
+use Rattle.characters.specs.Deciding.{begins}
+use Rattle.characters.specs.declared.Set.{Set}
+use Rattle.characters.specs.declared.Set.the-variants as set
 use Rattle.lexer.specs.Stops.{afterRead}
+use Rattle.lexer.specs.Characters.{withByte}
 use Rattle.lexer.specs.declared.Stop.the-variants.{Bad, Long, Cut}
 use Rattle.lexer.specs.declared.Read.{Read}
 use Rattle.lexer.specs.declared.Read.the-variants as read
@@ -29,31 +32,36 @@ spacesEnd s at = run (read.Stopped Cut) spaceStep 0 (drop at s) at
 abbrev pub within : ℕ → ℕ → ℕ → Bool
 within lo hi b = leb lo b && leb b hi
 
--- "an ASCII letter or _"
-abbrev pub isStart : ℕ → Bool
-isStart b = within 0x41 0x5A b || within 0x61 0x7A b || eqb b 0x5F
+-- Where a part is read to: how many bytes may still come, 64 at the first, and the bytes of a character that is not whole
+pub record PartState : Type 0 where
+  pub room : ℕ
+  pub begun : List ℕ
 
--- "and then letters, digits, - . _"
-abbrev pub isName : ℕ → Bool
-isName b = within 0x41 0x5A b || within 0x61 0x7A b || within 0x30 0x39 b || eqb b 0x2D || eqb b 0x2E || eqb b 0x5F
+abbrev pub partState : ℕ → List ℕ → PartState
+partState room begun = record { room = room; begun = begun }
 
--- how many bytes of a character that can begin a name stand at a place, and of one that can go on with it
-unfoldable pub startLen : List ℕ → ℕ → ℕ
-startLen s at = peek 0 s at (λ (b : ℕ). cond (isStart b) 1 0)
+-- "Name parts follow NameStartChar and NameChar .. without the colon": the set of the character that stands there
+abbrev pub partSet : PartState → Set
+partSet q = cond (eqb (q .room + length (q .begun)) 64) set.Start set.Name
 
-unfoldable pub nameLen : List ℕ → ℕ → ℕ
-nameLen s at = peek 0 s at (λ (b : ℕ). cond (isName b) 1 0)
+-- whether the part may end there: behind a whole character
+abbrev pub partWhole : PartState → Bool
+partWhole q = eqb (length (q .begun)) 0 && not (eqb (q .room) 64)
 
--- "A name part is an ASCII letter or _ and then letters, digits, - . _ , at most 64 bytes". In the state: how many bytes may still come, 64 at
--- the first. "2 byte that cannot stand there; 3 65th byte of a part": only where it could go on with the part
-abbrev pub partStep : List ℕ → ℕ → ℕ → ℕ → RunNext ℕ Read
-partStep s room b i =
-    cond (eqb room 64)
-    (cond (eqb (startLen s i) 0) (stop (read.Stopped (Bad i))) (go 63))
-    (cond (eqb (nameLen s i) 0) (stop (read.End i)) (cond (eqb room 0) (stop (read.Stopped (Long i))) (go (room - 1))))
+-- "the 64 limit counts bytes still". "The first byte at which no character allowed there can begin or go on gets 2, a 65th of a part that can begin
+-- or continue a name character 3"
+abbrev pub partStep : PartState → ℕ → ℕ → RunNext PartState Read
+partStep q b i =
+    cond (begins (partSet q) (q .begun) b)
+    (cond (eqb (q .room) 0) (stop (read.Stopped (Long i))) (go (partState (q .room - 1) (withByte (q .begun) b))))
+    (stop (cond (partWhole q) (read.End i) (read.Stopped (Bad i))))
 
 unfoldable pub partEnd : List ℕ → ℕ → Read
-partEnd s at = run (read.Stopped Cut) (partStep s) 64 (drop at s) at
+partEnd s at = run (read.Stopped Cut) partStep (partState 64 []) (drop at s) at
+
+-- a part of which the bytes from `at` up to i are read, whole characters
+unfoldable pub partFrom : List ℕ → ℕ → ℕ → Read
+partFrom s at i = run (read.Stopped Cut) partStep (partState (at + 64 - i) []) (drop i s) i
 
 abbrev pub nameOf : ℕ → ℕ → ℕ → Named
 nameOf at part end = named.Got (record { at = at; part = part; end = end })

@@ -6,7 +6,9 @@ use lib.ListN.{length}
 use lib.Dec.{eqb}
 use Rattle.laws.specs.Reading.{peek}
 use Rattle.lexer.specs.Stops.{afterRead, afterName}
-use Rattle.lexer.specs.Names.{spacesEnd, startLen, nameAt}
+use Rattle.characters.specs.Deciding.{begins}
+use Rattle.characters.specs.declared.Set.the-variants as set
+use Rattle.lexer.specs.Names.{spacesEnd, nameAt}
 use Rattle.lexer.specs.Values.{valueEnd}
 use Rattle.lexer.specs.declared.Stop.{Stop}
 use Rattle.lexer.specs.declared.Stop.the-variants.{Bad, Long, Cut}
@@ -63,7 +65,7 @@ turnBehind s at i =
     cond (eqb b 0x3E) (turn.Close (i + 1) false)
     (cond (eqb b 0x2F) (slashAt s i)
     (cond (eqb i at) (turn.Stopped (Bad i))
-    (cond (eqb (startLen s i) 0) (turn.Stopped (Bad i)) (turn.Attribute i)))))
+    (cond (begins set.Start [] b) (turn.Attribute i) (turn.Stopped (Bad i))))))
 
 -- behind a tag's name or an attribute: "(space, name, ..), optional space, > or />"
 unfoldable pub turnAt : List ℕ → ℕ → Turn

@@ -1,11 +1,13 @@
 -- References, values and texts. Definitions.
 use Prim.Native.Nat.{ℕ, zero, suc, _+_, _-_}
 use mathlib.Core.List.{List, [], _∷_}
-use mathlib.Core.Bool.{Bool, cond, not, _&&_, _||_}
+use mathlib.Core.Bool.{Bool, cond, _&&_}
 use lib.ListN.{length, drop, getD}
 use lib.Dec.{leb, ltb, eqb}
 use Rattle.laws.specs.Reading.{RunNext, go, stop, run}
 use Rattle.laws.specs.Text.{bytes}
+use Rattle.characters.specs.declared.Set.the-variants as set
+use Rattle.lexer.specs.Characters.{charEnd}
 use Rattle.lexer.specs.declared.Stop.the-variants.{Bad, Cut}
 use Rattle.lexer.specs.declared.Read.{Read}
 use Rattle.lexer.specs.declared.Read.the-variants as read
@@ -40,26 +42,26 @@ noReference s at =
 unfoldable pub referenceEnd : List ℕ → ℕ → Read
 referenceEnd s at = wholeOf s at references (noReference s at)
 
--- "Text and values hold 09, 0A, 0D and 20 to FF, without <"
-abbrev pub isText : ℕ → Bool
-isText b = (leb 0x20 b || eqb b 0x0A || eqb b 0x09 || eqb b 0x0D) && not (eqb b 0x3C)
+-- "Text and values must be well-formed UTF-8 of XML characters", "without <": the byte b at a place begins one
+unfoldable pub textAt : List ℕ → ℕ → ℕ → Read
+textAt s b i = cond (eqb b 0x3C) (read.Stopped (Bad i)) (charEnd set.Char s i)
 
--- a reference passed over, from its & on
-abbrev pub referred : ℕ → Read → RunNext ℕ Read
-referred i (read.End j) = go (j - (i + 1))
-referred i (read.Stopped x) = stop (read.Stopped x)
+-- a reference or a character passed over, from its first byte on
+abbrev pub passedOver : ℕ → Read → RunNext ℕ Read
+passedOver i (read.End j) = go (j - (i + 1))
+passedOver i (read.Stopped x) = stop (read.Stopped x)
 
 -- "Number 2 goes to .. the first of ]]> in text": its > is the byte b at i. A text begins at a place, and its quote is the <
 unfoldable pub closes : List ℕ → ℕ → ℕ → ℕ → ℕ → Bool
 closes s at quote b i = eqb quote 0x3C && leb (at + 2) i && eqb b 0x3E && eqb (getD s (i - 1) 0) 0x5D && eqb (getD s (i - 2) 0) 0x5D
 
--- "a value lacks its own quote; & starts only .." In the state: how many bytes of a reference are still to be passed over
+-- "a value lacks its own quote; & starts only .." In the state: how many bytes of a reference or a character are still to be passed over
 abbrev pub valueStep : List ℕ → ℕ → ℕ → ℕ → ℕ → ℕ → RunNext ℕ Read
 valueStep s at quote left b i =
     cond (eqb left 0)
     (cond (eqb b quote) (stop (read.End i))
-    (cond (eqb b 0x26) (referred i (referenceEnd s i))
-    (cond (closes s at quote b i) (stop (read.Stopped (Bad (i - 2)))) (cond (isText b) (go 0) (stop (read.Stopped (Bad i)))))))
+    (cond (eqb b 0x26) (passedOver i (referenceEnd s i))
+    (cond (closes s at quote b i) (stop (read.Stopped (Bad (i - 2)))) (passedOver i (textAt s b i)))))
     (go (left - 1))
 
 -- a value that begins at a place, from i on: the place of its quote. A text is such a value, its quote the <: "complete once the next < is read,

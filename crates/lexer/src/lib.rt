@@ -2,6 +2,7 @@
 pub mod names;
 pub mod stops;
 pub mod tags;
+pub mod utf8;
 pub mod values;
 
 // Why reading stops.

@@ -10,9 +10,9 @@ use crate::Stop;
 use crate::Tag;
 use crate::Tagged;
 use crate::Turn;
+use crate::names::can_start_part;
 use crate::names::name_at;
 use crate::names::spaces_end;
-use crate::names::start_len;
 use crate::values::value_end;
 ghost use mathlib.Core.Path.{_≡_};
 ghost use mathlib.Core.List.{[]};
@@ -110,10 +110,10 @@ fn turn_behind(s: &[u8], at: usize, i: usize) -> Turn
     if i == at {
         return Turn::Stopped(Stop::Bad(i));
     }
-    if start_len(s, i) == 0 {
-        return Turn::Stopped(Stop::Bad(i));
+    if can_start_part(b) {
+        return Turn::Attribute(i);
     }
-    Turn::Attribute(i)
+    Turn::Stopped(Stop::Bad(i))
 }
 
 // What stands behind a tag's name or an attribute that ends at a place.

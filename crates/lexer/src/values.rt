@@ -1,13 +1,17 @@
 // References, values and texts.
 use crate::Read;
 use crate::Stop;
+use crate::utf8::char_end;
+use crate::utf8::is_char;
+use characters::Set;
 use lanes::plain::plain_end;
 ghost use mathlib.Core.Path.{_≡_};
-ghost use mathlib.Core.Bool.{cond};
+ghost use mathlib.Core.Bool.{cond, not, _&&_};
 ghost use Prim.Native.Nat.{_≤_};
-ghost use lib.Dec.{ltb};
+ghost use lib.Dec.{ltb, eqb};
 ghost use lib.ListN.{drop};
-ghost use Rattle.lexer.specs.Values.{references, common, furthest, noReference, referenceEnd, isText, closes, valueFrom, valueEnd, textEnd};
+ghost use Rattle.lexer.specs.Shortcuts.{isChar};
+ghost use Rattle.lexer.specs.Values.{references, common, furthest, noReference, referenceEnd, closes, valueFrom, valueEnd, textEnd};
 
 // How many bytes from at on are those that the word begins with.
 fn common_at(s: &[u8], at: usize, word: &[u8]) -> usize
@@ -85,10 +89,11 @@ pub fn reference_end(s: &[u8], at: usize) -> Read
     no_reference(s, at)
 }
 
-pub fn is_text(b: u8) -> bool
-    ensures { λ r. ⌜ r ≡ isText b ⌝ }
+// Is a byte below 80 a character other than <?
+fn is_text(b: u8) -> bool
+    ensures { λ r. ⌜ r ≡ (isChar b && not (eqb b 0x3C)) ⌝ }
 {
-    ((0x20 <= b) | (b == 0x0A) | (b == 0x09) | (b == 0x0D)) & (b != 0x3C)
+    is_char(b) & (b != b'<')
 }
 
 // Whether the byte b at i is the > of ]]> in a text that begins at a place.
@@ -107,7 +112,7 @@ fn is_closing(s: &[u8], at: usize, quote: u8, b: u8, i: usize) -> bool
     (s[i - 1] == b']') & (s[i - 2] == b']')
 }
 
-// Behind the bytes from 80 on that stand at i, up to the quote.
+// Behind the characters from 80 on that stand at i, up to the quote.
 fn high_end(s: &[u8], at: usize, quote: u8, from: usize) -> usize
     ensures { λ r. ⌜ (from ≤ r) × (valueFrom (now (s .entry)) at quote r ≡ valueFrom (now (s .entry)) at quote from) ⌝ }
 {
@@ -120,7 +125,14 @@ fn high_end(s: &[u8], at: usize, quote: u8, from: usize) -> usize
         if b == quote {
             return i;
         }
-        i += 1;
+        match char_end(s, i, Set::Char) {
+            Read::End(j) => {
+                i = j;
+            }
+            Read::Stopped(_) => {
+                return i;
+            }
+        }
     }
     i
 }
@@ -148,10 +160,21 @@ fn value_rest(s: &[u8], at: usize, quote: u8, from: usize) -> Read
             if is_closing(s, at, quote, b, i) {
                 return Read::Stopped(Stop::Bad(i - 2));
             }
-            if !is_text(b) {
-                return Read::Stopped(Stop::Bad(i));
+            if b < 0x80 {
+                if !is_text(b) {
+                    return Read::Stopped(Stop::Bad(i));
+                }
+                i = plain_end(s, i + 1, quote);
+            } else {
+                match char_end(s, i, Set::Char) {
+                    Read::End(j) => {
+                        i = plain_end(s, high_end(s, at, quote, j), quote);
+                    }
+                    Read::Stopped(x) => {
+                        return Read::Stopped(x);
+                    }
+                }
             }
-            i = plain_end(s, high_end(s, at, quote, i + 1), quote);
         }
     }
     Read::Stopped(Stop::Cut)

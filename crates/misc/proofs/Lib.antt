@@ -1,4 +1,5 @@
 pub mod Words
+pub mod FreeTurns
 pub mod MiscTurns
 pub mod MiscLaws
 pub mod BeginLaws

@@ -19,11 +19,13 @@ use Rattle.laws.specs.Reading.{RunNext, Stable, stable-same, stable-cond, stabl
 use Rattle.laws.specs.Text.{bytes}
 use Rattle.laws.proofs.Flags.{and-left}
 use Rattle.laws.proofs.Holds.{holds-cond, holds-peek, Turned, run-held}
+use Rattle.characters.specs.Deciding.{begins}
+use Rattle.characters.specs.declared.Set.the-variants as set
 use Rattle.lexer.specs.Stops.{stopPlace, afterRead}
 use Rattle.lexer.specs.Names.{isSpace, spacesEnd, partEnd}
 use Rattle.lexer.specs.Tags.{wanted, equalsEnd, slashAt}
 use Rattle.lexer.specs.Declaration.{wordEnd, isLetter, isFieldByte, someStep, someEnd, versionEnd, encodingEnd, answerEnd, standaloneEnd, fieldWord, fieldValue, quotedEnd, fieldEnd, turnFrom, fieldTurn, fieldThen, lastRest, standaloneThen, encodingRest, encodingThen, eitherThen, versionRest, versionThen, declarationEnd}
-use Rattle.lexer.specs.Misc.{isFree, commentStep, commentRest, commentEnd, contentStep, contentEnd, behindTarget, isXml, isDeclared, instructionEnd, miscEnd}
+use Rattle.lexer.specs.Misc.{MiscState, miscState, freeStep, commentStep, commentRest, commentEnd, contentStep, contentEnd, behindTarget, isXml, isDeclared, instructionEnd, miscEnd}
 use Rattle.lexer.specs.declared.Stop.{Stop}
 use Rattle.lexer.specs.declared.Stop.the-variants.{Bad, Cut}
 use Rattle.lexer.specs.declared.Read.{Read}
@@ -45,6 +47,9 @@ ReadOnward s at = ReadInside (Onward s at) s at
 -- a step at the index j of a machine that began at a place
 abbrev Turns : List ℕ → ℕ → ℕ → RunNext ℕ Read → Type 0
 Turns s at j = Turned (λ (q : ℕ). at ≤ j + 1) (ReadOnward s at)
+
+abbrev FreeTurns : List ℕ → ℕ → ℕ → RunNext MiscState Read → Type 0
+FreeTurns s at j = Turned (λ (q : MiscState). at ≤ j + 1) (ReadOnward s at)
 
 module _ (s : List ℕ) where
   -- what was read from a later place on
@@ -187,17 +192,19 @@ module _ (s : List ℕ) where
       (λ e. omega arith))
 
   -- ---- comments
+  free-inside : (at mark : ℕ) (begun : List ℕ) (b j : ℕ) → j < length s → at ≤ j → FreeTurns s at j (freeStep mark begun b j)
+  free-inside at mark begun b j hi lo = holds-cond (FreeTurns s at j) (begins set.Char begun b) (λ e. omega arith) (λ e. omega arith)
+
   pub comment-rest-inside : (at : ℕ) → ReadInside (Onward s at) s at (commentRest s at)
   unfolding commentRest
-  comment-rest-inside at = run-held (read.Stopped Cut) commentStep s (λ (q j : ℕ). at ≤ j) (ReadOnward s at) tt turn 0 at (omega arith)
+  comment-rest-inside at = run-held (read.Stopped Cut) commentStep s (λ (q : MiscState) (j : ℕ). at ≤ j) (ReadOnward s at) tt turn (miscState 0 []) at (omega arith)
     where
-      turn : (q j : ℕ) → j < length s → at ≤ j → Turns s at j (commentStep q (getD s j 0) j)
+      turn : (q : MiscState) (j : ℕ) → j < length s → at ≤ j → FreeTurns s at j (commentStep q (getD s j 0) j)
       turn q j hi lo =
           let b = getD s j 0 in
-          holds-cond (Turns s at j) (eqb q 2)
-          (λ e. holds-cond (Turns s at j) (eqb b 0x3E) (λ e. omega arith) (λ e. omega arith))
-          (λ e. holds-cond (Turns s at j) (eqb b 0x2D) (λ e. omega arith)
-          (λ e. holds-cond (Turns s at j) (isFree b) (λ e. omega arith) (λ e. omega arith)))
+          holds-cond (FreeTurns s at j) (eqb (q .mark) 2)
+          (λ e. holds-cond (FreeTurns s at j) (eqb b 0x3E) (λ e. omega arith) (λ e. omega arith))
+          (λ e. free-inside at (cond (eqb b 0x2D) (q .mark + 1) 0) (q .begun) b j hi lo)
 
   pub comment-inside : (at : ℕ) → ReadInside (Onward s at) s at (commentEnd s at)
   unfolding commentEnd
@@ -206,12 +213,12 @@ module _ (s : List ℕ) where
   -- ---- instructions
   pub content-inside : (at : ℕ) → ReadInside (Onward s at) s at (contentEnd s at)
   unfolding contentEnd
-  content-inside at = run-held (read.Stopped Cut) contentStep s (λ (q j : ℕ). at ≤ j) (ReadOnward s at) tt turn 0 at (omega arith)
+  content-inside at = run-held (read.Stopped Cut) contentStep s (λ (q : MiscState) (j : ℕ). at ≤ j) (ReadOnward s at) tt turn (miscState 0 []) at (omega arith)
     where
-      turn : (q j : ℕ) → j < length s → at ≤ j → Turns s at j (contentStep q (getD s j 0) j)
+      turn : (q : MiscState) (j : ℕ) → j < length s → at ≤ j → FreeTurns s at j (contentStep q (getD s j 0) j)
       turn q j hi lo =
-          holds-cond (Turns s at j) (eqb q 1 && eqb (getD s j 0) 0x3E) (λ e. omega arith)
-          (λ e. holds-cond (Turns s at j) (isFree (getD s j 0)) (λ e. omega arith) (λ e. omega arith))
+          let b = getD s j 0 in
+          holds-cond (FreeTurns s at j) (eqb (q .mark) 1 && eqb b 0x3E) (λ e. omega arith) (λ e. free-inside at (cond (eqb b 0x3F) 1 0) (q .begun) b j hi lo)
 
   pub target-inside : (at : ℕ) → ReadInside (Onward s at) s at (behindTarget s at)
   unfolding behindTarget
@@ -355,7 +362,7 @@ module _ (s t : List ℕ) where
   -- ---- comments
   pub comment-rest-stable : (at : ℕ) → Stable (read.Stopped Cut) (commentRest s at) (commentRest (s ++ t) at)
   unfolding commentRest
-  comment-rest-stable at = run-stable (read.Stopped Cut) commentStep 0 s t at
+  comment-rest-stable at = run-stable (read.Stopped Cut) commentStep (miscState 0 []) s t at
 
   pub comment-stable : (at : ℕ) → Stable (read.Stopped Cut) (commentEnd s at) (commentEnd (s ++ t) at)
   unfolding commentEnd
@@ -364,7 +371,7 @@ module _ (s t : List ℕ) where
   -- ---- instructions
   pub content-stable : (at : ℕ) → Stable (read.Stopped Cut) (contentEnd s at) (contentEnd (s ++ t) at)
   unfolding contentEnd
-  content-stable at = run-stable (read.Stopped Cut) contentStep 0 s t at
+  content-stable at = run-stable (read.Stopped Cut) contentStep (miscState 0 []) s t at
 
   pub target-stable : (at : ℕ) → Stable (read.Stopped Cut) (behindTarget s at) (behindTarget (s ++ t) at)
   unfolding behindTarget

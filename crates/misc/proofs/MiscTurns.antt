@@ -1,7 +1,6 @@
 -- Comments, instructions and the declaration: what each test and each callee's answer decides.
 --     by-turn                                      the answer behind a field: r, of which the contract says v, and the `match` m
 --     by-fit, by-word, by-value, fit-encoding      a `match` on the field
---     free-text                                    bytes of a comment and of an instruction
 --     later-flag, behind-flag                      a flag of the code as a machine's state
 --     xml-room, xml-short, xml-far, xml-here       whether a target is xml
 --     declared-room, declared-not, declared-here   whether that is the declaration's
@@ -18,9 +17,8 @@ use lib.Dec.{ltb, eqb}
 use Rattle.laws.specs.Reading.{le-or-lt}
 use Rattle.laws.specs.Tests.{neither}
 use Rattle.laws.proofs.Flags.{differ, or-left, or-right}
-use Rattle.lexer.specs.Values.{isText}
 use Rattle.lexer.specs.Declaration.{isDigit, isLetter, isFieldByte, wordEnd, fieldWord, fieldValue, fieldThen}
-use Rattle.lexer.specs.Misc.{isFree, isXml, isDeclared, instructionEnd, commentEnd, miscEnd}
+use Rattle.lexer.specs.Misc.{isXml, isDeclared, instructionEnd, commentEnd, miscEnd}
 use Rattle.lexer.specs.declared.Read.{Read}
 use Rattle.lexer.specs.declared.Turn.{Turn}
 use Rattle.lexer.specs.declared.Field.{Field}
@@ -41,9 +39,6 @@ by-value s at quote f m x e h = rw e h
 
 pub fit-encoding : (b : ℕ) (f : Field) (l d : Bool) → f ≡ Encoding → l ≡ isLetter b → d ≡ isDigit b → (l || d || eqb b 0x2E || eqb b 0x5F || eqb b 0x2D) ≡ isFieldByte f b
 fit-encoding b f l d e p q = rw (e, p, q)
-
-pub free-text : (b : ℕ) (r : Bool) → r ≡ isText b → (r || eqb b 0x3C) ≡ isFree b
-free-text b r e = rw e
 
 -- a flag of the code, and the state 1 where it is set
 pub behind-flag : (t u v : Bool) → (t && u) ≡ v → (eqb (cond t 1 0) 1 && u) ≡ v

@@ -1,20 +1,16 @@
 // Comments and processing instructions.
 use crate::declaration::declaration_end;
 use crate::declaration::word_end;
+use characters::Set;
 use lexer::Read;
 use lexer::Stop;
 use lexer::names::is_space;
 use lexer::names::part_end;
 use lexer::tags::want;
-use lexer::values::is_text;
+use lexer::utf8::char_end;
+use lexer::utf8::is_char;
 ghost use mathlib.Core.Path.{_≡_};
-ghost use Rattle.lexer.specs.Misc.{isFree, commentRest, commentEnd, contentEnd, behindTarget, isXml, isDeclared, instructionEnd, miscEnd};
-
-fn is_free(b: u8) -> bool
-    ensures { λ r. ⌜ r ≡ isFree b ⌝ }
-{
-    is_text(b) | (b == b'<')
-}
+ghost use Rattle.lexer.specs.Misc.{commentRest, commentEnd, contentEnd, behindTarget, isXml, isDeclared, instructionEnd, miscEnd};
 
 // A comment from behind its <!-- on.
 fn comment_rest(s: &[u8], at: usize) -> Read
@@ -32,13 +28,24 @@ fn comment_rest(s: &[u8], at: usize) -> Read
         }
         if b == b'-' {
             hyphens += 1;
-        } else {
-            if !is_free(b) {
+            i += 1;
+        } else if b < 0x80 {
+            if !is_char(b) {
                 return Read::Stopped(Stop::Bad(i));
             }
             hyphens = 0;
+            i += 1;
+        } else {
+            match char_end(s, i, Set::Char) {
+                Read::End(j) => {
+                    hyphens = 0;
+                    i = j;
+                }
+                Read::Stopped(x) => {
+                    return Read::Stopped(x);
+                }
+            }
         }
-        i += 1;
     }
     Read::Stopped(Stop::Cut)
 }
@@ -64,11 +71,22 @@ fn content_end(s: &[u8], at: usize) -> Read
         if behind & (b == b'>') {
             return Read::End(i + 1);
         }
-        if !is_free(b) {
-            return Read::Stopped(Stop::Bad(i));
-        }
         behind = b == b'?';
-        i += 1;
+        if b < 0x80 {
+            if !is_char(b) {
+                return Read::Stopped(Stop::Bad(i));
+            }
+            i += 1;
+        } else {
+            match char_end(s, i, Set::Char) {
+                Read::End(j) => {
+                    i = j;
+                }
+                Read::Stopped(x) => {
+                    return Read::Stopped(x);
+                }
+            }
+        }
     }
     Read::Stopped(Stop::Cut)
 }

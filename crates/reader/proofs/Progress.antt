@@ -16,7 +16,8 @@ use Rattle.laws.proofs.Holds.{holds-cond}
 use Rattle.lexer.specs.Values.{textEnd}
 use Rattle.lexer.specs.Tags.{TagRead, tagAt, endTagAt}
 use Rattle.lexer.specs.Begins.{beginAt}
-use Rattle.lexer.proofs.ValueLaws.{Within, ValueTo, value-inside}
+use Rattle.lexer.proofs.CharacterLaws.{Within}
+use Rattle.lexer.proofs.ValueLaws.{ValueTo, value-inside}
 use Rattle.lexer.proofs.Inside.{StopInside, TaggedInside, tag-inside, EndedInside, endTag-inside}
 use Rattle.misc.proofs.BeginLaws.{BeginInside, begin-inside}
 use Rattle.lexer.specs.declared.Stop.{Stop}

@@ -5,18 +5,22 @@
 use Prim.Native.Nat.{ℕ, zero, suc, _+_, _-_, _≤_, _<_}
 use mathlib.Core.Path.{_≡_, refl, sym, ap, subst, _∙_}
 use mathlib.Core.List.{List, [], _∷_}
+use mathlib.Core.Bool.{Bool, true, false, cond}
 use mathlib.Core.Logic.{⊎-elim}
 use native.Mathlib.Omega.{arith}
-use borrow.Author.Tests.{eq-eqb, ne-eqb, eqb-false}
+use borrow.Author.Tests.{eq-eqb, ne-eqb}
 use lib.ListN.{length, take, drop, getD, length-drop}
 use lib.Seq.{length-take-le, getD-take, getD-drop}
 use lib.Dec.{eqb, ltb}
 use Rattle.laws.specs.Reading.{le-or-lt}
+use Rattle.laws.proofs.Flags.{differ}
 use Rattle.laws.proofs.Holds.{holds-cond, Turned, run-held}
 use Rattle.lexer.specs.Stops.{afterName}
-use Rattle.lexer.specs.Names.{startLen, nameLen, partStep, partEnd, nameAt}
+use Rattle.characters.specs.Deciding.{begins}
+use Rattle.lexer.specs.Names.{PartState, partState, partSet, partWhole, partStep, partEnd, nameAt}
+use Rattle.lexer.proofs.Parts.{part-refuses, no-colon-start, no-colon-char}
 use Rattle.lexer.specs.Tags.{turnAt, attributeAt, tagStopped, fullTurn, attrThen, turnThen, attrsFrom, tagAt}
-use Rattle.lexer.specs.declared.Stop.the-variants.{Cut}
+use Rattle.lexer.specs.declared.Stop.the-variants.{Bad, Cut}
 use Rattle.lexer.specs.declared.Read.{Read}
 use Rattle.lexer.specs.declared.Read.the-variants as read
 use Rattle.lexer.specs.declared.Name.{Name}
@@ -70,14 +74,6 @@ tag-named s at t = by (nameAt s at)
     by (named.Stopped x) e = let z : _≡_ {A = ℕ} 0 1 = cc in absurd (omega arith)
 
 -- ---- no colon stands in a part
-colon-start : (s : List ℕ) (i : ℕ) → getD s i 0 ≡ 0x3A → startLen s i ≡ 0
-unfolding startLen
-colon-start s i e = holds-cond (λ (x : ℕ). x ≡ 0) (ltb i (length s)) (λ h. rw e) (λ h. refl)
-
-colon-name : (s : List ℕ) (i : ℕ) → getD s i 0 ≡ 0x3A → nameLen s i ≡ 0
-unfolding nameLen
-colon-name s i e = holds-cond (λ (x : ℕ). x ≡ 0) (ltb i (length s)) (λ h. rw e) (λ h. refl)
-
 -- from a place up to another
 abbrev pub Plain : List ℕ → ℕ → ℕ → Type 0
 Plain s at j = (i : ℕ) → at ≤ i → i < j → getD s i 0 ≡ 0x3A → ⊥
@@ -89,18 +85,22 @@ plain-more s at j h n i lo hi e =
 pub part-plain : (s : List ℕ) (at j : ℕ) → partEnd s at ≡ read.End j → Plain s at j
 unfolding partEnd
 part-plain s at j e =
-    subst Ends e (run-held (read.Stopped Cut) (partStep s) s (λ (room i : ℕ). Plain s at i) Ends tt turns 64 at (λ i lo hi q. omega arith))
+    subst Ends e (run-held (read.Stopped Cut) partStep s (λ (q : PartState) (i : ℕ). Plain s at i) Ends tt turns (partState 64 []) at (λ i lo hi q. omega arith))
   where
     Ends : Read → Type 0
     Ends (read.End k) = Plain s at k
     Ends (read.Stopped x) = Unit
 
-    turns : (room i : ℕ) → i < length s → Plain s at i → Turned (λ (q : ℕ). Plain s at (i + 1)) Ends (partStep s room (getD s i 0) i)
-    turns room i lt h =
-        holds-cond (Turned (λ (q : ℕ). Plain s at (i + 1)) Ends) (eqb room 64)
-        (λ _. holds-cond (Turned (λ (q : ℕ). Plain s at (i + 1)) Ends) (eqb (startLen s i) 0) (λ _. tt) (λ n. plain-more s at i h (λ c. eqb-false (startLen s i) 0 n (colon-start s i c))))
-        (λ _. holds-cond (Turned (λ (q : ℕ). Plain s at (i + 1)) Ends) (eqb (nameLen s i) 0) (λ _. h)
-        (λ n. holds-cond (Turned (λ (q : ℕ). Plain s at (i + 1)) Ends) (eqb room 0) (λ _. tt) (λ _. plain-more s at i h (λ c. eqb-false (nameLen s i) 0 n (colon-name s i c)))))
+    stops : (i : ℕ) → Plain s at i → (t : Bool) → Ends (cond t (read.End i) (read.Stopped (Bad i)))
+    stops i h true = h
+    stops i h false = tt
+
+    turns : (q : PartState) (i : ℕ) → i < length s → Plain s at i → Turned (λ (q′ : PartState). Plain s at (i + 1)) Ends (partStep q (getD s i 0) i)
+    turns q i lt h =
+        holds-cond (Turned (λ (q′ : PartState). Plain s at (i + 1)) Ends) (begins (partSet q) (q .begun) (getD s i 0))
+        (λ b. holds-cond (Turned (λ (q′ : PartState). Plain s at (i + 1)) Ends) (eqb (q .room) 0) (λ _. tt)
+        (λ _. plain-more s at i h (λ c. differ (sym b ∙ ap (begins (partSet q) (q .begun)) c ∙ part-refuses q 0x3A (omega arith) no-colon-start no-colon-char))))
+        (λ _. stops i h (partWhole q))
 
 -- ---- the first colon of some bytes
 colon-none : (l : List ℕ) (k : ℕ) → ((i : ℕ) → i < length l → getD l i 0 ≡ 0x3A → ⊥) → colonEnd k l ≡ 0

@@ -15,19 +15,19 @@ abbrev lastByte : List ℕ → List ℕ → List Next
 lastByte s = map (λ (b : ℕ). lastOf (s ++ (b ∷ [])))
 
 -- the first and last of each range: what begins a name, what goes on with it, space, and what a text holds
-begins : lastByte (bytes "<") (0x41 ∷ 0x5A ∷ 0x5F ∷ 0x61 ∷ 0x7A ∷ []) ≡ replicate 5 (refusal 1 2)
+begins : lastByte (bytes "<") (0x41 ∷ 0x5A ∷ 0x5F ∷ 0x61 ∷ 0x7A ∷ 0xC3 ∷ 0xF3 ∷ []) ≡ replicate 7 (refusal 1 2)
 unfolding computing
 begins = refl
 
-begins-not : lastByte (bytes "<") (0x2D ∷ 0x2E ∷ 0x30 ∷ 0x39 ∷ 0x40 ∷ 0x5B ∷ 0x60 ∷ 0x7B ∷ 0xC3 ∷ []) ≡ replicate 9 (refusal 2 1)
+begins-not : lastByte (bytes "<") (0x2D ∷ 0x2E ∷ 0x30 ∷ 0x39 ∷ 0x40 ∷ 0x5B ∷ 0x60 ∷ 0x7B ∷ 0x80 ∷ 0xC2 ∷ 0xCC ∷ 0xF4 ∷ []) ≡ replicate 12 (refusal 2 1)
 unfolding computing
 begins-not = refl
 
-goes-on : lastByte (bytes "<r") (0x2D ∷ 0x2E ∷ 0x30 ∷ 0x39 ∷ 0x41 ∷ 0x5A ∷ 0x5F ∷ 0x61 ∷ 0x7A ∷ []) ≡ replicate 9 (refusal 1 3)
+goes-on : lastByte (bytes "<r") (0x2D ∷ 0x2E ∷ 0x30 ∷ 0x39 ∷ 0x41 ∷ 0x5A ∷ 0x5F ∷ 0x61 ∷ 0x7A ∷ 0xC2 ∷ 0xCC ∷ 0xF3 ∷ []) ≡ replicate 12 (refusal 1 3)
 unfolding computing
 goes-on = refl
 
-goes-not-on : lastByte (bytes "<r") (0x2C ∷ 0x3B ∷ 0x40 ∷ 0x5B ∷ 0x60 ∷ 0x7B ∷ 0xC3 ∷ []) ≡ replicate 7 (refusal 2 2)
+goes-not-on : lastByte (bytes "<r") (0x2C ∷ 0x3B ∷ 0x40 ∷ 0x5B ∷ 0x60 ∷ 0x7B ∷ 0x80 ∷ 0xC1 ∷ 0xEE ∷ 0xF4 ∷ []) ≡ replicate 10 (refusal 2 2)
 unfolding computing
 goes-not-on = refl
 
@@ -35,11 +35,11 @@ space : lastByte (bytes "<r/>") (0x09 ∷ 0x0A ∷ 0x0D ∷ 0x20 ∷ []) ≡ rep
 unfolding computing
 space = refl
 
-held : lastByte (bytes "<r>") (0x09 ∷ 0x0A ∷ 0x0D ∷ 0x20 ∷ 0x7F ∷ 0xFF ∷ []) ≡ replicate 6 (refusal 1 4)
+held : lastByte (bytes "<r>") (0x09 ∷ 0x0A ∷ 0x0D ∷ 0x20 ∷ 0x7F ∷ 0xC2 ∷ 0xED ∷ 0xF4 ∷ []) ≡ replicate 8 (refusal 1 4)
 unfolding computing
 held = refl
 
-held-not : lastByte (bytes "<r>") (0x00 ∷ 0x08 ∷ 0x0B ∷ 0x0C ∷ 0x0E ∷ 0x1F ∷ []) ≡ replicate 6 (refusal 2 3)
+held-not : lastByte (bytes "<r>") (0x00 ∷ 0x08 ∷ 0x0B ∷ 0x0C ∷ 0x0E ∷ 0x1F ∷ 0x80 ∷ 0xC1 ∷ 0xF5 ∷ 0xFF ∷ []) ≡ replicate 10 (refusal 2 3)
 unfolding computing
 held-not = refl
 

@@ -10,3 +10,4 @@ pub mod Keys
 pub mod Known
 pub mod Computing
 pub mod Examples
+pub mod ScriptExamples

@@ -1,4 +1,4 @@
--- `names::ends_as_part` meets its contract: a part that the bytes cut ends with them.
+-- `names::ends_as_part` meets its contract: of a part that the bytes cut `ends_whole` tells.
 use borrow.Author.Needs.{needs}
 use Rattle.coherence.proofs.NameChecks.{part-past, part-end, part-bad, part-long, part-cut}
 use Rattle.coherence.proofs.names.ends_as_part.Statement.{statement}
@@ -34,8 +34,11 @@ returns-3 c = search part-bad
 returns-4 : tie.Need-returns-4
 returns-4 c = search part-long
 
+ends-whole-requires : tie.Need-ends-whole-requires
+ends-whole-requires c κs = (search needs, search part-cut)
+
 returns-5 : tie.Need-returns-5
-returns-5 c = search part-cut
+returns-5 c = search needs
 
 pub ends-as-part-spec : {M : Type 1} → statement M
 ends-as-part-spec =
@@ -48,6 +51,7 @@ ends-as-part-spec =
     enum-told-2
     enum-told-3
     enum-told-4
+    ends-whole-requires
     returns-2
     returns-3
     returns-4

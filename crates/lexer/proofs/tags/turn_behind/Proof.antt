@@ -1,6 +1,6 @@
 -- `lexer::tags::turn_behind` meets its contract: the tests on the way to each `return` say which case it is.
 use borrow.Author.Needs.{needs}
-use Rattle.laws.specs.Tests.{tests, counted, uncounted}
+use Rattle.laws.specs.Tests.{tests}
 use Rattle.lexer.specs.Tags.{turnBehind}
 use Rattle.lexer.proofs.tags.turn_behind.Statement.{statement}
 use Rattle.lexer.proofs.tags.turn_behind.Tie as tie
@@ -30,16 +30,16 @@ returns-4 : tie.Need-returns-4
 unfolding turnBehind
 returns-4 c = search tests
 
-start-len-requires : tie.Need-start-len-requires
-start-len-requires c κs = search needs
+can-start-part-requires : tie.Need-can-start-part-requires
+can-start-part-requires c κs = search needs
 
 returns-5 : tie.Need-returns-5
 unfolding turnBehind
-returns-5 c = search (tests, counted) depth 8
+returns-5 c = search tests depth 8
 
 returns-6 : tie.Need-returns-6
 unfolding turnBehind
-returns-6 c = search (tests, uncounted) depth 8
+returns-6 c = search tests depth 8
 
 pub turn-behind-spec : {M : Type 1} → statement M
 turn-behind-spec =
@@ -52,6 +52,6 @@ turn-behind-spec =
     slash-at-requires
     returns-3
     returns-4
-    start-len-requires
+    can-start-part-requires
     returns-5
     returns-6)

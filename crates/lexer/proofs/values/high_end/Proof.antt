@@ -1,11 +1,12 @@
--- `lexer::values::high_end` meets its contract: a byte from 80 on that is not the quote changes no answer.
+-- `lexer::values::high_end` meets its contract: a character from 80 on, at which the quote does not stand, changes no answer.
 use Prim.Native.Nat.{_-_, _≤_}
 use mathlib.Core.Path.{_≡_, refl}
 use native.Mathlib.Nat.{le-refl}
+use native.Mathlib.Omega.{arith}
 use borrow.Author.Needs.{needs}
 use lib.ListN.{length}
 use Rattle.lexer.specs.Values.{valueFrom}
-use Rattle.lexer.proofs.Passing.{high-passed}
+use Rattle.lexer.proofs.Passing.{char-in, high-passed}
 use Rattle.lexer.proofs.values.high_end.Statement.{statement}
 use Rattle.lexer.proofs.values.high_end.Tie as tie
 
@@ -27,17 +28,33 @@ returns c = search needs
 returns-2 : tie.Need-returns-2 Inv-loop μ-loop
 returns-2 c = search needs
 
-add-i : tie.Need-add-i Inv-loop μ-loop
-add-i c = search needs
+char-end-requires : tie.Need-char-end-requires Inv-loop μ-loop
+char-end-requires c κs = search needs
+
+enum-known-j : tie.Need-enum-known-j Inv-loop μ-loop
+enum-known-j c = search needs
 
 loop-less : tie.Need-loop-less Inv-loop μ-loop
-loop-less c = search needs
+loop-less c =
+    let l = c .before .before .before .before .before .before .before .before .loop in
+    let d = c .before .before .before in
+    omega (arith, char-in _ _ _ _ _ (d .char-end .ensures) (c .before .j .given .1), c .before .before .before .before .before .before .before .loop-test .taken)
 
 loop-again : tie.Need-loop-again Inv-loop μ-loop
-loop-again c = (search needs, search high-passed)
+loop-again c =
+    let l = c .before .before .before .before .before .before .before .before .loop in
+    let d = c .before .before .before in
+    let j = char-in _ _ _ _ _ (d .char-end .ensures) (c .before .j .given .1) in
+    (omega (arith, j, l .inv .0), high-passed _ _ _ _ (l .i) (l .inv .1) (d .before .before .before .before .loop-test .taken) (d .before .before .if1 .left) (d .before .if2 .left) _ (d .char-end .ensures) _ (c .before .j .given .1))
+
+enum-told : tie.Need-enum-told Inv-loop μ-loop
+enum-told c = search needs
 
 returns-3 : tie.Need-returns-3 Inv-loop μ-loop
 returns-3 c = search needs
+
+returns-4 : tie.Need-returns-4 Inv-loop μ-loop
+returns-4 c = search needs
 
 pub high-end-spec : {M : Type 1} → statement M
 high-end-spec =
@@ -49,7 +66,10 @@ high-end-spec =
     shared-slice-read-b
     returns
     returns-2
-    add-i
+    char-end-requires
+    enum-known-j
     loop-less
     loop-again
-    returns-3)
+    enum-told
+    returns-3
+    returns-4)

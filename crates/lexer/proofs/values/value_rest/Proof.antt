@@ -10,7 +10,8 @@ use Rattle.lexer.specs.Values.{valueStep, valueFrom}
 use Rattle.lexer.specs.declared.Stop.the-variants.{Cut}
 use Rattle.lexer.specs.declared.Read.the-variants.{Stopped}
 use Rattle.lexer.proofs.ValueLaws.{closes-behind}
-use Rattle.lexer.proofs.Passing.{plain-passed, text-closes, text-stops, text-passed, reference-in, reference-passed, reference-stops, passed-on}
+use Rattle.lexer.proofs.CharTurns.{text-taken, text-refused, text-high}
+use Rattle.lexer.proofs.Passing.{plain-passed, text-closes, text-stops, text-passed, reference-in, char-in, reference-passed, reference-stops, passed-on}
 use Rattle.lexer.proofs.values.value_rest.Statement.{statement}
 use Rattle.lexer.proofs.values.value_rest.Tie as tie
 
@@ -54,8 +55,8 @@ returns-2 c = search reference-stops
 is-closing-requires : tie.Need-is-closing-requires Inv-loop μ-loop
 is-closing-requires c κs = search needs
 
-sub-t15 : tie.Need-sub-t15 Inv-loop μ-loop
-sub-t15 c = omega (arith, closes-behind _ _ _ _ _ (told _ _ _ (c .before .is-closing .ensures) (c .if3 .taken)))
+sub-t17 : tie.Need-sub-t17 Inv-loop μ-loop
+sub-t17 c = omega (arith, closes-behind _ _ _ _ _ (told _ _ _ (c .before .is-closing .ensures) (c .if3 .taken)))
 
 returns-3 : tie.Need-returns-3 Inv-loop μ-loop
 returns-3 c =
@@ -68,30 +69,64 @@ is-text-requires : tie.Need-is-text-requires Inv-loop μ-loop
 is-text-requires c κs = search needs
 
 returns-4 : tie.Need-returns-4 Inv-loop μ-loop
-returns-4 c = search text-stops
+returns-4 c =
+    let l = c .before .before .before .before .before .before .before .before .before .loop in
+    let a = c .before .before .before .before .before .before .before .before .before .before .before .args in
+    let lt = c .before .before .before .before .before .before .before .before .loop-test .taken in
+    text-stops _ (a .s .now) (a .at) (a .quote) (l .i) (l .inv) lt (c .before .before .before .before .before .before .if1 .left) (c .before .before .before .before .before .if2 .left) _ (c .before .before .before .before .is-closing .ensures) (c .before .before .before .if3 .left) _ (text-refused (a .s .now) (l .i) lt (c .before .before .if4 .taken) _ (c .before .is-text .ensures) (c .if5 .taken)) _ refl
 
-add-high-end : tie.Need-add-high-end Inv-loop μ-loop
-add-high-end c = search needs
-
-high-end-requires : tie.Need-high-end-requires Inv-loop μ-loop
-high-end-requires c κs = search needs
+add-plain-end : tie.Need-add-plain-end Inv-loop μ-loop
+add-plain-end c = search needs
 
 plain-end-requires-2 : tie.Need-plain-end-requires-2 Inv-loop μ-loop
 plain-end-requires-2 c κs = search needs
 
 loop-less-2 : tie.Need-loop-less-2 Inv-loop μ-loop
-loop-less-2 c = omega (arith, c .plain-end2 .ensures .0, c .before .high-end .ensures .0, c .before .before .before .before .before .before .before .before .before .loop-test .taken)
+loop-less-2 c = omega (arith, c .plain-end2 .ensures .0, c .before .before .before .before .before .before .before .before .before .loop-test .taken)
 
 loop-again-2 : tie.Need-loop-again-2 Inv-loop μ-loop
 loop-again-2 c =
-    let d = c .before .before .before .before .before .before in
-    let a = d .before .before .before .before .before .before .args in
-    let l = d .before .before .before .before .loop in
-    passed-on _ _ _ _ _ _ (plain-passed _ _ _ _ _ (c .plain-end2 .ensures) ∙ c .before .high-end .ensures .1)
-    (text-passed _ (a .s .now) (a .at) (a .quote) (l .i) (l .inv) (d .before .before .before .loop-test .taken) (d .before .if1 .left) (d .if2 .left) _ (c .before .before .before .before .before .is-closing .ensures) (c .before .before .before .before .if3 .left) _ (c .before .before .before .is-text .ensures) (c .before .before .if4 .left))
+    let l = c .before .before .before .before .before .before .before .before .before .before .loop in
+    let a = c .before .before .before .before .before .before .before .before .before .before .before .before .args in
+    let lt = c .before .before .before .before .before .before .before .before .before .loop-test .taken in
+    passed-on _ _ _ _ _ _ (plain-passed _ _ _ _ _ (c .plain-end2 .ensures))
+    (text-passed _ (a .s .now) (a .at) (a .quote) (l .i) (l .inv) lt (c .before .before .before .before .before .before .before .if1 .left) (c .before .before .before .before .before .before .if2 .left) _ (c .before .before .before .before .before .is-closing .ensures) (c .before .before .before .before .if3 .left) _ (text-taken (a .s .now) (l .i) lt (c .before .before .before .if4 .taken) _ (c .before .before .is-text .ensures) (c .before .if5 .left)) _ refl)
+
+char-end-requires : tie.Need-char-end-requires Inv-loop μ-loop
+char-end-requires c κs = search needs
+
+enum-known-j-2 : tie.Need-enum-known-j-2 Inv-loop μ-loop
+enum-known-j-2 c = search needs
+
+high-end-requires : tie.Need-high-end-requires Inv-loop μ-loop
+high-end-requires c κs = search needs
+
+plain-end-requires-3 : tie.Need-plain-end-requires-3 Inv-loop μ-loop
+plain-end-requires-3 c κs = search needs
+
+loop-less-3 : tie.Need-loop-less-3 Inv-loop μ-loop
+loop-less-3 c = omega (arith, c .plain-end3 .ensures .0, c .before .high-end .ensures .0, c .before .before .before .before .before .before .before .before .before .before .before .before .loop-test .taken, char-in _ _ _ _ _ (c .before .before .before .before .before .char-end .ensures) (c .before .before .before .j2 .given .1))
+
+loop-again-3 : tie.Need-loop-again-3 Inv-loop μ-loop
+loop-again-3 c =
+    let l = c .before .before .before .before .before .before .before .before .before .before .before .before .before .loop in
+    let a = c .before .before .before .before .before .before .before .before .before .before .before .before .before .before .before .args in
+    let lt = c .before .before .before .before .before .before .before .before .before .before .before .before .loop-test .taken in
+    passed-on _ _ _ _ _ _ (plain-passed _ _ _ _ _ (c .plain-end3 .ensures) ∙ c .before .high-end .ensures .1)
+    (text-passed _ (a .s .now) (a .at) (a .quote) (l .i) (l .inv) lt (c .before .before .before .before .before .before .before .before .before .before .if1 .left) (c .before .before .before .before .before .before .before .before .before .if2 .left) _ (c .before .before .before .before .before .before .before .before .is-closing .ensures) (c .before .before .before .before .before .before .before .if3 .left) _ (text-high (a .s .now) (l .i) lt (c .before .before .before .before .before .before .if4 .left) _ (c .before .before .before .before .before .char-end .ensures)) _ (c .before .before .before .j2 .given .1))
+
+enum-known-x-2 : tie.Need-enum-known-x-2 Inv-loop μ-loop
+enum-known-x-2 c = search needs
 
 returns-5 : tie.Need-returns-5 Inv-loop μ-loop
-returns-5 c = search machine
+returns-5 c =
+    let l = c .before .before .before .before .before .before .before .before .before .before .before .loop in
+    let a = c .before .before .before .before .before .before .before .before .before .before .before .before .before .args in
+    let lt = c .before .before .before .before .before .before .before .before .before .before .loop-test .taken in
+    text-stops _ (a .s .now) (a .at) (a .quote) (l .i) (l .inv) lt (c .before .before .before .before .before .before .before .before .if1 .left) (c .before .before .before .before .before .before .before .if2 .left) _ (c .before .before .before .before .before .before .is-closing .ensures) (c .before .before .before .before .before .if3 .left) _ (text-high (a .s .now) (l .i) lt (c .before .before .before .before .if4 .left) _ (c .before .before .before .char-end .ensures)) _ (c .before .x2 .given .1)
+
+returns-6 : tie.Need-returns-6 Inv-loop μ-loop
+returns-6 c = search machine
 
 pub value-rest-spec : {M : Type 1} → statement M
 value-rest-spec =
@@ -110,13 +145,20 @@ value-rest-spec =
     enum-known-x
     returns-2
     is-closing-requires
-    sub-t15
+    sub-t17
     returns-3
     is-text-requires
     returns-4
-    add-high-end
-    high-end-requires
+    add-plain-end
     plain-end-requires-2
     loop-less-2
     loop-again-2
-    returns-5)
+    char-end-requires
+    enum-known-j-2
+    high-end-requires
+    plain-end-requires-3
+    loop-less-3
+    loop-again-3
+    enum-known-x-2
+    returns-5
+    returns-6)
