@@ -8,6 +8,7 @@
              bindings:B small elements of the outermost of B open bindings (1 to 64)
              text       long texts
              attr       tags of 12 to 16 attributes, some in namespaces of their own
+             scripts    short elements whose names, attributes and texts are in Japanese and Greek
              comments   the rig scene with an XML declaration, two instructions, and one byte in ten in comments between elements
    SIZE      bytes of the scene, exactly; K and M for 1,024 and 1,048,576; at least 4K. 16M is taken as 16,777,215.
    SEED      a number. The same words give the same bytes, on every machine.
@@ -578,6 +579,28 @@ static void text(void) {
     close_all();
 }
 
+/* joints in other scripts: their names are the elements', what they are told is text */
+static void scripts(void) {
+    static const char *const joints[] = { "腰", "背骨", "胸", "首", "頭", "鎖骨", "肩", "肘", "手首", "親指", "ひざ", "ισχίο", "γόνατο", "αστράγαλος", "σαγόνι", "ώμος", "ουρά" };
+    static const char *const ways[] = { "横", "縦", "奥行", "στροφή" };
+    static const char *const told[] = { "左", "右", "回転の限界", "仮の値", "確認済み", "重みは手で塗った", "αριστερά", "δεξιά", "όριο στροφής", "προσωρινή τιμή", "ελέγχθηκε", "βάρη με το χέρι" };
+    rig_rules();
+    start_rig();
+    start("j:骨格");
+    body();
+    while (room() > 1200) {
+        char name[NAME];
+        snprintf(name, sizeof name, "j:%s", PICK(joints));
+        start(name);
+        attribute("軸", "%s", PICK(ways));
+        attribute("μήκος", "0.%03d", between(1, 999));
+        body();
+        for (int n = between(1, 12); n > 0; n--) put("%s%s", PICK(told), n > 1 ? "、" : "");
+        end_text();
+    }
+    close_all();
+}
+
 static void attr(void) {
     static const char *const plain[] = { "name", "joint", "method", "influences", "falloff", "smooth", "side", "order", "seed", "gain" };
     rig_rules();
@@ -651,7 +674,7 @@ static int is(const char *kind, const char *word) {
 }
 
 int main(int argc, char **argv) {
-    if (argc != 6) die("generate KIND[:COUNT] SIZE SEED SCENE RULES, KIND rig, deep, strands, bindings, text, attr or comments");
+    if (argc != 6) die("generate KIND[:COUNT] SIZE SEED SCENE RULES, KIND rig, deep, strands, bindings, text, attr, scripts or comments");
     const char *kind = argv[1];
     limit = size_of(argv[2]);
     state = strtoull(argv[3], 0, 10);
@@ -663,8 +686,9 @@ int main(int argc, char **argv) {
     else if (is(kind, "bindings")) bindings(count_of(kind, BINDINGS));
     else if (is(kind, "text")) text();
     else if (is(kind, "attr")) attr();
+    else if (is(kind, "scripts")) scripts();
     else if (is(kind, "comments")) comments();
-    else die("KIND is rig, deep, strands, bindings, text, attr or comments");
+    else die("KIND is rig, deep, strands, bindings, text, attr, scripts or comments");
     memset(scene + used, '\n', limit - used);
     save(argv[4], scene, limit);
     save_table(argv[5]);

@@ -14,6 +14,9 @@
  * A SCENE is XML in a subset: elements, attributes, text, the five references, comments, processing instructions, and an XML declaration at its first
  * byte. Comments, instructions and the declaration make no event and no record: a step passes over those in front of its event, and its place is its
  * event's. A text ends where one begins, and a new text starts behind it. No CDATA, no DTD, no numeric references: their bytes are refused with 2.
+ * It is read as UTF-8, whatever its declaration says: names may have the characters that XML 1.0, fifth edition, gives them, text, values, comments and
+ * instructions any XML character. A byte with which no character goes on that may stand there is 2; one that the scene's end cuts is 1. Places, offsets
+ * and limits count bytes; names and namespaces are equal when their bytes are. No byte order mark: its first byte is refused.
  *
  * THE ANSWER. judge, run, step and advance write four numbers:
  *
