@@ -1,6 +1,7 @@
 //! The bytes of tags and texts: numbers 2, 3, 1 (and 9), and nothing of namespaces.
 
 use crate::answer::Refusal;
+use crate::characters::{self, Set};
 use crate::span::Span;
 
 pub const PART_LIMIT: usize = 64;
@@ -55,24 +56,14 @@ pub fn is_space(byte: u8) -> bool {
     matches!(byte, 0x09 | 0x0A | 0x0D | 0x20)
 }
 
-/// A byte of text, of values and of what makes no event.
-pub fn is_character(byte: u8) -> bool {
-    is_space(byte) || byte >= 0x20
-}
-
-pub fn begins_part(byte: u8) -> bool {
-    byte.is_ascii_alphabetic() || byte == b'_'
-}
-
-pub fn continues_part(byte: u8) -> bool {
-    begins_part(byte) || byte.is_ascii_digit() || byte == b'-' || byte == b'.'
-}
-
-/// Whether these bytes are a name part.
+/// Whether these bytes are a name part: whole characters, the first of those that may begin one.
 pub fn is_part(bytes: &[u8]) -> bool {
+    let Ok(part) = std::str::from_utf8(bytes) else {
+        return false;
+    };
     bytes.len() <= PART_LIMIT
-        && bytes.first().is_some_and(|&byte| begins_part(byte))
-        && bytes.iter().all(|&byte| continues_part(byte))
+        && part.chars().next().is_some_and(characters::is_name_start)
+        && part.chars().all(characters::is_name)
 }
 
 /// Whether these bytes are a name: a part, or a prefix part, a colon and a part.
@@ -196,16 +187,40 @@ impl<'a> Bytes<'a> {
         }
     }
 
-    pub(crate) fn part(&mut self) -> Result<Span, Refusal> {
+    /// Whether the byte here can begin a character of a set.
+    fn at_character(&self, set: &Set) -> bool {
+        self.peek().is_some_and(|byte| set.begins(&[byte]))
+    }
+
+    /// A whole character of a set: the refused byte is the first with which none of the set can
+    /// begin or go on. One that can, but stands at the limit, is one too many.
+    fn character(&mut self, set: &Set, limit: usize) -> Result<(), Refusal> {
         let from = self.at;
-        if !self.peek().is_some_and(begins_part) {
-            return Err(self.refused());
-        }
-        while self.peek().is_some_and(continues_part) {
-            if self.at - from == PART_LIMIT {
+        while !set.holds(&self.scene[from..self.at]) {
+            let so_far = self.scene.get(from..self.at + 1);
+            if !so_far.is_some_and(|bytes| set.begins(bytes)) {
+                return Err(self.refused());
+            }
+            if self.at == limit {
                 return Err(self.too_many());
             }
             self.at += 1;
+        }
+        Ok(())
+    }
+
+    /// A character of text, of values and of what makes no event.
+    pub(crate) fn text_character(&mut self) -> Result<(), Refusal> {
+        self.character(characters::texts(), usize::MAX)
+    }
+
+    /// A byte that can begin a name character belongs to the part.
+    pub(crate) fn part(&mut self) -> Result<Span, Refusal> {
+        let from = self.at;
+        let limit = from + PART_LIMIT;
+        self.character(characters::name_starts(), limit)?;
+        while self.at_character(characters::names()) {
+            self.character(characters::names(), limit)?;
         }
         Ok(Span::between(from, self.at))
     }
@@ -253,7 +268,7 @@ impl<'a> Bytes<'a> {
             let spaced = self.space();
             match self.peek() {
                 Some(b'>' | b'/') => return Ok(attributes),
-                Some(byte) if spaced && begins_part(byte) => {
+                Some(_) if spaced && self.at_character(characters::name_starts()) => {
                     if attributes.len() == ATTRIBUTE_LIMIT {
                         return Err(self.too_many());
                     }
@@ -303,8 +318,7 @@ impl<'a> Bytes<'a> {
                 b'>' if quote.is_none() && self.scene[from..self.at].ends_with(b"]]") => {
                     return Err(Refusal::new(CANNOT_STAND, self.at as u64 - 2));
                 }
-                byte if is_character(byte) => self.at += 1,
-                _ => return Err(self.refused()),
+                _ => self.text_character()?,
             }
         }
         Ok(())

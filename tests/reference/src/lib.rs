@@ -1,9 +1,9 @@
 //! A tree-building implementation of document 01, the Rig scene section dispatcher.
 //!
-//! It was written from document 01, requests N1 to N3 of document 02 and their rulings alone, to
+//! It was written from document 01, requests N1 to N4 of document 02 and their rulings alone, to
 //! be matched byte for byte with the dispatcher. The way a scene goes:
 //!
-//! 1. `lexical`, `misc` and `reader`: the whole scene becomes a list of events;
+//! 1. `characters`, `lexical`, `misc` and `reader`: the whole scene becomes a list of events;
 //! 2. `tree`: the events become a tree, closed at the cut;
 //! 3. `sections`: the tree is divided into sections and slots, an element's attributes likewise;
 //! 4. `strands`: rules are assigned along the strands of every section;
@@ -20,6 +20,7 @@
 //! sessions that no scene leads to.
 
 pub mod answer;
+pub mod characters;
 pub mod defaults;
 pub mod forecast;
 pub mod generate;

@@ -2,7 +2,7 @@
 //! (request N1; productions 15, 16 and 23 of XML 1.0, fifth edition).
 
 use crate::answer::Refusal;
-use crate::lexical::{is_character, is_space, Bytes, CANNOT_STAND};
+use crate::lexical::{is_space, Bytes, CANNOT_STAND};
 
 const DECLARED: &[u8] = b"xml";
 const STANDALONE: [&[u8]; 2] = [b"yes", b"no"];
@@ -60,13 +60,10 @@ impl Bytes<'_> {
         }
     }
 
-    /// Bytes as in text, < and & free, up to and with the two that end them.
+    /// Characters as in text, < and & free, up to and with the two that end them.
     fn content(&mut self, end: &[u8]) -> Result<(), Refusal> {
         while !self.scene[self.at..].starts_with(end) {
-            if !self.peek().is_some_and(is_character) {
-                return Err(self.refused());
-            }
-            self.at += 1;
+            self.text_character()?;
         }
         self.at += end.len();
         Ok(())

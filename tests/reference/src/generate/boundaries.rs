@@ -1,6 +1,7 @@
 //! Which of request N1's boundaries a reading ends at, for counts of what was met.
 
-use crate::lexical::{continues_part, is_space};
+use super::scripts::in_name;
+use crate::lexical::is_space;
 use crate::reader::{Reading, What};
 
 /// Every boundary: number, and where.
@@ -123,9 +124,8 @@ fn whole(bytes: &[u8]) -> Option<usize> {
 }
 
 fn behind_question(scene: &[u8], at: usize) -> &'static str {
-    let target = scene[at + 2..]
-        .iter()
-        .take_while(|byte| continues_part(**byte));
+    let in_ascii = |byte: &&u8| byte.is_ascii() && in_name(**byte);
+    let target = scene[at + 2..].iter().take_while(in_ascii);
     let target: Vec<u8> = target.copied().collect();
     match target.eq_ignore_ascii_case(b"xml") {
         true => "target xml",
@@ -147,10 +147,7 @@ fn markup(seen: &[u8], first: bool) -> Option<&'static str> {
 }
 
 fn instruction(rest: &[u8], first: bool) -> &'static str {
-    let length = rest
-        .iter()
-        .take_while(|byte| continues_part(**byte))
-        .count();
+    let length = rest.iter().take_while(|byte| in_name(**byte)).count();
     let (target, behind) = rest.split_at(length);
     match behind {
         _ if first && target == b"xml" => declaration(behind),

@@ -2,11 +2,13 @@
 
 use super::miscs::{bad_misc, damaged_declaration};
 use super::random::Random;
-use crate::lexical::{begins_part, continues_part, is_space};
+use super::scripts::{broken, in_name};
+use crate::lexical::is_space;
 use crate::table::{self, XML_URI};
 
-/// Bytes of every class that the reader tells apart.
-const BYTES: &[u8] = b"\x00\x08\x0B\x1F\x7F\x80\xFF \t\n\rabxZ_09-.:<>/=\"'&;!?]";
+/// Bytes of every class that the reader tells apart, and some that begin or go on in characters.
+const BYTES: &[u8] = b"\x00\x08\x0B\x1F\x7F\x80\xFF \t\n\rabxZ_09-.:<>/=\"'&;!?]\
+    \x90\xA0\xB7\xBF\xC2\xC3\xCC\xE0\xE3\xED\xEF\xF0\xF3\xF4";
 
 /// What is put into a start tag, behind its name.
 const INSERTED: [&[u8]; 22] = [
@@ -38,7 +40,7 @@ const INSERTED: [&[u8]; 22] = [
 pub fn damaged_scene(random: &mut Random, scene: &[u8]) -> Vec<u8> {
     let mut damaged = scene.to_vec();
     for _ in 0..random.between(1, 2) {
-        match random.below(16) {
+        match random.below(18) {
             0..=2 => replace(random, &mut damaged),
             3..=4 => insert(random, &mut damaged),
             5..=6 => remove(random, &mut damaged),
@@ -48,6 +50,8 @@ pub fn damaged_scene(random: &mut Random, scene: &[u8]) -> Vec<u8> {
             11 | 12 => into_misc(random, &mut damaged),
             13 => spoil_text(random, &mut damaged),
             14 => begin(random, &mut damaged),
+            15 => into_character(random, &mut damaged),
+            16 => insert_broken(random, &mut damaged),
             _ => move_piece(random, &mut damaged),
         }
     }
@@ -58,8 +62,8 @@ pub fn damaged_scene(random: &mut Random, scene: &[u8]) -> Vec<u8> {
 fn class(byte: u8) -> usize {
     match byte {
         byte if is_space(byte) => 0,
-        byte if begins_part(byte) => 1,
-        byte if continues_part(byte) => 2,
+        byte if byte.is_ascii_alphabetic() || byte == b'_' => 1,
+        byte if byte.is_ascii_digit() || b"-.".contains(&byte) => 2,
         b'<' => 3,
         b'>' => 4,
         b'/' => 5,
@@ -67,13 +71,14 @@ fn class(byte: u8) -> usize {
         b'"' | b'\'' => 7,
         b'&' | b';' => 8,
         b':' => 9,
-        _ => 10,
+        0x80.. => 10,
+        _ => 11,
     }
 }
 
 /// A place at a byte of a class chosen first, so that rare classes are met as well.
 fn place(random: &mut Random, scene: &[u8]) -> usize {
-    let wanted = random.below(11);
+    let wanted = random.below(12);
     let of_class: Vec<usize> = (0..scene.len())
         .filter(|&at| class(scene[at]) == wanted)
         .collect();
@@ -156,6 +161,28 @@ fn begin(random: &mut Random, scene: &mut Vec<u8>) {
     scene.splice(0..0, damaged_declaration(random));
 }
 
+/// Of a character of some bytes one taken out, changed or put in, or the scene cut there.
+fn into_character(random: &mut Random, scene: &mut Vec<u8>) {
+    let places: Vec<usize> = (0..scene.len()).filter(|&at| scene[at] >= 0x80).collect();
+    if places.is_empty() {
+        return insert_broken(random, scene);
+    }
+    let at = *random.pick(&places);
+    match random.below(5) {
+        0 => drop(scene.remove(at)),
+        1 => scene[at] ^= 1 << random.below(8),
+        2 => scene[at] = *random.pick(BYTES),
+        3 => scene.insert(at, *random.pick(BYTES)),
+        _ => scene.truncate(at + 1),
+    }
+}
+
+/// What is no character, anywhere.
+fn insert_broken(random: &mut Random, scene: &mut Vec<u8>) {
+    let at = place(random, scene);
+    scene.splice(at..at, broken(random).iter().copied());
+}
+
 fn move_piece(random: &mut Random, scene: &mut Vec<u8>) {
     let from = place(random, scene).min(scene.len());
     let to = (from + random.below(12)).min(scene.len());
@@ -187,14 +214,14 @@ fn many_attributes(count: usize) -> Vec<u8> {
 
 fn behind_name(random: &mut Random, scene: &[u8]) -> Option<usize> {
     let names: Vec<usize> = (1..scene.len())
-        .filter(|&at| scene[at - 1] == b'<' && begins_part(scene[at]))
+        .filter(|&at| scene[at - 1] == b'<' && in_name(scene[at]))
         .collect();
     if names.is_empty() {
         return None;
     }
     let from = *random.pick(&names);
-    let in_name = |byte: &&u8| continues_part(**byte) || **byte == b':';
-    Some(from + scene[from..].iter().take_while(in_name).count())
+    let in_whole = |byte: &&u8| in_name(**byte) || **byte == b':';
+    Some(from + scene[from..].iter().take_while(in_whole).count())
 }
 
 /// A table with one damage; now and then it is still a good one.

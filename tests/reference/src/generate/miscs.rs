@@ -2,12 +2,26 @@
 //! that consist of little else.
 
 use super::random::Random;
+use super::scripts;
 
-const TARGETS: [&[u8]; 12] = [
-    b"p", b"q1", b"xm", b"xmlx", b"xml-a", b"XMLa", b"_x", b"x.y-z", b"xmlns", b"Xm", b"l", b"ml",
+const TARGETS: [&[u8]; 14] = [
+    b"p",
+    b"q1",
+    b"xm",
+    b"xmlx",
+    b"xml-a",
+    b"XMLa",
+    b"_x",
+    b"x.y-z",
+    b"xmlns",
+    b"Xm",
+    b"l",
+    b"ml",
+    b"xml\xC3\xA9",
+    b"xmL\xC2\xB7",
 ];
 /// What stands in comments and instructions; what would end the one or the other is taken out.
-const CONTENT: [&[u8]; 20] = [
+const CONTENT: [&[u8]; 22] = [
     b"a",
     b"b ",
     b" ",
@@ -26,14 +40,16 @@ const CONTENT: [&[u8]; 20] = [
     b"&lt;",
     b"<!--",
     b"<?p?>",
-    b"\x7F\x80\xFF",
+    b"\x7F\xC2\x80",
+    b"\xE3\x81\x82",
+    b"\xF4\x8F\xBF\xBF",
     b"</r>",
 ];
 const VERSIONS: [&[u8]; 4] = [b"0", b"1", b"15", b"00000000000000000000000000000000"];
 const ENCODINGS: [&[u8]; 6] = [b"UTF-8", b"utf-8", b"x-1._", b"a", b"Z9", b"ISO-8859-1"];
 
 /// Refused somewhere, cut short, or good only at some places.
-const BAD: [&[u8]; 40] = [
+const BAD: [&[u8]; 52] = [
     b"<!",
     b"<!-",
     b"<!--",
@@ -74,6 +90,18 @@ const BAD: [&[u8]; 40] = [
     b"]]",
     b"]]<!---->>",
     b"<",
+    b"<!--\xC3-->",
+    b"<!--a-\xE3\x81->",
+    b"<!--\xED\xA0\x80-->",
+    b"<?\xC2\xB7?>",
+    b"<?\xE9\xAA\xA8",
+    b"<?p\xC3\x97?>",
+    b"<?p \xC3?>",
+    b"<?xml\xC3\x97?>",
+    b"<?xml\xC3\xA9?>",
+    b"<?xml\xC3",
+    b"<?XmL\x97",
+    b"]]\xC3>",
 ];
 
 /// A comment or an instruction.
@@ -109,6 +137,7 @@ fn comment(random: &mut Random) -> Vec<u8> {
 fn target(random: &mut Random) -> Vec<u8> {
     match random.below(12) {
         0 => b"t".repeat(random.between(62, 64)),
+        1 => scripts::part(random),
         _ => random.pick(&TARGETS).to_vec(),
     }
 }
@@ -186,11 +215,16 @@ pub fn damaged_declaration(random: &mut Random) -> Vec<u8> {
 
 /// What may be refused where it stands.
 pub fn bad_misc(random: &mut Random) -> Vec<u8> {
-    match random.below(12) {
+    match random.below(13) {
         0 => [b"<?", &b"t".repeat(random.between(63, 66))[..], b"?>"].concat(),
         1 => [b"<?", &b"t".repeat(64)[..], b":?>"].concat(),
         2 => declaration(random),
         3 => damaged_declaration(random),
+        4 => {
+            let length = random.between(63, 66);
+            let target = scripts::part_of_length(random, length);
+            [b"<?", &target[..], b"?>"].concat()
+        }
         _ => random.pick(&BAD).to_vec(),
     }
 }
@@ -211,7 +245,7 @@ const BEHIND: [&[u8]; 9] = [
     b"</x></r>",
     b"<x/></r>",
 ];
-const SOUP: [&[u8]; 34] = [
+const SOUP: [&[u8]; 37] = [
     b"<!--",
     b"-->",
     b"--",
@@ -246,6 +280,9 @@ const SOUP: [&[u8]; 34] = [
     b"='a'",
     b" standalone='no'",
     b"'",
+    b"\xC3\xA9",
+    b"\xC3",
+    b"\x97",
 ];
 
 /// A few bytes with misc among them, good or bad, wherever something may stand.

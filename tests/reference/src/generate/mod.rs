@@ -5,6 +5,7 @@ mod damage;
 mod miscs;
 mod random;
 mod scenes;
+mod scripts;
 mod sessions;
 mod tables;
 
@@ -13,6 +14,7 @@ pub use damage::{damaged_scene, damaged_table};
 pub use miscs::{misc, misc_scene, soup};
 pub use random::Random;
 pub use scenes::{scene, scene_of, Profile};
+pub use scripts::{broken, form_of, script_scene, script_soup};
 pub use sessions::odd_session;
 pub use tables::{many_rejects, many_units, pack, rule, Plan};
 pub use tables::{nearly_full_table, sparse_table, table};

@@ -2,18 +2,36 @@
 
 use super::miscs;
 use super::random::Random;
+use super::scripts;
 use crate::table;
 
-const PREFIXES: [&[u8]; 12] = [
-    b"p", b"q", b"s", b"t", b"x1", b"y-", b"z.", b"_a", b"_b", b"Xml", b"xmln", b"pp",
+const PREFIXES: [&str; 16] = [
+    "p",
+    "q",
+    "s",
+    "t",
+    "x1",
+    "y-",
+    "z.",
+    "_a",
+    "_b",
+    "Xml",
+    "xmln",
+    "pp",
+    "\u{3C0}",
+    "\u{9AA8}",
+    "e\u{301}",
+    "\u{10400}",
 ];
-const UNLISTED: [&[u8]; 6] = [
-    b"n1",
-    b"n2",
-    b"u/",
-    b"U",
-    b" u ",
-    b"http://www.w3.org/XML/1998/",
+const UNLISTED: [&str; 8] = [
+    "n1",
+    "n2",
+    "u/",
+    "U",
+    " u ",
+    "http://www.w3.org/XML/1998/",
+    "\u{9AA8}",
+    "\u{E9}\u{A0}",
 ];
 const ATTRIBUTES_AT_MOST: usize = 16;
 
@@ -40,6 +58,8 @@ pub struct Profile {
     pub text: usize,
     /// How often a misc stands where one may.
     pub misc: usize,
+    /// How often a name, or a character of text, is of another script.
+    pub scripts: usize,
 }
 
 const PLAIN: Profile = Profile {
@@ -55,11 +75,12 @@ const PLAIN: Profile = Profile {
     long: 1,
     text: 40,
     misc: 12,
+    scripts: 15,
 };
 
 impl Profile {
     pub fn some(random: &mut Random) -> Profile {
-        match random.below(10) {
+        match random.below(11) {
             0 => deep(random),
             1 => wide(random),
             2 => binding(random),
@@ -67,6 +88,7 @@ impl Profile {
             4 => attributed(),
             5 => long_named(),
             6 => small(),
+            7 => in_other_scripts(),
             _ => PLAIN,
         }
     }
@@ -131,6 +153,16 @@ fn long_named() -> Profile {
     Profile { long: 40, ..PLAIN }
 }
 
+fn in_other_scripts() -> Profile {
+    Profile {
+        long: 10,
+        text: 60,
+        misc: 20,
+        scripts: 80,
+        ..PLAIN
+    }
+}
+
 fn small() -> Profile {
     Profile {
         elements: 4,
@@ -163,19 +195,24 @@ pub fn scene_of(random: &mut Random, table: &[u8], profile: &Profile) -> Vec<u8>
 
 /// The URIs that a scene may use: listed ones often, none and unlisted ones.
 fn uris(random: &mut Random, table: &[u8]) -> Vec<Vec<u8>> {
-    let mut uris = vec![Vec::new(), random.pick(&UNLISTED).to_vec()];
+    let mut uris = vec![Vec::new(), random.pick(&UNLISTED).as_bytes().to_vec()];
     if random.percent(50) {
-        uris.push(random.pick(&UNLISTED).to_vec());
+        uris.push(random.pick(&UNLISTED).as_bytes().to_vec());
     }
     if let Ok(table) = table::read(table) {
         let listed = (1..=table.namespaces()).filter_map(|class| table.listed_uri(class));
-        let usable: Vec<&[u8]> = listed.filter(|uri| *uri != table::XMLNS_URI).collect();
+        let usable: Vec<&[u8]> = listed.filter(|uri| can_stand(uri)).collect();
         for uri in &usable {
             uris.push(uri.to_vec());
             uris.push(uri.to_vec());
         }
     }
     uris
+}
+
+/// Whether a scene may declare a listed URI.
+fn can_stand(uri: &[u8]) -> bool {
+    uri != table::XMLNS_URI && std::str::from_utf8(uri).is_ok()
 }
 
 /// A declaration in force: prefix (empty for the default) and URI.
@@ -318,7 +355,7 @@ impl Writer<'_> {
         if self.random.percent(self.profile.declarations.min(9) * 10) {
             return format!("d{}", self.random.below(30)).into_bytes();
         }
-        self.random.pick(&PREFIXES).to_vec()
+        self.random.pick(&PREFIXES).as_bytes().to_vec()
     }
 
     fn attributes(&mut self, tag: &mut Tag, own: &[u8]) {
@@ -361,17 +398,34 @@ impl Writer<'_> {
     }
 
     fn name(&mut self, prefix: &[u8], letters: &[u8]) -> Vec<u8> {
-        let mut part = vec![*self.random.pick(letters)];
-        if self.random.percent(self.profile.long) {
-            let length = self.random.between(62, 64);
-            while part.len() < length {
-                part.push(*self.random.pick(b"azAZ_09-."));
-            }
-        }
+        let part = self.part(letters);
         match prefix {
             b"" => part,
             _ => [prefix, b":", &part].concat(),
         }
+    }
+
+    fn part(&mut self, letters: &[u8]) -> Vec<u8> {
+        let scripts = self.random.percent(self.profile.scripts);
+        if self.random.percent(self.profile.long) {
+            let length = self.random.between(62, 64);
+            return match scripts {
+                true => scripts::part_of_length(self.random, length),
+                false => self.long_part(letters, length),
+            };
+        }
+        match scripts {
+            true => scripts::part(self.random),
+            false => vec![*self.random.pick(letters)],
+        }
+    }
+
+    fn long_part(&mut self, letters: &[u8], length: usize) -> Vec<u8> {
+        let mut part = vec![*self.random.pick(letters)];
+        while part.len() < length {
+            part.push(*self.random.pick(b"azAZ_09-."));
+        }
+        part
     }
 
     fn start_tag(&mut self, tag: &Tag, empty: bool) {
@@ -460,6 +514,10 @@ impl Writer<'_> {
         let without = *self.random.pick(b"\"'");
         let mut list = Vec::new();
         for _ in 0..self.random.between(0, at_most) {
+            if self.random.percent(self.profile.scripts) {
+                list.extend(scripts::character(self.random));
+                continue;
+            }
             match self.random.below(9) {
                 0 => list.extend(*self.random.pick(&[
                     &b"&lt;"[..],
@@ -469,7 +527,7 @@ impl Writer<'_> {
                     b"&apos;",
                 ])),
                 1 => list.push(*self.random.pick(b" \t\n\r")),
-                2 => list.push(*self.random.pick(b">]=/;:\x7F\x80\xC3\xFF!?#\"'")),
+                2 => list.push(*self.random.pick(b">]=/;:\x7F!?#\"'")),
                 3 => list.extend(*self.random.pick(&[
                     &b"]]>"[..],
                     b"]]",

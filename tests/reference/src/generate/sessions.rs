@@ -46,7 +46,7 @@ fn units(random: &mut Random, old: u64) -> u64 {
 
 fn span(random: &mut Random, scene: &[u8], old: Span) -> Span {
     let length = scene.len() as u64;
-    match random.below(6) {
+    match random.below(7) {
         0 => Span::new(number(random, old.at, length), old.len),
         1 => {
             let rest = length.saturating_sub(old.at);
@@ -55,8 +55,16 @@ fn span(random: &mut Random, scene: &[u8], old: Span) -> Span {
         2 => Span::new(old.at, 0),
         3 => Span::ZERO,
         4 => short_span(random, scene),
+        5 => inner(random, old),
         _ => word(random, scene),
     }
+}
+
+/// A few bytes less at one of the ends or at both, so that characters are cut.
+fn inner(random: &mut Random, old: Span) -> Span {
+    let before = (random.below(4) as u64).min(old.len);
+    let behind = (random.below(4) as u64).min(old.len - before);
+    Span::new(old.at.saturating_add(before), old.len - before - behind)
 }
 
 fn short_span(random: &mut Random, scene: &[u8]) -> Span {
@@ -65,10 +73,10 @@ fn short_span(random: &mut Random, scene: &[u8]) -> Span {
     Span::new(at as u64, len as u64)
 }
 
-/// Letters that stand in the scene.
+/// Letters that stand in the scene, or their last bytes.
 fn word(random: &mut Random, scene: &[u8]) -> Span {
     let at = random.below(scene.len() + 1);
-    let letters = |byte: &&u8| byte.is_ascii_alphabetic();
+    let letters = |byte: &&u8| byte.is_ascii_alphabetic() || **byte >= 0x80;
     let skipped = scene[at..].iter().take_while(|byte| !letters(byte)).count();
     let from = at + skipped;
     let len = scene[from..].iter().take_while(letters).count();

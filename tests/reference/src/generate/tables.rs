@@ -129,7 +129,9 @@ fn namespace(random: &mut Random) -> Vec<u8> {
     match random.below(40) {
         0 => vec![b'u'; 255],
         1 => XMLNS_URI.to_vec(),
-        2..=9 => format!("urn:{}", random.below(60)).into_bytes(),
+        2 => vec![0xFF],
+        3 => "\u{9AA8}".into(),
+        4..=9 => format!("urn:{}", random.below(60)).into_bytes(),
         _ => vec![*random.pick(b"uvwPQ")],
     }
 }

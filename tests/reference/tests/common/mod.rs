@@ -3,7 +3,7 @@
 
 use reference::generate::{pack, rule, Plan};
 use reference::table::{Rule, ANY};
-use reference::{plus, run, Action, Answer, Forecast, Record};
+use reference::{plus, run, step, Action, Answer, Forecast, Record, Session};
 
 pub const AMPLE: usize = 1 << 24;
 pub const ELEMENT: u8 = 0;
@@ -139,7 +139,7 @@ pub fn bytes(written: &str) -> Vec<u8> {
         } else if let Some((inner, behind)) = rest.strip_prefix('{').and_then(|r| r.split_once('}'))
         {
             let (count, repeated) = inner.split_once(':').expect("{k:s}");
-            list.extend(repeated.repeat(count.parse().expect("a count")).bytes());
+            list.extend(bytes(repeated).repeat(count.parse().expect("a count")));
             rest = behind;
         } else {
             list.push(first as u8);
@@ -226,6 +226,54 @@ pub fn vectors(block: &'static str) -> Vec<Vector> {
     list
 }
 
+/// number@place.
+pub fn ending(word: &str) -> (u8, u64) {
+    let (number, place) = word.split_once('@').expect(word);
+    (number.parse().expect(word), place.parse().expect(word))
+}
+
+/// A decision's example: the line, its scene, number and place.
+pub type Decided = (&'static str, Vec<u8>, (u8, u64));
+
+/// The examples of a block: decision, |scene|, number@place.
+pub fn decided(block: &'static str) -> Vec<Decided> {
+    let of = |line: &'static str| {
+        let fields: Vec<&str> = line.split('|').collect();
+        (line, bytes(fields[1]), ending(fields[2].trim()))
+    };
+    written(block).map(of).collect()
+}
+
+/// Scenes stepped in turn, each from the session that the one before left, until a number is not
+/// 0: a line of a block, by its table and by the one that keeps its former results.
+pub fn check_steps(line: &str) {
+    let fields: Vec<&str> = line.split('|').collect();
+    let table = named(fields[0]);
+    for table in [former(&table), table] {
+        let mut session = Session::fresh();
+        for pair in fields[1..].chunks(2) {
+            let expected: Vec<(u8, u64)> = pair[1].split_whitespace().map(ending).collect();
+            let got = stepped(&table, &bytes(pair[0]), &mut session);
+            assert_eq!(got, expected, "{line}");
+        }
+    }
+}
+
+/// Steps until a number is not 0; each one's number and place.
+fn stepped(table: &[u8], scene: &[u8], session: &mut Session) -> Vec<(u8, u64)> {
+    let mut list = Vec::new();
+    loop {
+        let (got, next, _) = step(table, scene, session, AMPLE);
+        list.push((got.number, got.place));
+        if got.number != 0 {
+            assert_eq!(next, *session);
+            return list;
+        }
+        assert_eq!(next.place, got.place);
+        *session = next;
+    }
+}
+
 /// Number, place, events, records.
 pub fn four(field: &str) -> Answer {
     let four = numbers(field);
@@ -268,5 +316,46 @@ pub fn figures(six: &[u64]) -> Forecast {
         units: six[3],
         strands: six[4],
         depth: six[5],
+    }
+}
+
+/// A 2 or 3 at p: the first p bytes give 1, after the root also 9, at p with the same events; the
+/// bytes up to the one that decides give 1; every longer scene gives the same.
+pub fn check_refused_byte(scene: &[u8]) {
+    let (whole, records) = run(&k(), scene, AMPLE);
+    if !matches!(whole.number, 2 | 3) {
+        return;
+    }
+    let place = whole.place as usize;
+    let decided = place + deciding(scene, place);
+    for cut in place..=decided {
+        let (got, written) = run(&k(), &scene[..cut], AMPLE);
+        assert!(
+            got.number == 1 || got.number == 9 && cut == place,
+            "{got:?}"
+        );
+        assert_eq!(
+            (got.place, got.events, &written),
+            (cut as u64, whole.events, &records)
+        );
+    }
+    for longer in [
+        scene[..=decided].to_vec(),
+        [scene, &b"<r/>-->?>"[..]].concat(),
+    ] {
+        assert_eq!(run(&k(), &longer, AMPLE), (whole, records.clone()));
+    }
+}
+
+/// How far behind a refused byte the one stands that decides.
+fn deciding(scene: &[u8], place: usize) -> usize {
+    let (before, from) = scene.split_at(place);
+    let target = from
+        .get(..3)
+        .is_some_and(|target| target.eq_ignore_ascii_case(b"xml"));
+    match (from.starts_with(b"]]>"), before.ends_with(b"<?") && target) {
+        (true, _) => 2,
+        (_, true) => 3,
+        _ => 0,
     }
 }

@@ -9,6 +9,7 @@ mod limits;
 mod n01;
 mod n02;
 mod n03;
+mod n04;
 mod names;
 mod odd;
 mod reader;

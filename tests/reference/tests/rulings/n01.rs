@@ -48,7 +48,7 @@ N1-12 |<!--a--| 1@7
 N1-12 |<!--a-| 1@6
 N1-13 |<!--\x0B| 2@4
 N1-13 |<!--a\x1F-->| 2@5
-N1-13 |<!--\x09\x0A\x0D \x7F\x80\xFF--><r/>| 9@18
+N1-13 |<!--\x09\x0A\x0D \x7F\xC2\x80--><r/>| 9@18
 N1-13 |<r><!--]]>&&amp<x ?>--></r>| 9@27
 N1-14 |<?a:b?>| 2@3
 N1-14 |<?{64:t}?><r/>| 9@72
@@ -126,7 +126,7 @@ N1-22 |<r><!--]]>--><?p ]]>?></r>| 9@26
 N1-22 |<r>]<?p?>]></r>| 9@15
 "#;
 
-/// The page's vectors as they stand there.
+/// The page's vectors as they stand there, but for the one that request N4 changes.
 const VECTORS: &str = r#"
 # misc in every position; records as if they were not there, texts apart
 K |<?xml version='1.0'?><!--x--> <?p?><r>a<!--y-->b<?q z?><x/><!----></r> <!--e--><?f?> | - | 9 85 6 8
@@ -163,7 +163,7 @@ K |<!--->--><r/>| - | 9 13 2 4
 K |<!-- - - --><r/>| - | 9 16 2 4
 K |<!--<&]]>&x;?>--><r/>| - | 9 21 2 4
 K |<!--a-\x00| - | 2 6 0 0
-K |<!--\xFF--><r/>| - | 9 12 2 4  # until N4
+K |<!--\xFF--><r/>| - | 2 4 0 0  # by N4; 9 12 2 4 until then
 K |<!-| - | 1 3 0 0
 # instructions
 K |<?p <&]]>-- ?? >?><r/>| - | 9 22 2 4
@@ -219,29 +219,12 @@ K |<r/>| 0@4 0@4 9@4  |<r/><!--| 1@8  |<r/><!---->| 9@11  |<r/><!----><?p?>x| 2@
 K |<r><?xml| 0@3 1@8  |<r><?xml-| 1@9  |<r><?xml-?></r>| 0@15 9@15
 "#;
 
-/// number@place.
-fn ending(word: &str) -> (u8, u64) {
-    let (number, place) = word.split_once('@').expect(word);
-    (number.parse().expect(word), place.parse().expect(word))
-}
-
-/// Decision, scene, number and place.
-fn decisions() -> impl Iterator<Item = (&'static str, Vec<u8>, (u8, u64))> {
-    DECISIONS
-        .lines()
-        .filter(|line| !line.is_empty())
-        .map(|line| {
-            let fields: Vec<&str> = line.split('|').collect();
-            (line, bytes(fields[1]), ending(fields[2].trim()))
-        })
-}
-
 #[test]
 fn the_decisions_examples() {
-    for (line, scene, expected) in decisions() {
+    for (line, scene, expected) in decided(DECISIONS) {
         assert_eq!(ends(&k(), &scene), expected, "{line}");
     }
-    assert_eq!(decisions().count(), 119);
+    assert_eq!(decided(DECISIONS).len(), 119);
 }
 
 /// They meet no section without a rule, so that both tables give them.
@@ -256,35 +239,8 @@ fn the_pages_vectors() {
 
 #[test]
 fn the_pages_steps() {
-    let list: Vec<&str> = STEPS.lines().filter(|line| !line.is_empty()).collect();
-    assert_eq!(list.len(), 7);
-    for line in list {
-        let fields: Vec<&str> = line.split('|').collect();
-        let table = named(fields[0]);
-        for table in [former(&table), table] {
-            let mut session = Session::fresh();
-            for pair in fields[1..].chunks(2) {
-                let expected: Vec<(u8, u64)> = pair[1].split_whitespace().map(ending).collect();
-                let got = stepped(&table, &bytes(pair[0]), &mut session);
-                assert_eq!(got, expected, "{line}");
-            }
-        }
-    }
-}
-
-/// Steps until a number is not 0; each one's number and place.
-fn stepped(table: &[u8], scene: &[u8], session: &mut Session) -> Vec<(u8, u64)> {
-    let mut list = Vec::new();
-    loop {
-        let (got, next, _) = step(table, scene, session, AMPLE);
-        list.push((got.number, got.place));
-        if got.number != 0 {
-            assert_eq!(next, *session);
-            return list;
-        }
-        assert_eq!(next.place, got.place);
-        *session = next;
-    }
+    written(STEPS).for_each(check_steps);
+    assert_eq!(written(STEPS).count(), 7);
 }
 
 /// The places of the sessions after each event.
@@ -447,47 +403,11 @@ fn n1_23_odd_places() {
     assert_eq!(step(&k(), nested, &odd, AMPLE).0, answer(0, 16, 1, 1));
 }
 
-/// A 2 or 3 at p: the first p bytes give 1, after the root also 9, at p with the same events; the bytes up to
-/// the one that decides give 1; every longer scene gives the same.
 #[test]
 fn laws_of_the_refused_byte() {
     let pages = vectors(VECTORS).into_iter().map(|vector| vector.scene);
-    for scene in pages.chain(decisions().map(|decision| decision.1)) {
-        let (whole, records) = run(&k(), &scene, AMPLE);
-        if !matches!(whole.number, 2 | 3) {
-            continue;
-        }
-        let place = whole.place as usize;
-        let decided = place + deciding(&scene, place);
-        for cut in place..=decided {
-            let (got, written) = run(&k(), &scene[..cut], AMPLE);
-            assert!(
-                got.number == 1 || got.number == 9 && cut == place,
-                "{got:?}"
-            );
-            assert_eq!(
-                (got.place, got.events, &written),
-                (cut as u64, whole.events, &records)
-            );
-        }
-        for longer in [
-            scene[..=decided].to_vec(),
-            [&scene, &b"<r/>-->?>"[..]].concat(),
-        ] {
-            assert_eq!(run(&k(), &longer, AMPLE), (whole, records.clone()));
-        }
-    }
-}
-
-/// How far behind a refused byte the one stands that decides.
-fn deciding(scene: &[u8], place: usize) -> usize {
-    let (before, from) = scene.split_at(place);
-    let target = from
-        .get(..3)
-        .is_some_and(|target| target.eq_ignore_ascii_case(b"xml"));
-    match (from.starts_with(b"]]>"), before.ends_with(b"<?") && target) {
-        (true, _) => 2,
-        (_, true) => 3,
-        _ => 0,
-    }
+    let examples = decided(DECISIONS).into_iter().map(|decision| decision.1);
+    pages
+        .chain(examples)
+        .for_each(|scene| check_refused_byte(&scene));
 }

@@ -83,10 +83,10 @@ fn b8_bytes_of_text_and_values() {
     assert_eq!(with_t("<r a='\">' b=\"'\">] ]>'\"</r>"), (9, 26));
     // N1-21, N1-22: ]]> may stand in values only.
     assert_eq!(with_t("<r a=']]>' b=\"]]>\">]]>'\"</r>"), (2, 19));
-    assert_eq!(
-        ends(&t(), b"<r a='\x7F\xFF\x80'>\x7F\xFF\t\r\n</r>"),
-        (9, 20)
-    );
+    assert_eq!(with_t("<r a='\x7F\u{80}'>\x7F\u{FF}\t\r\n</r>"), (9, 21));
+    // N4-2: well-formed characters only.
+    assert_eq!(ends(&t(), b"<r a='\x7F\xFF'/>"), (2, 7));
+    assert_eq!(ends(&t(), b"<r>\x7F\x80</r>"), (2, 4));
     assert_eq!(ends(&t(), b"<r>\x0B</r>"), (2, 3));
     assert_eq!(ends(&t(), b"<r a='\x1F'/>"), (2, 6));
     assert_eq!(ends(&t(), b"<r>\x00"), (2, 3));
