@@ -42,6 +42,36 @@ pub fn run_as(case: &Case, out_len: usize, expected: Answer, records: &[u8]) {
     case.same_bytes("output", &filled(out_len, records), out.content(), more);
 }
 
+/// Runs of small scenes by one table, all in one output: for sweeps of a million.
+pub struct Runs {
+    table: Vec<u8>,
+    out: Lent,
+    /// What the output holds before each.
+    clean: Vec<u8>,
+}
+
+impl Runs {
+    pub fn new(table: &[u8], out_len: usize) -> Runs {
+        Runs {
+            table: table.to_vec(),
+            out: Lent::patterned(out_len),
+            clean: calls::pattern(out_len),
+        }
+    }
+
+    pub fn run(&mut self, scene: &[u8]) -> Answer {
+        let (expected, records) = reference::run(&self.table, scene, self.clean.len());
+        let answer = asked::answer(calls::run(&self.table, scene, &mut self.out));
+        let (written, rest) = self.out.content().split_at(records.len());
+        if answer != expected || written != records || rest != &self.clean[records.len()..] {
+            run_as(&Case::new("sweep", 0, &self.table, scene), self.clean.len(), expected, &records);
+            panic!("the dispatcher gave {answer:?} of {}, and then {expected:?}", scene.escape_ascii());
+        }
+        self.out.slice()[..records.len()].copy_from_slice(&self.clean[..records.len()]);
+        expected
+    }
+}
+
 /// One step from bytes, which become those of the next session: what the reference's step says of the session that they hold.
 pub fn step(case: &Case, session: &mut Vec<u8>, out_len: usize) -> (Answer, Vec<u8>) {
     let (expected, next, records) = expected_step(case, session, out_len);

@@ -1,6 +1,6 @@
 //! Document 01's tables, and scenes of the shapes at the limits.
 
-use reference::generate::{damaged_scene, pack, rule, scene, scene_of, Plan, Profile, Random};
+use reference::generate::{damaged_scene, pack, rule, scene, scene_of, script_scene, script_soup, Plan, Profile, Random};
 use reference::table::{Rule, ANY, ELEMENT_SECTION};
 use reference::{plus, Action};
 
@@ -19,6 +19,15 @@ pub fn t2() -> Vec<u8> {
     table.extend([0x08, 0x08, 0x00, 0x08]);
     table.extend([0x0B, 0xFD, 0x00, 0x08]);
     table.extend([1, b'u', 1, b'v']);
+    table
+}
+
+/// The page N1's K: all is kept in unit 0.
+pub fn k() -> Vec<u8> {
+    let mut table = vec![0, 2, 1, 3];
+    table.extend([0x03, 0xFE, 0x00, 0x08]);
+    table.extend([0x0B, 0xFC, 0x00, 0x08]);
+    table.extend([0x0F, 0xFC, 0x00, 0x08]);
     table
 }
 
@@ -67,6 +76,7 @@ const PLAIN: Profile = Profile {
     long: 1,
     text: 40,
     misc: 12,
+    scripts: 15,
 };
 
 /// The shapes, one after the other by number: deep, wide, many bindings, many strands, many attributes and sections, long names, large.
@@ -142,8 +152,16 @@ pub fn small(random: &mut Random, table: &[u8]) -> Vec<u8> {
     scene_of(random, table, &profile)
 }
 
+/// A scene of little but characters of other scripts and bytes that are none (request N4).
+pub fn scripted(random: &mut Random) -> Vec<u8> {
+    match random.percent(60) {
+        true => script_scene(random),
+        false => script_soup(random),
+    }
+}
+
 /// A byte of every class that the reader tells apart.
-const BYTES: &[u8] = b"\x00\x09\x0B\x1F\x7F\x80\xFF \nax:<>/=\"'&;-0_!?]";
+const BYTES: &[u8] = b"\x00\x09\x0B\x1F\x7F\x80\x90\xA0\xB7\xBF\xC0\xC2\xC3\xCC\xE0\xE3\xED\xEE\xEF\xF0\xF3\xF4\xFF \nax:<>/=\"'&;-0_!?]";
 
 /// Every byte replaced by every class, before every byte one of every class put in, every byte taken out, every length.
 pub fn every_change(whole: &[u8]) -> Vec<Vec<u8>> {
@@ -163,15 +181,16 @@ pub fn every_change(whole: &[u8]) -> Vec<Vec<u8>> {
     list
 }
 
-/// A scene of any of these kinds, one in six damaged.
+/// A scene of any of these kinds, one in seven damaged.
 pub fn any_scene(random: &mut Random, table: &[u8], seed: u64) -> Vec<u8> {
-    match random.below(6) {
+    match random.below(7) {
         0 => small(random, table),
         1 | 2 => shaped(random, table, seed % 7),
         3 => {
             let whole = scene(random, table);
             damaged_scene(random, &whole)
         }
+        4 => script_scene(random),
         _ => scene(random, table),
     }
 }

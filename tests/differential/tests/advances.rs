@@ -2,7 +2,7 @@
 //! every byte of output and session. The whole list is held against run.
 
 use differential::calls::{self, Lent};
-use differential::shapes::{shaped, small, t, t2, SAMPLE};
+use differential::shapes::{k, scripted, shaped, small, t, t2, SAMPLE};
 use differential::{asked, checked, Case, Pace};
 use reference::generate::{damaged_scene, many_units, misc_scene, numbered_case, scene, soup, table, Random};
 use reference::Answer;
@@ -96,6 +96,19 @@ fn scenes_dense_with_misc_that_grow() {
         growing(&mut pace, &mut random, Case::new("growing misc", seed, &table, &scene));
     }
     pace.finish(&[0, 1, 2, 9]);
+}
+
+/// Scenes of other scripts, whole and broken, by a few bytes at a time: most cuts are inside a character.
+#[test]
+fn scenes_in_other_scripts_that_grow() {
+    let mut pace = Pace::new("advances: scenes in other scripts that grow", 4);
+    while let Some(seed) = pace.next_seed() {
+        let mut random = Random::new(seed);
+        let table = if random.percent(50) { k() } else { table(&mut random) };
+        let scene = scripted(&mut random);
+        growing(&mut pace, &mut random, Case::new("growing script", seed, &table, &scene));
+    }
+    pace.finish(&[0, 1, 2, 3, 9, 25]);
 }
 
 /// From fresh and with no bound an advance is a run, in any output.

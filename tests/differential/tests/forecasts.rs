@@ -3,7 +3,7 @@
 
 use differential::calls::{self, Lent};
 use differential::layout;
-use differential::shapes::{alternating, bound, every_change, shaped, small, t, t2, validating};
+use differential::shapes::{alternating, bound, every_change, scripted, shaped, small, t, t2, validating};
 use differential::{asked, checked, Case, Pace};
 use reference::generate::{damaged_scene, damaged_table, many_units, misc_scene, numbered_case, scene, soup, table, Random};
 use reference::Forecast;
@@ -32,11 +32,12 @@ fn some_case(random: &mut Random, seed: u64) -> (Vec<u8>, Vec<u8>) {
         _ => {}
     }
     let whole = scene(random, &table);
-    match random.below(12) {
+    match random.below(13) {
         0 => (damaged_table(random, &table), whole),
         1..=5 => (table, damaged_scene(random, &whole)),
         6 => (table, misc_scene(random)),
         7 => (table, soup(random)),
+        8 => (table, scripted(random)),
         _ => (table, whole),
     }
 }
@@ -180,6 +181,7 @@ fn the_longest_scenes() {
         (many, figures(9, LONGEST, [4 + 2 * elements, 1, 1, 2])),
         (broken, figures(9, LONGEST, [4 + texts, 1, 1, 1])),
         (longest("<r>", "a", "</r>").0, figures(9, LONGEST, [5, 1, 1, 1])),
+        (longest("<r>", "\u{3042}", "</r>").0, figures(9, LONGEST, [5, 1, 1, 1])),
         (longest("<!--", "a", "--><r/>").0, figures(9, LONGEST, [4, 1, 1, 1])),
         (longest("", "<r>", "").0, figures(21, 192, [65, 1, 1, 64])),
         (vec![b' '; LONGEST], figures(1, LONGEST, [0; 4])),

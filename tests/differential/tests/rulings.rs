@@ -25,6 +25,9 @@ mod n02;
 #[path = "../../reference/tests/rulings/n03.rs"]
 #[rustfmt::skip]
 mod n03;
+#[path = "../../reference/tests/rulings/n04.rs"]
+#[rustfmt::skip]
+mod n04;
 #[path = "../../reference/tests/rulings/names.rs"]
 #[rustfmt::skip]
 mod names;

@@ -74,13 +74,13 @@ fn shapes_at_the_limits() {
 
 /// A byte more in a part of 64 bytes, if there is one.
 fn longer_name(random: &mut Random, scene: &[u8]) -> Option<Vec<u8>> {
-    let in_part = |byte: &u8| byte.is_ascii_alphanumeric() || b"-._".contains(byte);
+    let in_part = |byte: &u8| byte.is_ascii_alphanumeric() || b"-._".contains(byte) || *byte >= 0x80;
     let long: Vec<usize> = (64..scene.len()).filter(|&at| scene[at - 64..at].iter().all(in_part)).collect();
     if long.is_empty() {
         return None;
     }
     let mut longer = scene.to_vec();
-    longer.insert(*random.pick(&long), *random.pick(b"n0-:!"));
+    longer.insert(*random.pick(&long), *random.pick(b"n0-:!\xC3\x80"));
     Some(longer)
 }
 
@@ -105,7 +105,10 @@ fn every_byte_value() {
     let mut pace = Pace::new("scenes: every byte value", 0);
     let plain: &[u8] = b" <r xmlns=\"u\" p:a = 'v' xmlns:p='w'>t&amp;<p:x b='&lt;'/>\n</r> ";
     let with_misc: &[u8] = b"<?xml version='1.0' encoding = \"a\" standalone='no' ?><!--a-b--> <r>]]<?xm?>><?p ?a?>\n<!----></r> <?q?>";
-    for whole in [plain, with_misc] {
+    let in_other_scripts: &[u8] =
+        b"<?xml\xC3\xA9?><\xE9\xAA\xA8 \xCF\x80:\xC3\xA9='\xE3\x81\x82' xmlns:\xCF\x80=\"\xC3\xA9\">\xF0\x90\x90\x80]\xC2\x80\
+        <!--\xEF\xBF\xBD--><?a\xC2\xB7 \xF4\x8F\xBF\xBF?><e\xCC\x81/></\xE9\xAA\xA8>";
+    for whole in [plain, with_misc, in_other_scripts] {
         for at in 0..whole.len() {
             for byte in 0..=255 {
                 let mut changed = whole.to_vec();

@@ -1,12 +1,12 @@
 //! Sessions that no call handed back: one change for each clause of 20, flipped bits, bytes that hold no session, odd but coherent ones, sessions
-//! given to another table or scene, slices of another length; given to step and to advance.
+//! given to another table or scene, slices of another length, spans that cut characters; given to step and to advance.
 
 use differential::calls::{self, Lent, NO_ANSWER};
 use differential::layout::{self, declaration, level, put4, put8, strand};
-use differential::shapes::{bound, former, shaped, t, t2, table, validating};
+use differential::shapes::{bound, former, k, shaped, t, t2, table, validating};
 use differential::{asked, checked, Case, Pace};
-use reference::generate::{damaged_scene, damaged_table, numbered_case, odd_session, rule, scene, Random};
-use reference::{session_after, Action, Session};
+use reference::generate::{damaged_scene, damaged_table, numbered_case, odd_session, rule, scene, script_scene, Random};
+use reference::{session_after, Action, Session, Span};
 
 const AMPLE: usize = 1 << 16;
 const SCENE: &[u8] =
@@ -112,6 +112,78 @@ fn clause_names_of_levels() {
         assert_ne!(name(span_of(&"n".repeat(64))), 20);
         assert_ne!(name(span_of("a:b")), 20);
         assert_ne!(name(span_of("xmlns:p")), 20);
+    }
+}
+
+/// Every span of a scene in other scripts, as a level's name and as a prefix: whole characters make a name, cut ones 20.
+#[test]
+fn clause_names_in_other_scripts() {
+    let mut pace = Pace::new("sessions: every span of names in other scripts", 0);
+    let (table, start) = (k(), "<\u{3C0}:\u{9AA8} xmlns:\u{3C0}='\u{E9}'>".as_bytes());
+    let session = session_after(&table, start, 1);
+    let names = "e\u{301}\u{B7}-:\u{10400} \u{D7} \u{3072}\u{3000} \u{FEFF}\u{E000}\u{EFFFF}".as_bytes();
+    let broken = [
+        &b"\xC3 a\xE3\x81 \xED\xA0\x80 \xEF\xBF\xBE "[..],
+        &"\u{3042}".repeat(21).into_bytes(),
+        b"nn",
+    ]
+    .concat();
+    let scene = [start, names, &broken].concat();
+    let case = Case::new("every span", 0, &table, &scene);
+    for at in 0..=scene.len() {
+        for len in 0..=(scene.len() - at).min(70) {
+            let span = Span::new(at as u64, len as u64);
+            let (mut named, mut prefixed) = (session.clone(), session.clone());
+            named.levels[0].name = span;
+            prefixed.bindings[0].prefix = span;
+            for odd in [named, prefixed] {
+                pace.met(checked::step(&case, &mut encoded(&odd), AMPLE).0.number);
+            }
+        }
+    }
+    pace.finish(&[1, 2, 20]);
+}
+
+/// Of names and prefixes a few bytes more or less at the ends, and places inside characters.
+#[test]
+fn spans_that_cut_characters() {
+    let mut pace = Pace::new("sessions: spans that cut characters", 6);
+    while let Some(seed) = pace.next_seed() {
+        let mut random = Random::new(seed);
+        let (table, scene) = (k(), script_scene(&mut random));
+        let accepted = reference::accepted_events(&table, &scene);
+        let session = session_after(&table, &scene, random.below(accepted + 1));
+        let case = Case::new("cut span", seed, &table, &scene);
+        for _ in 0..24 {
+            let mut odd = session.clone();
+            for level in &mut odd.levels {
+                moved(&mut random, &mut level.name);
+            }
+            for binding in &mut odd.bindings {
+                moved(&mut random, &mut binding.prefix);
+                moved(&mut random, &mut binding.uri);
+            }
+            if random.percent(40) {
+                odd.place = random.below(scene.len() + 1) as u64;
+            }
+            go_on(&mut pace, &mut random, &case, encoded(&odd));
+        }
+    }
+    pace.finish(&[0, 1, 2, 20]);
+}
+
+/// One in eight spans begins or ends elsewhere, by up to three bytes.
+fn moved(random: &mut Random, span: &mut Span) {
+    let by = random.below(4) as u64;
+    match random.below(32) {
+        0 => span.at += by,
+        1 => span.len = span.len.saturating_sub(by),
+        2 => span.len += by,
+        3 => {
+            span.at += by;
+            span.len = span.len.saturating_sub(by);
+        }
+        _ => {}
     }
 }
 
@@ -381,14 +453,14 @@ fn go_on(pace: &mut Pace, random: &mut Random, case: &Case, mut bytes: Vec<u8>) 
     }
 }
 
-/// A table, a scene and a session behind some of its events; half of them of the shapes at the limits.
+/// A table, a scene and a session behind some of its events; half of them of the shapes at the limits, some in other scripts.
 fn held(seed: u64) -> (Random, Vec<u8>, Vec<u8>, Session) {
     let mut random = Random::new(seed);
     let table = reference::generate::table(&mut random);
-    let scene = if seed % 2 == 0 {
-        shaped(&mut random, &table, seed / 2 % 7)
-    } else {
-        scene(&mut random, &table)
+    let scene = match seed % 4 {
+        0 | 2 => shaped(&mut random, &table, seed / 2 % 7),
+        1 => script_scene(&mut random),
+        _ => scene(&mut random, &table),
     };
     let accepted = reference::accepted_events(&table, &scene);
     let session = session_after(&table, &scene, random.below(accepted + 1));

@@ -4,7 +4,7 @@
 //! are refused, by a short output, an event that has not come in yet, a bad byte behind it or a refused table, change nothing, and none is refused
 //! with 20.
 
-use differential::shapes::{shaped, small, t, t2, validating, SAMPLE};
+use differential::shapes::{k, scripted, shaped, small, t, t2, validating, SAMPLE};
 use differential::{asked, checked, layout, Case, Pace};
 use reference::generate::{boundary, damaged_scene, many_units, misc_scene, numbered_case, scene, soup, table, Random};
 use reference::{Answer, Session};
@@ -141,7 +141,7 @@ fn every_cut_of_small_scenes() {
 #[test]
 fn every_cut_of_the_samples() {
     let mut pace = Pace::new("steps: every cut of the samples", 0);
-    let samples: [&[u8]; 14] = [
+    let samples: [&[u8]; 18] = [
         SAMPLE,
         b"",
         b"<r/>",
@@ -156,6 +156,10 @@ fn every_cut_of_the_samples() {
         b"<r xmlns='u'>a]]></r>",
         b"<r xmlns='u'>a<?xml-a?><?xMl?></r>",
         b"<r xmlns='u'>a</r><!DOCTYPE r>",
+        b"<\xCF\x80:\xE9\xAA\xA8 xmlns:\xCF\x80='u' \xCF\x80:\xC3\xA9='\xE3\x81\x82'>\xF0\x90\x90\x80<!--\xC3\xA9-->\xEF\xBF\xBD<?xml\xC3\xA9 \xC2\x80?></\xCF\x80:\xE9\xAA\xA8>\n",
+        b"<r xmlns='u'>\xE3\x81\x82<a\xCC\x81/>\xE3\x81</r>",
+        b"<r xmlns='u'>\xC3\xA9<a\xC3\x97/></r>",
+        b"<r xmlns='u'>\xC3\xA9<?XML\xEE?></r>",
     ];
     for scene in samples {
         for table in [t(), t2()] {
@@ -195,6 +199,20 @@ fn every_cut_of_scenes_dense_with_misc() {
             "9 behind misc",
         ],
     );
+}
+
+/// The same for scenes of other scripts, whole and broken: most cuts are inside a character.
+#[test]
+fn every_cut_of_scenes_in_other_scripts() {
+    let mut pace = Pace::new("steps: every cut of scenes in other scripts", 8);
+    while let Some(seed) = pace.next_seed() {
+        let mut random = Random::new(seed);
+        let table = if random.percent(50) { k() } else { table(&mut random) };
+        let mut scene = scripted(&mut random);
+        scene.truncate(300);
+        every_cut(&mut pace, Case::new("every cut", seed, &table, &scene));
+    }
+    pace.finish(&[0, 1, 2, 3, 9]);
 }
 
 /// A list with random cuts, outputs that are short by a byte or at random, and refused steps in between.

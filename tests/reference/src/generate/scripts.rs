@@ -225,7 +225,7 @@ impl Writer<'_> {
         };
         self.put(b"<");
         self.put(&name);
-        if prefixed {
+        if prefixed && !self.random.percent(self.spoilt) {
             let uri = part_of_length(self.random, 4);
             self.put(&[b" xmlns:", &prefix[..], b"='", &uri, b"'"].concat());
         }
@@ -235,10 +235,19 @@ impl Writer<'_> {
             false => {
                 self.put(b">");
                 self.content(depth);
-                self.put(&[b"</", &name[..]].concat());
-                self.put(b">");
+                self.put(b"</");
+                self.end(&name);
             }
         }
+    }
+
+    /// The name again, or another one.
+    fn end(&mut self, name: &[u8]) {
+        match self.random.percent(self.spoilt) {
+            true => self.scene.extend(part(self.random)),
+            false => self.put(name),
+        }
+        self.put(b">");
     }
 
     fn attributes(&mut self) {
@@ -284,7 +293,8 @@ impl Writer<'_> {
 }
 
 /// A few tags, texts and misc in other scripts, parts of about 64 bytes among them; two in three
-/// scenes are spoilt by bytes that are no character, or by a part that is too long.
+/// scenes are spoilt by bytes that are no character, a part that is too long, a prefix that is
+/// not bound or an end of another name.
 pub fn script_scene(random: &mut Random) -> Vec<u8> {
     let spoilt = *random.pick(&[0, 2, 6]);
     let mut writer = Writer {

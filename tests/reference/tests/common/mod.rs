@@ -6,6 +6,8 @@ use reference::table::{Rule, ANY};
 use reference::{plus, run, step, Action, Answer, Forecast, Record, Session};
 
 pub const AMPLE: usize = 1 << 24;
+/// For a small scene's records, where there are many runs.
+pub const ROOM: usize = 1 << 12;
 pub const ELEMENT: u8 = 0;
 pub const ATTRIBUTE: u8 = 1;
 pub const SAMPLE: &[u8] = b"<r xmlns=\"u\">a<x/></r>";
@@ -322,14 +324,14 @@ pub fn figures(six: &[u64]) -> Forecast {
 /// A 2 or 3 at p: the first p bytes give 1, after the root also 9, at p with the same events; the
 /// bytes up to the one that decides give 1; every longer scene gives the same.
 pub fn check_refused_byte(scene: &[u8]) {
-    let (whole, records) = run(&k(), scene, AMPLE);
+    let (whole, records) = run(&k(), scene, ROOM);
     if !matches!(whole.number, 2 | 3) {
         return;
     }
     let place = whole.place as usize;
     let decided = place + deciding(scene, place);
     for cut in place..=decided {
-        let (got, written) = run(&k(), &scene[..cut], AMPLE);
+        let (got, written) = run(&k(), &scene[..cut], ROOM);
         assert!(
             got.number == 1 || got.number == 9 && cut == place,
             "{got:?}"
@@ -343,7 +345,7 @@ pub fn check_refused_byte(scene: &[u8]) {
         scene[..=decided].to_vec(),
         [scene, &b"<r/>-->?>"[..]].concat(),
     ] {
-        assert_eq!(run(&k(), &longer, AMPLE), (whole, records.clone()));
+        assert_eq!(run(&k(), &longer, ROOM), (whole, records.clone()));
     }
 }
 

@@ -286,10 +286,16 @@ K |<a\xEF\xBF\xBE/>| - | 2 4 0 0
 K |<a\xF3\xB0\x80\x80/>| - | 2 3 0 0
 "#;
 
+/// Number and place of a run by K.
+fn ending_of(scene: &[u8]) -> (u8, u64) {
+    let got = run(&k(), scene, ROOM).0;
+    (got.number, got.place)
+}
+
 #[test]
 fn the_decisions_examples() {
     for (line, scene, expected) in decided(DECISIONS) {
-        assert_eq!(ends(&k(), &scene), expected, "{line}");
+        assert_eq!(ending_of(&scene), expected, "{line}");
     }
     assert_eq!(decided(DECISIONS).len(), 129);
 }
@@ -339,7 +345,7 @@ fn scenes_with(part: &[u8]) -> [Vec<u8>; 6] {
 /// Number 9 for all if it is a part, else 2.
 fn check_part(part: &[u8], is_part: bool, line: &str) {
     for scene in scenes_with(part) {
-        let number = run(&k(), &scene, AMPLE).0.number;
+        let number = ending_of(&scene).0;
         assert_eq!(
             number,
             if is_part { 9 } else { 2 },
@@ -407,7 +413,7 @@ fn n4_10_every_65th_byte() {
         ] {
             let scene = [&bytes(before)[..], &[byte]].concat();
             let at = scene.len() as u64 - 1;
-            let got = ends(&k(), &scene);
+            let got = ending_of(&scene);
             match byte {
                 _ if goes_on => assert_eq!(got, (3, at), "{byte:02X}"),
                 0x80.. => assert_eq!(got, (2, at), "{byte:02X}"),
@@ -422,7 +428,7 @@ fn n4_10_every_last_byte_of_a_character_at_65() {
     for byte in 0..=255 {
         let scene = [&bytes("<{61:n}\\xEF\\xB7")[..], &[byte]].concat();
         assert_eq!(
-            ends(&k(), &scene).0,
+            ending_of(&scene).0,
             if matches!(byte, 0x80..=0x8F | 0xB0..=0xBF) {
                 1
             } else {
@@ -435,7 +441,7 @@ fn n4_10_every_last_byte_of_a_character_at_65() {
         } else {
             2
         };
-        assert_eq!(ends(&k(), &scene), (number, 65), "{byte:02X}");
+        assert_eq!(ending_of(&scene), (number, 65), "{byte:02X}");
     }
 }
 
@@ -450,7 +456,7 @@ fn n4_11_every_byte_of_a_17th_attribute() {
             b'\t' | b'\n' | b'\r' | b' ' | b'/' | b'>' => (1, at + 1),
             _ => (2, at),
         };
-        assert_eq!(ends(&k(), &scene), expected, "{byte:02X}");
+        assert_eq!(ending_of(&scene), expected, "{byte:02X}");
     }
 }
 
@@ -583,9 +589,9 @@ fn laws_of_the_refused_byte() {
 #[test]
 fn cuts_of_accepted_scenes() {
     let mut cuts = 0;
-    for scene in all_scenes().filter(|scene| ends(&k(), scene).0 == 9) {
+    for scene in all_scenes().filter(|scene| ending_of(scene).0 == 9) {
         for cut in 0..scene.len() {
-            let (number, place) = ends(&k(), &scene[..cut]);
+            let (number, place) = ending_of(&scene[..cut]);
             assert!(number == 1 || number == 9 && scene[..cut].ends_with(b">"));
             assert_eq!(place, cut as u64);
             cuts += (scene[cut] & 0xC0 == 0x80) as u64;
