@@ -3,10 +3,11 @@
 mod common;
 
 use common::*;
+use reference::characters::{self, Set};
 use reference::generate::{
     boundary, boundary_of_25, case, damaged_scene, damaged_table, many_rejects, many_units, misc,
-    misc_scene, nearly_full_table, odd_session, rule, scene, scene_of, soup, sparse_table, table,
-    Profile, Random, BOUNDARIES,
+    misc_scene, nearly_full_table, odd_session, rule, scene, scene_of, script_scene, script_soup,
+    soup, sparse_table, table, Profile, Random, BOUNDARIES,
 };
 use reference::table::{self, ANY};
 use reference::{
@@ -511,30 +512,148 @@ fn a_misc_between_events_only_shifts() {
 /// Steps agree with the model and with the sessions of the open path, at every cut.
 #[test]
 fn steps_over_scenes_dense_with_misc() {
-    let table = validating();
     for seed in 0..1500 {
         let mut random = Random::new(seed);
-        let scene = match random.percent(50) {
-            true => misc_scene(&mut random),
-            false => soup(&mut random),
-        };
-        let (mut session, mut joined, mut count) = (Session::fresh(), Vec::new(), 0);
-        for cut in 0..=scene.len() {
-            let part = &scene[..cut];
-            let last = loop {
-                let (answer, next, written) = step(&table, part, &session, AMPLE);
-                if answer.number != 0 {
-                    break answer;
-                }
-                count += 1;
-                joined.extend(written);
-                session = next;
-            };
-            let got = answer(last.number, last.place, count, joined.len() as u64 / 16);
-            assert_eq!((got, joined.clone()), run(&table, part, AMPLE));
-            assert_eq!(session, session_after(&table, part, count as usize));
+        match random.percent(50) {
+            true => steps_at_every_cut(&misc_scene(&mut random)),
+            false => steps_at_every_cut(&soup(&mut random)),
         }
     }
+}
+
+/// The same where most cuts are inside a character.
+#[test]
+fn steps_over_scenes_in_other_scripts() {
+    for seed in 0..500 {
+        let mut random = Random::new(seed);
+        match random.percent(50) {
+            true => steps_at_every_cut(&script_scene(&mut random)),
+            false => steps_at_every_cut(&script_soup(&mut random)),
+        }
+    }
+}
+
+fn steps_at_every_cut(scene: &[u8]) {
+    let table = validating();
+    let (mut session, mut joined, mut count) = (Session::fresh(), Vec::new(), 0);
+    for cut in 0..=scene.len() {
+        let part = &scene[..cut];
+        let last = loop {
+            let (answer, next, written) = step(&table, part, &session, AMPLE);
+            if answer.number != 0 {
+                break answer;
+            }
+            count += 1;
+            joined.extend(written);
+            session = next;
+        };
+        let got = answer(last.number, last.place, count, joined.len() as u64 / 16);
+        assert_eq!((got, joined.clone()), run(&table, part, AMPLE));
+        assert_eq!(session, session_after(&table, part, count as usize));
+    }
+}
+
+/// Whether bytes are a character of these, by the standard library's own reading.
+fn is_one(bytes: &[u8], belongs: fn(char) -> bool) -> bool {
+    let text = std::str::from_utf8(bytes).unwrap_or_default();
+    text.chars().count() == 1 && text.chars().all(belongs)
+}
+
+/// Every sequence of two bytes, and of three whose last is one of 80 to BF, as the sets have it
+/// and as the standard library reads it: what is one of a set's characters, and what begins one.
+#[test]
+fn sets_of_characters() {
+    let check = |set: &Set, belongs: fn(char) -> bool| {
+        for first in 0..=255u8 {
+            let mut begins = is_one(&[first], belongs);
+            for second in 0..=255u8 {
+                let mut goes_on = is_one(&[first, second], belongs);
+                for third in 0x80..=0xBFu8 {
+                    let three = [first, second, third];
+                    let whole = is_one(&three, belongs);
+                    assert_eq!(set.holds(&three), whole, "{three:X?}");
+                    let four = |last| is_one(&[first, second, third, last], belongs);
+                    let more = whole || first >= 0xF0 && (0x80..=0xBF).any(four);
+                    assert_eq!(set.begins(&three), more, "{three:X?}");
+                    goes_on |= more;
+                }
+                assert_eq!(set.begins(&[first, second]), goes_on);
+                begins |= goes_on;
+            }
+            assert_eq!(set.begins(&[first]), begins, "{first:X}");
+        }
+    };
+    check(characters::name_starts(), characters::is_name_start);
+    check(characters::names(), characters::is_name);
+    check(characters::texts(), characters::is_text);
+}
+
+/// How many characters the sets have, by the productions' rows.
+#[test]
+fn sizes_of_the_sets() {
+    let count = |belongs: fn(char) -> bool| ('\0'..=char::MAX).filter(|&c| belongs(c)).count();
+    assert_eq!(count(characters::is_name_start), 971_505);
+    assert_eq!(count(characters::is_name), 971_505 + 12 + 1 + 112 + 2);
+    assert_eq!(count(characters::is_text), 1_112_064 - 29 - 2);
+}
+
+/// Where scenes in other scripts end: how often a number was met at a whole character, inside one
+/// that is broken off, and inside one that the scene's end cuts.
+#[test]
+fn ends_of_scenes_in_other_scripts() {
+    let mut met: BTreeMap<(u8, bool), u64> = BTreeMap::new();
+    let mut named = 0;
+    for seed in 0..3000 {
+        let mut random = Random::new(seed);
+        for scene in [script_scene(&mut random), script_soup(&mut random)] {
+            let cut = &scene[..random.below(scene.len() + 1)];
+            for scene in [&scene, cut] {
+                let got = run(&validating(), scene, AMPLE).0;
+                let before = &scene[..got.place as usize];
+                let inside = std::str::from_utf8(before).is_err();
+                *met.entry((got.number, inside)).or_insert(0) += 1;
+                named += (got.number == 9 && !scene.is_ascii()) as u64;
+            }
+        }
+    }
+    for wanted in [
+        (1, false),
+        (1, true),
+        (2, false),
+        (2, true),
+        (3, false),
+        (3, true),
+    ] {
+        assert!(met.get(&wanted) > Some(&50), "{wanted:?} of {met:?}");
+    }
+    for wanted in [4, 5] {
+        assert!(met.get(&(wanted, false)) > Some(&10), "{wanted} of {met:?}");
+    }
+    assert!(named > 500, "{named} {met:?}");
+}
+
+/// Names and texts of other scripts, and names of about 64 bytes of them, are common in the others.
+#[test]
+fn other_scripts_are_common() {
+    let (mut names, mut texts, mut long) = (0, 0, 0);
+    for (_, table, scene) in cases(CASES) {
+        let (_, bytes) = run(&table, &scene, AMPLE);
+        let records: Vec<Record> = bytes.chunks(16).map(Record::read).collect();
+        let has = |kinds: &[u8], least: u64| {
+            let fits = |record: &Record| {
+                kinds.contains(&record.kind)
+                    && record.span.len >= least
+                    && !record.span.of(&scene).is_ascii()
+            };
+            records.iter().any(fits) as u64
+        };
+        names += has(&[1, 2, 5], 2);
+        texts += has(&[3, 4], 2);
+        long += has(&[1, 2, 5], 62);
+    }
+    assert!(names * 3 > CASES, "{names}");
+    assert!(texts * 3 > CASES, "{texts}");
+    assert!(long * 20 > CASES, "{long}");
 }
 
 /// Every scene of a few bytes: steps agree with the model, and reading always ends.
