@@ -5,10 +5,10 @@
    Without scenes their names are read from standard input, one a line. Each scene is run under a table that validates every element section and
    attaches every attribute section: every element, attribute and text is delivered, along one strand. From what expat reports the same list is
    put together: units, places, names with their namespaces, values and texts, which a comment or a processing instruction ends. The two lists
-   must be equal; where one of the two refuses the scene, for a reason that document 01 or request N1 gives (see enum reason), what it has
-   delivered must be the beginning of the other's.
+   must be equal; where one of the two refuses the scene, for a reason that document 01 or the requests N1 and N4 give (see enum reason), what it
+   has delivered must be the beginning of the other's.
 
-   --well FILE   writes the names of the scenes that any XML parser must accept: those that declare no encoding but UTF-8
+   --well FILE   writes the names of the scenes that any parser of XML's fifth edition must accept: those that declare no encoding but UTF-8
    --ill FILE    writes the names of those that no namespace-aware one may, for a byte, an end tag or the scene's end
 
    Prints differences and counts. Ends with 1 on a difference, with 2 if a scene cannot be read. */
@@ -73,8 +73,9 @@ static const char *scene_name;
 
 static int is_space(int c) { return c == 9 || c == 10 || c == 13 || c == 32; }
 
+/* A byte of a name; from 80 on those of characters of some bytes. */
 static int in_name(int c) {
-    return (c >= 'a' && c <= 'z') || (c >= 'A' && c <= 'Z') || (c >= '0' && c <= '9') || c == '_' || c == '-' || c == '.' || c == ':';
+    return (c >= 'a' && c <= 'z') || (c >= 'A' && c <= 'Z') || (c >= '0' && c <= '9') || c == '_' || c == '-' || c == '.' || c == ':' || c >= 0x80;
 }
 
 /* The byte at a place of the scene, or -1 past its end. */
@@ -395,19 +396,20 @@ enum reason {
     MARKUP,         /* CDATA and DTDs are not in: 2 behind the ! */
     VERSION,        /* a version is 1. and digits (production 26): 2 in it. expat takes any of its bytes, so that this is for document 01 alone here */
     NUMERIC,        /* numeric references are not in: 2 at the # */
-    BEYOND_ASCII,   /* names are ASCII, and a byte order mark is no space: 2 at a byte from 80 on */
+    ORDER_MARK,     /* a byte order mark is no space: 2 at the scene's first byte */
     AND_DECLARED,   /* & in a declaration: 5 */
     XML_DECLARED,   /* xml declared: 5, though Namespaces in XML lets it be declared as what it is */
     /* Refused by XML alone. */
     ENCODING,       /* any EncName will do and is compared with nothing; expat refuses one that it does not know, or that the bytes are not in */
-    NOT_UTF8,       /* UTF-8 is not checked, and with it characters that are none of XML's (2.2): surrogates, FFFE, FFFF */
+    OLDER_NAMES,    /* names are the fifth edition's; expat has the sets of an older one, and in names no character of four bytes */
     NORMALISED,     /* no normalising of values: URIs that differ in white space only differ, for XML they may be one and an attribute stand twice */
     REASONS
 };
 
 static const char *reason_words[] = {
-    "", "a limit of document 01", "CDATA or DTD", "version other than 1. and digits", "numeric reference", "byte from 80 on where a name stands",
-    "& in a declaration", "xml declared as itself", "encoding unknown or not the scene's", "not a character in UTF-8", "URIs equal but for white space",
+    "", "a limit of document 01", "CDATA or DTD", "version other than 1. and digits", "numeric reference", "byte order mark",
+    "& in a declaration", "xml declared as itself", "encoding unknown or not the scene's", "name character of the fifth edition",
+    "URIs equal but for white space",
 };
 
 /* The next attribute of a whole tag: false behind the last one. */
@@ -458,33 +460,43 @@ static enum reason our_reason(void) {
     if (number == PART || number == LENGTH || number == DEPTH || number == BINDINGS || number == UNITS) return LIMIT;
     if (number == PREFIX) return declared(place);
     if (number != BYTE) return NONE;
-    int c = byte_at(place), before = place ? byte_at(place - 1) : -1;
+    int before = place ? byte_at(place - 1) : -1;
     if (place > 1 && stands(place - 2, "<!") && (stands(place, "DOCTYPE") || stands(place, "[CDATA["))) return MARKUP;
     if (in_version(place)) return VERSION;
-    if (before == '&' && c == '#') return NUMERIC;
-    return c >= 0x80 ? BEYOND_ASCII : NONE;
+    if (before == '&' && byte_at(place) == '#') return NUMERIC;
+    return place == 0 && stands(0, "\xEF\xBB\xBF") ? ORDER_MARK : NONE;
 }
 
-/* How long the character is that stands at a place in UTF-8, if it is one of XML's; else 0. */
-static size_t character(size_t at) {
+/* The character that stands at a place in UTF-8, if it is one of XML's of more bytes than one; else 0. */
+static unsigned long character(size_t at) {
     static const unsigned long least[] = {0, 0, 0x80, 0x800, 0x10000};
     int c = byte_at(at);
-    size_t length = c < 0x80 ? 1 : c >= 0xC0 && c < 0xE0 ? 2 : c >= 0xE0 && c < 0xF0 ? 3 : c >= 0xF0 && c < 0xF8 ? 4 : 0;
-    unsigned long point = length < 2 ? (unsigned long)c : (unsigned long)c & (0x7Fu >> length);
+    size_t length = c >= 0xC0 && c < 0xE0 ? 2 : c >= 0xE0 && c < 0xF0 ? 3 : c >= 0xF0 && c < 0xF8 ? 4 : 0;
+    if (length == 0) return 0;
+    unsigned long point = (unsigned long)c & (0x7Fu >> length);
     for (size_t i = 1; i < length; i++) {
         int more = byte_at(at + i);
         if (more < 0x80 || more > 0xBF) return 0;
         point = point << 6 | (unsigned long)(more & 0x3F);
     }
-    if (length == 0 || point < least[length] || point > 0x10FFFF) return 0;
-    return (point >= 0xD800 && point < 0xE000) || point == 0xFFFE || point == 0xFFFF ? 0 : length;
+    if (point < least[length] || point > 0x10FFFF) return 0;
+    return (point >= 0xD800 && point < 0xE000) || point == 0xFFFE || point == 0xFFFF ? 0 : point;
+}
+
+/* Productions 4 and 4a of XML 1.0, fifth edition, from 80 on. */
+static int in_fifth_edition(unsigned long point) {
+    static const unsigned long rows[][2] = {{0xB7, 0xB7}, {0xC0, 0xD6}, {0xD8, 0xF6}, {0xF8, 0x37D}, {0x37F, 0x1FFF}, {0x200C, 0x200D}, {0x203F, 0x2040},
+        {0x2070, 0x218F}, {0x2C00, 0x2FEF}, {0x3001, 0xD7FF}, {0xF900, 0xFDCF}, {0xFDF0, 0xFFFD}, {0x10000, 0xEFFFF}};
+    for (size_t i = 0; i < sizeof rows / sizeof *rows; i++)
+        if (point >= rows[i][0] && point <= rows[i][1]) return 1;
+    return 0;
 }
 
 /* Why expat may refuse what the dispatcher accepts: at the place of its error. */
 static enum reason their_reason(void) {
     if (error == XML_ERROR_NONE) return NONE;
     if (error == XML_ERROR_UNKNOWN_ENCODING || error == XML_ERROR_INCORRECT_ENCODING) return ENCODING;
-    if (byte_at(error_at) >= 0x80 && !character(error_at)) return NOT_UTF8;
+    if (error == XML_ERROR_INVALID_TOKEN && in_fifth_edition(character(error_at))) return OLDER_NAMES;
     if (error == XML_ERROR_DUPLICATE_ATTRIBUTE && odd_space) return NORMALISED;
     return NONE;
 }
@@ -505,7 +517,7 @@ static enum relation relation(size_t *line) {
 /* Whether expat's error is what the number says. Of a byte that cannot stand there it has many. */
 static int same_kind(void) {
     switch (answer[0]) {
-    case ENDS: return error == XML_ERROR_NO_ELEMENTS || error == XML_ERROR_UNCLOSED_TOKEN;
+    case ENDS: return error == XML_ERROR_NO_ELEMENTS || error == XML_ERROR_UNCLOSED_TOKEN || error == XML_ERROR_PARTIAL_CHAR;
     case END_NAME: return error == XML_ERROR_TAG_MISMATCH;
     case TWICE: return error == XML_ERROR_DUPLICATE_ATTRIBUTE;
     case PREFIX:
@@ -537,9 +549,14 @@ static void excuse(enum reason why, size_t line) {
     else excused[why]++;
 }
 
-/* Whether the scene is for --ill: behind the root libxml2 takes a byte 00, which is no character of XML's, as the end. */
+/* Bytes that libxml2 takes: behind the root a byte 00, which is no character of XML's, as the end; and standalone without a space before it, where the
+   encoding is UTF-8. */
+static int taken_by_libxml2(size_t place) {
+    return byte_at(place) == 0 || (stands(0, "<?xml") && stands(place, "s") && (byte_at(place - 1) == '"' || byte_at(place - 1) == '\''));
+}
+
 static int for_ill(enum reason our) {
-    return ill && !our && (answer[0] == ENDS || answer[0] == END_NAME || (answer[0] == BYTE && byte_at(answer[1]) != 0));
+    return ill && !our && (answer[0] == ENDS || answer[0] == END_NAME || (answer[0] == BYTE && !taken_by_libxml2(answer[1])));
 }
 
 static void both_refuse(size_t line, enum reason our, enum reason their) {
@@ -561,9 +578,19 @@ static int declares_utf8(void) {
     return !strncasecmp((const char *)scene.at + at + 1, "utf-8", 5) && byte_at(at + 6) == byte_at(at);
 }
 
+static void for_well(void) {
+    if (well && declares_utf8()) fprintf(well, "%s\n", scene_name);
+}
+
 static void both_accept(void) {
     accepted++;
-    if (well && declares_utf8()) fprintf(well, "%s\n", scene_name);
+    for_well();
+}
+
+/* Refused by expat, and not by the dispatcher so far; a parser that has the fifth edition's names must accept it too. */
+static void they_refuse(size_t line, enum reason their) {
+    excuse(their, line);
+    if (answer[0] == FINISHED && their == OLDER_NAMES && !odd_space) for_well();
 }
 
 static void compare(void) {
@@ -578,10 +605,11 @@ static void compare(void) {
     case EQUAL:
         if (we && they) both_accept();
         else if (!we && !they) both_refuse(line, our, their);
-        else excuse(we ? their : our, line);
+        else if (we) they_refuse(line, their);
+        else excuse(our, line);
         break;
     case OURS_SHORTER: excuse(our, line); break;
-    case THEIRS_SHORTER: excuse(their, line); break;
+    case THEIRS_SHORTER: they_refuse(line, their); break;
     default: difference(line);
     }
 }

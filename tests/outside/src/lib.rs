@@ -1,5 +1,5 @@
-//! Seeded scenes for parsers of XML: the reference's scenes, whole and damaged, their bytes from 80 on made ASCII or UTF-8. Where an encoding is
-//! declared all bytes are ASCII, and in whole scenes it is UTF-8.
+//! Seeded scenes for parsers of XML: the reference's scenes, whole and damaged, in UTF-8. Where another encoding is declared all bytes are ASCII; in
+//! whole scenes it is UTF-8. In four of five scenes every name is one by older editions of XML too, as expat has them.
 
 use reference::generate::{self, Random};
 
@@ -16,8 +16,30 @@ const BEYOND: [&[u8]; 6] = [
 /// URIs that are one for XML, which makes spaces of white space.
 const TABBED: &[u8] = b"<x xmlns:k='K\t' xmlns:l='K ' k:a='' l:a=''/>";
 
-/// A character of one, two, three and four bytes.
-const CHARACTERS: [&[u8]; 4] = [b"h", b"\xC3\xA9", b"\xE2\x82\xAC", b"\xF0\x9D\x84\x9E"];
+/// Name characters of the fifth edition that older ones have not, and for each one that they have: of as many bytes or fewer, and in no scene else.
+const OLDER: [(&str, &str); 21] = [
+    ("\u{2FF}", "\u{100}"),
+    ("\u{370}", "\u{101}"),
+    ("\u{37D}", "\u{102}"),
+    ("\u{37F}", "\u{103}"),
+    ("\u{1FFF}", "\u{AC00}"),
+    ("\u{200C}", "\u{AC01}"),
+    ("\u{218F}", "\u{AC02}"),
+    ("\u{2C00}", "\u{AC03}"),
+    ("\u{3001}", "\u{AC04}"),
+    ("\u{D7FF}", "\u{AC05}"),
+    ("\u{FDCF}", "\u{AC06}"),
+    ("\u{FDF0}", "\u{AC07}"),
+    ("\u{FEFF}", "\u{AC08}"),
+    ("\u{FFFD}", "\u{AC09}"),
+    ("\u{10000}", "\u{AC0A}"),
+    ("\u{10400}", "\u{AC0B}"),
+    ("\u{1FFFE}", "\u{AC0C}"),
+    ("\u{EFFFF}", "\u{AC0D}"),
+    ("\u{36F}", "\u{302}"),
+    ("\u{203F}", "\u{20D0}"),
+    ("\u{2040}", "\u{20D1}"),
+];
 
 /// What a scene's file is called by.
 #[derive(Clone, Copy, Debug, PartialEq, Eq)]
@@ -26,6 +48,7 @@ pub enum Kind {
     Damaged,
     Beyond,
     Dense,
+    Scripts,
 }
 
 impl Kind {
@@ -35,22 +58,25 @@ impl Kind {
             Kind::Damaged => "damaged",
             Kind::Beyond => "beyond",
             Kind::Dense => "dense",
+            Kind::Scripts => "scripts",
         }
     }
 }
 
-/// A scene by its seed, the same on every machine: of twelve, five are whole, four damaged, one has what document 01 leaves out, two are of little
-/// but comments, processing instructions and declarations, good and bad.
+/// A scene by its seed, the same on every machine: of fifteen, five are whole, four damaged, one has what document 01 leaves out, two are of little
+/// but comments, processing instructions and declarations, good and bad, three of little but characters of other scripts and bytes that are none.
 pub fn scene(seed: u64) -> (Kind, Vec<u8>) {
     let mut random = Random::new(seed);
     let table = generate::table(&mut random);
     let whole = in_utf8(generate::scene(&mut random, &table));
-    let (kind, scene) = match random.below(12) {
+    let (kind, scene) = match random.below(15) {
         0..=4 => (Kind::Whole, whole),
         5..=8 => (Kind::Damaged, generate::damaged_scene(&mut random, &whole)),
         9 => (Kind::Beyond, beyond(&mut random, &whole)),
         10 => (Kind::Dense, in_utf8(generate::misc_scene(&mut random))),
-        _ => (Kind::Dense, generate::soup(&mut random)),
+        11 => (Kind::Dense, generate::soup(&mut random)),
+        12 => (Kind::Scripts, generate::script_soup(&mut random)),
+        _ => (Kind::Scripts, generate::script_scene(&mut random)),
     };
     (kind, encoded(&mut random, scene))
 }
@@ -73,8 +99,11 @@ fn in_utf8(mut scene: Vec<u8>) -> Vec<u8> {
     scene
 }
 
-/// A piece behind some tag, or before all.
+/// A piece behind some tag, or before all, as a byte order mark is.
 fn beyond(random: &mut Random, scene: &[u8]) -> Vec<u8> {
+    if random.percent(10) {
+        return ["\u{FEFF}".as_bytes(), scene].concat();
+    }
     let ends: Vec<usize> = (0..scene.len()).filter(|&at| scene[at] == b'>').collect();
     let at = match random.percent(10) || ends.is_empty() {
         true => 0,
@@ -87,19 +116,31 @@ fn beyond(random: &mut Random, scene: &[u8]) -> Vec<u8> {
     [&scene[..at], piece, &scene[at..]].concat()
 }
 
-/// Half of the scenes become ASCII, and all that declare an encoding; most others valid UTF-8; one in twelve keeps its bytes.
+/// A scene that declares another encoding than UTF-8 becomes ASCII; of the others four in five have names of older editions.
 fn encoded(random: &mut Random, scene: Vec<u8>) -> Vec<u8> {
-    let longest = match random.below(12) {
-        _ if encoding(&scene).is_some() => 1,
-        0 => return scene,
-        1..=6 => 1,
-        _ => CHARACTERS.len(),
-    };
-    let mut all = Vec::new();
-    for byte in scene {
-        match byte {
-            0x80.. => all.extend(CHARACTERS[random.below(longest)]),
-            _ => all.push(byte),
+    match encoding(&scene) {
+        Some(name) if !scene[name.clone()].eq_ignore_ascii_case(b"UTF-8") => {
+            scene.into_iter().map(|byte| if byte < 0x80 { byte } else { b'h' }).collect()
+        }
+        _ if random.percent(80) => older(&scene),
+        _ => scene,
+    }
+}
+
+/// The same with name characters that older editions have; texts are changed likewise.
+fn older(scene: &[u8]) -> Vec<u8> {
+    let (mut all, mut at) = (Vec::new(), 0);
+    while at < scene.len() {
+        let found = OLDER.iter().find(|(newer, _)| scene[at..].starts_with(newer.as_bytes()));
+        match found {
+            Some((newer, older)) => {
+                all.extend(older.bytes());
+                at += newer.len();
+            }
+            None => {
+                all.push(scene[at]);
+                at += 1;
+            }
         }
     }
     all
@@ -123,22 +164,36 @@ mod tests {
     }
 
     #[test]
-    fn whole_scenes_declare_utf8_and_are_ascii_then() {
-        let declaring = (0..500)
-            .map(scene)
-            .filter(|(kind, scene)| *kind == Kind::Whole && encoding(scene).is_some());
-        let mut count = 0;
-        for (_, scene) in declaring {
-            assert_eq!(scene[encoding(&scene).unwrap()], *b"UTF-8");
-            assert!(scene.is_ascii());
-            count += 1;
+    fn scenes_are_in_the_encoding_that_they_declare() {
+        let (mut utf8, mut ascii) = (0, 0);
+        for (kind, scene) in (0..2000).map(scene) {
+            match encoding(&scene).map(|name| scene[name].eq_ignore_ascii_case(b"UTF-8")) {
+                Some(true) => utf8 += 1,
+                Some(false) => {
+                    assert!(scene.is_ascii() && kind != Kind::Whole);
+                    ascii += 1;
+                }
+                None => {}
+            }
         }
-        assert!(count > 5, "{count}");
+        assert!(utf8 > 20 && ascii > 20, "{utf8} {ascii}");
+    }
+
+    #[test]
+    fn whole_scenes_are_utf8_and_many_are_not_ascii() {
+        let whole: Vec<Vec<u8>> = (0..500)
+            .map(scene)
+            .filter(|(kind, _)| *kind == Kind::Whole)
+            .map(|(_, scene)| scene)
+            .collect();
+        assert!(whole.iter().all(|scene| std::str::from_utf8(scene).is_ok()));
+        let ascii = whole.iter().filter(|scene| scene.is_ascii()).count();
+        assert!(2 * ascii < whole.len(), "{ascii} of {}", whole.len());
     }
 
     #[test]
     fn every_kind_is_met() {
-        for wanted in [Kind::Whole, Kind::Damaged, Kind::Beyond, Kind::Dense] {
+        for wanted in [Kind::Whole, Kind::Damaged, Kind::Beyond, Kind::Dense, Kind::Scripts] {
             assert!((0..100).any(|seed| scene(seed).0 == wanted), "{wanted:?}");
         }
     }
