@@ -49,6 +49,7 @@ pub enum Kind {
     Beyond,
     Dense,
     Scripts,
+    Character,
 }
 
 impl Kind {
@@ -59,23 +60,26 @@ impl Kind {
             Kind::Beyond => "beyond",
             Kind::Dense => "dense",
             Kind::Scripts => "scripts",
+            Kind::Character => "character",
         }
     }
 }
 
-/// A scene by its seed, the same on every machine: of fifteen, five are whole, four damaged, one has what document 01 leaves out, two are of little
-/// but comments, processing instructions and declarations, good and bad, three of little but characters of other scripts and bytes that are none.
+/// A scene by its seed, the same on every machine: of sixteen, five are whole, four damaged, one has what document 01 leaves out, two are of little
+/// but comments, processing instructions and declarations, good and bad, three of little but characters of other scripts and bytes that are none, one
+/// has any character, good or bad, somewhere.
 pub fn scene(seed: u64) -> (Kind, Vec<u8>) {
     let mut random = Random::new(seed);
     let table = generate::table(&mut random);
     let whole = in_utf8(generate::scene(&mut random, &table));
-    let (kind, scene) = match random.below(15) {
+    let (kind, scene) = match random.below(16) {
         0..=4 => (Kind::Whole, whole),
         5..=8 => (Kind::Damaged, generate::damaged_scene(&mut random, &whole)),
         9 => (Kind::Beyond, beyond(&mut random, &whole)),
         10 => (Kind::Dense, in_utf8(generate::misc_scene(&mut random))),
         11 => (Kind::Dense, generate::soup(&mut random)),
         12 => (Kind::Scripts, generate::script_soup(&mut random)),
+        13 => return (Kind::Character, any_character(&mut random)),
         _ => (Kind::Scripts, generate::script_scene(&mut random)),
     };
     (kind, encoded(&mut random, scene))
@@ -89,6 +93,32 @@ fn encoding(scene: &[u8]) -> Option<std::ops::Range<usize>> {
     let from = at + scene[at..length].iter().position(quote)? + 1;
     let to = from + scene[from..length].iter().position(quote)?;
     Some(from..to)
+}
+
+/// Code points at which the productions' rows begin or end.
+const BORDERS: [u32; 34] = [
+    0x80, 0xB7, 0xC0, 0xD7, 0xF7, 0x300, 0x370, 0x37E, 0x800, 0x2000, 0x200C, 0x200E, 0x203F, 0x2041, 0x2070, 0x2190, 0x2C00, 0x2FF0, 0x3001, 0xD800,
+    0xDC00, 0xE000, 0xF900, 0xFDD0, 0xFDF0, 0xFFFE, 0x10000, 0x1FFFE, 0x20000, 0xEFFFE, 0xF0000, 0xFFFFE, 0x100000, 0x10FFFE,
+];
+
+/// A character where a name begins, inside one, in text or elsewhere: near the borders of the rows or anywhere; surrogates too.
+fn any_character(random: &mut Random) -> Vec<u8> {
+    let code = match random.below(4) {
+        0 => random.between(0x80, 0x10FFFF) as u32,
+        1 => random.between(0x80, 0xFFFF) as u32,
+        _ => *random.pick(&BORDERS) - 1 + random.below(3) as u32,
+    };
+    let places = [
+        ("<", "/>"),
+        ("<a", "/>"),
+        ("<r>", "</r>"),
+        ("<r a='", "'/>"),
+        ("<r b", "=''/>"),
+        ("<r><?p", "?></r>"),
+        ("<r><!--", "--></r>"),
+    ];
+    let (before, behind) = *random.pick(&places);
+    [before.as_bytes(), &generate::form_of(code), behind.as_bytes()].concat()
 }
 
 /// The same with UTF-8 for the encoding, if one is declared.
@@ -193,7 +223,7 @@ mod tests {
 
     #[test]
     fn every_kind_is_met() {
-        for wanted in [Kind::Whole, Kind::Damaged, Kind::Beyond, Kind::Dense, Kind::Scripts] {
+        for wanted in [Kind::Whole, Kind::Damaged, Kind::Beyond, Kind::Dense, Kind::Scripts, Kind::Character] {
             assert!((0..100).any(|seed| scene(seed).0 == wanted), "{wanted:?}");
         }
     }
