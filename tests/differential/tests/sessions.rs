@@ -141,7 +141,7 @@ fn clause_names_in_other_scripts() {
             }
         }
     }
-    pace.finish(&[1, 2, 20]);
+    pace.finish(&[2, 20]);
 }
 
 /// Of names and prefixes a few bytes more or less at the ends, and places inside characters.
