@@ -59,7 +59,7 @@ partStep q b i =
 unfoldable pub partEnd : List ℕ → ℕ → Read
 partEnd s at = run (read.Stopped Cut) partStep (partState 64 []) (drop at s) at
 
--- a part of which the bytes from `at` up to i are read, whole characters
+-- a device: a part of which the bytes from `at` up to i are read, whole characters
 unfoldable pub partFrom : List ℕ → ℕ → ℕ → Read
 partFrom s at i = run (read.Stopped Cut) partStep (partState (at + 64 - i) []) (drop i s) i
 

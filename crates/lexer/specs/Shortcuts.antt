@@ -1,4 +1,4 @@
--- Devices: what the code finds at once. Which bytes below 80 may stand in a name and in text, and a part from a later place on.
+-- Devices: which bytes below 80 may stand in a name and in text, as the code tests them.
 use Prim.Native.Nat.{ℕ}
 use mathlib.Core.Bool.{Bool, _||_}
 use lib.Dec.{leb, eqb}
