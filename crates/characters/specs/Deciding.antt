@@ -12,6 +12,9 @@ use borrow.Author.Tests.{lt-ltb, le-ltb, ltb-true, ltb-false, le-leb, lt-leb, le
 use lib.Dec.{leb, ltb, eqb}
 use lib.ListN.{length, length-append}
 use Rattle.laws.specs.Lists.{any, all}
+use Rattle.laws.specs.Tests.{both as and-true, left as or-first, right as or-second}
+use Rattle.laws.proofs.Flags.{and-left, and-right}
+use Rattle.laws.proofs.Holds.{holds-cond}
 use Rattle.characters.specs.declared.Range.{Range}
 use Rattle.characters.specs.declared.Form.{Form}
 use Rattle.characters.specs.declared.Set.{Set}
@@ -20,21 +23,6 @@ use Rattle.characters.specs.Utf8.{utf8}
 use Rattle.characters.specs.Sets.{inRange, member, rangesOf}
 use Rattle.characters.specs.Begins.{Begins}
 use Rattle.characters.specs.Forms.{form, fresh, noForm, firstForm, nextForm, formFrom, formOf, size, larger, least, most, meets, formBegins}
-
-holds : {A : Type 0} (P : A → Type 0) (t : Bool) {a b : A} → (t ≡ true → P a) → (t ≡ false → P b) → P (cond t a b)
-holds P true p q = p refl
-holds P false p q = q refl
-
-both-left : (a b : Bool) → (a && b) ≡ true → a ≡ true
-both-left true b e = refl
-both-left false b e = e
-
-both-right : (a b : Bool) → (a && b) ≡ true → b ≡ true
-both-right true b e = e
-both-right false b e = let z : false ≡ true = e in absurd (differ z)
-  where
-    differ : false ≡ true → ⊥
-    differ q = let z : _≡_ {A = ℕ} 0 1 = cc in omega arith
 
 -- ---- the forms of a code point
 -- its last byte, last two, last three
@@ -65,7 +53,7 @@ module _ (c : ℕ) where
   Within f = (larger (f .value * size (f .left)) (f .floor) ≤ c) × (c ≤ f .value * size (f .left) + size (f .left) - 1)
 
   above : (a b : ℕ) → larger a b ≤ c → (a ≤ c) × (b ≤ c)
-  above a b = holds (λ (m : ℕ). m ≤ c → (a ≤ c) × (b ≤ c)) (ltb a b) (λ e h. omega (arith, ltb-true a b e)) (λ e h. omega (arith, ltb-false a b e))
+  above a b = holds-cond (λ (m : ℕ). m ≤ c → (a ≤ c) × (b ≤ c)) (ltb a b) (λ e h. omega (arith, ltb-true a b e)) (λ e h. omega (arith, ltb-false a b e))
 
   Begun : List ℕ → Type 0
   Begun l = (rest : List ℕ) × (utf8 c ≡ l ++ rest)
@@ -82,16 +70,16 @@ module _ (c : ℕ) where
   lead : (a : ℕ) (P : Form → Type 0) → (a < 0x80 → P (form 0 a 0)) → P noForm → (0xC0 ≤ a → a < 0xE0 → P (form 1 (a - 0xC0) 0x80)) → (0xE0 ≤ a → a < 0xF0 → P (form 2 (a - 0xE0) 0x800)) → (0xF0 ≤ a → P (form 3 (a - 0xF0) 0x10000)) → P (firstForm a)
   unfolding firstForm
   lead a P p n q r s =
-      holds P (ltb a 0x80) (λ e. p (ltb-true a 0x80 e))
-      (λ e. holds P (ltb a 0xC0) (λ _. n)
-      (λ x. holds P (ltb a 0xE0) (λ y. q (ltb-false a 0xC0 x) (ltb-true a 0xE0 y))
-      (λ y. holds P (ltb a 0xF0) (λ z. r (ltb-false a 0xE0 y) (ltb-true a 0xF0 z)) (λ z. s (ltb-false a 0xF0 z)))))
+      holds-cond P (ltb a 0x80) (λ e. p (ltb-true a 0x80 e))
+      (λ e. holds-cond P (ltb a 0xC0) (λ _. n)
+      (λ x. holds-cond P (ltb a 0xE0) (λ y. q (ltb-false a 0xC0 x) (ltb-true a 0xE0 y))
+      (λ y. holds-cond P (ltb a 0xF0) (λ z. r (ltb-false a 0xE0 y) (ltb-true a 0xF0 z)) (λ z. s (ltb-false a 0xF0 z)))))
 
   more : (k v floor b : ℕ) (P : Form → Type 0) → k < 3 → (0x80 ≤ b → b ≤ 0xBF → P (form k (v * 0x40 + (b - 0x80)) floor)) → P noForm → P (nextForm (form (suc k) v floor) b)
   unfolding nextForm
-  more zero v floor b P h p n = holds P (leb 0x80 b && leb b 0xBF) (λ e. p (leb-true 0x80 b (both-left (leb 0x80 b) (leb b 0xBF) e)) (leb-true b 0xBF (both-right (leb 0x80 b) (leb b 0xBF) e))) (λ e. n)
-  more (suc zero) v floor b P h p n = holds P (leb 0x80 b && leb b 0xBF) (λ e. p (leb-true 0x80 b (both-left (leb 0x80 b) (leb b 0xBF) e)) (leb-true b 0xBF (both-right (leb 0x80 b) (leb b 0xBF) e))) (λ e. n)
-  more (suc (suc zero)) v floor b P h p n = holds P (leb 0x80 b && leb b 0xBF) (λ e. p (leb-true 0x80 b (both-left (leb 0x80 b) (leb b 0xBF) e)) (leb-true b 0xBF (both-right (leb 0x80 b) (leb b 0xBF) e))) (λ e. n)
+  more zero v floor b P h p n = holds-cond P (leb 0x80 b && leb b 0xBF) (λ e. p (leb-true 0x80 b (and-left (leb 0x80 b) (leb b 0xBF) e)) (leb-true b 0xBF (and-right (leb 0x80 b) (leb b 0xBF) e))) (λ e. n)
+  more (suc zero) v floor b P h p n = holds-cond P (leb 0x80 b && leb b 0xBF) (λ e. p (leb-true 0x80 b (and-left (leb 0x80 b) (leb b 0xBF) e)) (leb-true b 0xBF (and-right (leb 0x80 b) (leb b 0xBF) e))) (λ e. n)
+  more (suc (suc zero)) v floor b P h p n = holds-cond P (leb 0x80 b && leb b 0xBF) (λ e. p (leb-true 0x80 b (and-left (leb 0x80 b) (leb b 0xBF) e)) (leb-true b 0xBF (and-right (leb 0x80 b) (leb b 0xBF) e))) (λ e. n)
   more (suc (suc (suc k))) v floor b P h p n = absurd (omega arith)
 
   one-byte : (a : ℕ) → Within (firstForm a) → Begun (a ∷ [])
@@ -245,7 +233,7 @@ module _ (c : ℕ) where
 
   -- ---- and the range holds each code point that has the bytes
   below : (a b : ℕ) → a ≤ c → b ≤ c → larger a b ≤ c
-  below a b p q = holds (λ (m : ℕ). m ≤ c) (ltb a b) (λ e. q) (λ e. p)
+  below a b p q = holds-cond (λ (m : ℕ). m ≤ c) (ltb a b) (λ e. q) (λ e. p)
 
   -- six bits in a byte
   pub bits2 : c / 0x1000 * 0x1000 + c / 0x40 % 0x40 * 0x40 + c % 0x40 ≡ c
@@ -355,9 +343,9 @@ module _ (c : ℕ) where
   pub ranged : (bytes : List ℕ) (b : ℕ) (rest : List ℕ) → utf8 c ≡ bytes ++ (b ∷ rest) → Left rest (nextForm (formOf bytes) b)
   unfolding utf8 Ranged
   ranged =
-      holds Ranged (ltb c 0x80) (λ e. one-ranged (ltb-true c 0x80 e))
-      (λ x. holds Ranged (ltb c 0x800) (λ e. two-ranged (ltb-false c 0x80 x) (ltb-true c 0x800 e))
-      (λ y. holds Ranged (ltb c 0x10000) (λ e. three-ranged (ltb-false c 0x800 y) (ltb-true c 0x10000 e)) (λ e. four-ranged (ltb-false c 0x10000 e))))
+      holds-cond Ranged (ltb c 0x80) (λ e. one-ranged (ltb-true c 0x80 e))
+      (λ x. holds-cond Ranged (ltb c 0x800) (λ e. two-ranged (ltb-false c 0x80 x) (ltb-true c 0x800 e))
+      (λ y. holds-cond Ranged (ltb c 0x10000) (λ e. three-ranged (ltb-false c 0x800 y) (ltb-true c 0x10000 e)) (λ e. four-ranged (ltb-false c 0x10000 e))))
 
 -- ---- a range of the set and a range of code points
 -- each range's first is not behind its last
@@ -368,16 +356,6 @@ or-true : (a b : Bool) → (a || b) ≡ true → (a ≡ true) ⊎ (b ≡ true)
 or-true true b e = inl refl
 or-true false b e = inr e
 
-or-first : (a b : Bool) → a ≡ true → (a || b) ≡ true
-or-first a b e = rw e
-
-or-second : (a b : Bool) → b ≡ true → (a || b) ≡ true
-or-second true b e = refl
-or-second false b e = e
-
-and-true : (a b : Bool) → a ≡ true → b ≡ true → (a && b) ≡ true
-and-true a b p q = rw (p, q)
-
 record Shared (ranges : List Range) (lo hi : ℕ) : Type 0 where
   pub point : ℕ
   pub above : lo ≤ point
@@ -387,16 +365,16 @@ record Shared (ranges : List Range) (lo hi : ℕ) : Type 0 where
 shared : (ranges : List Range) (lo hi : ℕ) → lo ≤ hi → ordered ranges ≡ true → any (meets lo hi) ranges ≡ true → Shared ranges lo hi
 unfolding any all member
 shared [] lo hi le o e = absurd (let z : _≡_ {A = ℕ} 0 1 = cc in omega arith)
-shared (r ∷ ranges) lo hi le o e = by (or-true (meets lo hi r) (any (meets lo hi) ranges) e) (shared ranges lo hi le (both-right (leb (r .first) (r .last)) (all (λ (r : Range). leb (r .first) (r .last)) ranges) o))
+shared (r ∷ ranges) lo hi le o e = by (or-true (meets lo hi r) (any (meets lo hi) ranges) e) (shared ranges lo hi le (and-right (leb (r .first) (r .last)) (all (λ (r : Range). leb (r .first) (r .last)) ranges) o))
   where
     here : (p : ℕ) → lo ≤ p → p ≤ hi → r .first ≤ p → p ≤ r .last → Shared (r ∷ ranges) lo hi
     here p a b x y = record { point = p; above = a; upto = b; inside = or-first (inRange p r) (any (inRange p) ranges) (and-true (leb (r .first) p) (leb p (r .last)) (le-leb (r .first) p x) (le-leb p (r .last) y)) }
 
     by : (meets lo hi r ≡ true) ⊎ (any (meets lo hi) ranges ≡ true) → (any (meets lo hi) ranges ≡ true → Shared ranges lo hi) → Shared (r ∷ ranges) lo hi
     by (inl m) ih =
-        let x = leb-true (r .first) hi (both-left (leb (r .first) hi) (leb lo (r .last)) m) in
-        let y = leb-true lo (r .last) (both-right (leb (r .first) hi) (leb lo (r .last)) m) in
-        let z = leb-true (r .first) (r .last) (both-left (leb (r .first) (r .last)) (all (λ (r : Range). leb (r .first) (r .last)) ranges) o) in
+        let x = leb-true (r .first) hi (and-left (leb (r .first) hi) (leb lo (r .last)) m) in
+        let y = leb-true lo (r .last) (and-right (leb (r .first) hi) (leb lo (r .last)) m) in
+        let z = leb-true (r .first) (r .last) (and-left (leb (r .first) (r .last)) (all (λ (r : Range). leb (r .first) (r .last)) ranges) o) in
         pick (leb (r .first) lo) refl x y z
       where
         pick : (t : Bool) → leb (r .first) lo ≡ t → r .first ≤ hi → lo ≤ r .last → r .first ≤ r .last → Shared (r ∷ ranges) lo hi
@@ -413,8 +391,8 @@ met (r ∷ ranges) lo hi c a b e = by (or-true (inRange c r) (any (inRange c) ra
   where
     by : (inRange c r ≡ true) ⊎ (any (inRange c) ranges ≡ true) → (any (inRange c) ranges ≡ true → any (meets lo hi) ranges ≡ true) → any (meets lo hi) (r ∷ ranges) ≡ true
     by (inl m) ih =
-        let x = leb-true (r .first) c (both-left (leb (r .first) c) (leb c (r .last)) m) in
-        let y = leb-true c (r .last) (both-right (leb (r .first) c) (leb c (r .last)) m) in
+        let x = leb-true (r .first) c (and-left (leb (r .first) c) (leb c (r .last)) m) in
+        let y = leb-true c (r .last) (and-right (leb (r .first) c) (leb c (r .last)) m) in
         or-first (meets lo hi r) (any (meets lo hi) ranges) (and-true (leb (r .first) hi) (leb lo (r .last)) (le-leb (r .first) hi (omega arith)) (le-leb lo (r .last) (omega arith)))
     by (inr m) ih = or-second (meets lo hi r) (any (meets lo hi) ranges) (ih m)
 
@@ -426,7 +404,7 @@ module _ (ranges : List Range) (bytes : List ℕ) (b : ℕ) where
       let f = nextForm (formOf bytes) b in
       let lo = least f in
       let hi = most f in
-      let s = shared ranges lo hi (leb-true lo hi (both-left (leb lo hi) (any (meets lo hi) ranges) e)) o (both-right (leb lo hi) (any (meets lo hi) ranges) e) in
+      let s = shared ranges lo hi (leb-true lo hi (and-left (leb lo hi) (any (meets lo hi) ranges) e)) o (and-right (leb lo hi) (any (meets lo hi) ranges) e) in
       let h = has-bytes (s .point) bytes b (s .above, s .upto) in
       record { character = s .point; allowed = s .inside; rest = h .0; form = h .1 }
 

@@ -1,6 +1,6 @@
 -- A character of a set: the place that an answer names is inside the scene, an answer other than `Cut` stays when more bytes come, and a machine that
 -- reads byte by byte goes over it as a whole.
---     Within, PassedTo               what an answer says of its place; end-of, bad-of, no-long take it out
+--     Within, PassedTo               what an answer says of its place; end-of takes it out
 --     char-inside, char-stable       which places; more bytes
 --     char-low                       a byte below 80
 --     Inner, char-through            a machine whose state holds the bytes of a character
@@ -39,12 +39,6 @@ Within P s at (read.Stopped Cut) = Unit
 module _ (P : ℕ → Type 0) (s : List ℕ) (at j : ℕ) (r : Read) (w : Within P s at r) where
   pub end-of : r ≡ read.End j → P j
   end-of e = subst (Within P s at) e w
-
-  pub bad-of : r ≡ read.Stopped (Bad j) → (at ≤ j) × (j < length s)
-  bad-of e = subst (Within P s at) e w
-
-  pub no-long : r ≡ read.Stopped (Long j) → ⊥
-  no-long e = subst (Within P s at) e w
 
 -- the end of a character or a reference
 abbrev pub PassedTo : List ℕ → ℕ → ℕ → Type 0
