@@ -3,3 +3,4 @@ pub mod Sets
 pub mod Begins
 pub mod Forms
 pub mod Deciding
+pub mod RowExamples
