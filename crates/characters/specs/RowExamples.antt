@@ -52,8 +52,8 @@ abbrev row : ℕ → ℕ → Marks → Marks → Marks → Marks → Row
 row first last before at-first at-last behind =
     record { first = first; last = last; before = before; at-first = at-first; at-last = at-last; behind = behind }
 
-abbrev told : (ℕ → Marks) → Range → Row
-told marks r = row (r .first) (r .last) (marks (r .first - 1)) (marks (r .first)) (marks (r .last)) (marks (r .last + 1))
+abbrev withMarks : (ℕ → Marks) → Range → Row
+withMarks marks r = row (r .first) (r .last) (marks (r .first - 1)) (marks (r .first)) (marks (r .last)) (marks (r .last + 1))
 
 -- rows 1 to 15
 abbrev startRows : List Row
@@ -86,10 +86,10 @@ nameRows =
     ∷ row 0x203F 0x2040 oo oN oN oo
     ∷ []
 
-by-sets : (map (told inSets) nameStartChar ≡ startRows) × (map (told inSets) nameChar ≡ startRows ++ nameRows)
+by-sets : (map (withMarks inSets) nameStartChar ≡ startRows) × (map (withMarks inSets) nameChar ≡ startRows ++ nameRows)
 unfolding member any
 by-sets = (refl, refl)
 
-by-bytes : (map (told inBytes) nameStartChar ≡ startRows) × (map (told inBytes) nameChar ≡ startRows ++ nameRows)
+by-bytes : (map (withMarks inBytes) nameStartChar ≡ startRows) × (map (withMarks inBytes) nameChar ≡ startRows ++ nameRows)
 unfolding spelled begins decided by-test formBegins most least formOf formFrom nextForm firstForm utf8 any
 by-bytes = (refl, refl)
