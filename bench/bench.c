@@ -3,14 +3,15 @@
        bench table LABEL SCENE RULES     every contender on one scene, with peak memory
        bench lines WORD (LABEL SCENE RULES)..  run beside expat on each of these scenes, a line each; the scenes take turns too
        bench once WHO SCENE RULES [ROOM] one pass of one contender: its peak memory, events, records, calls, and a sum over the records' bytes; WHO is run,
-                                         forecast (which counts no events), expat, libxml2, advance64, pieces64, advance4, pieces4, step, memchr or load
+                                         forecast (which counts no events), expat, libxml2, advance64, pieces64, advance4, pieces4, step, memchr, load, or ask
+                                         or commit (the same: each event asked about and committed)
 
    Before the command: -r ROUNDS (5), -t SECONDS of a contender in a round (0.25), -m (no memory), -p SECONDS after which stepping stops (8 times -t),
    -n CALLS after which it stops.
    Contenders take turns in each round; the best round of each counts ('by rounds': the median of the ratios within a round).
    Time is processor time of this process.
    Events are the scene's own (starts, texts, ends) for all, and a comment or an instruction ends a text; records are those that run writes. MB is 1,000,000 bytes.
-   FORECAST is defined where the library for it is linked too.
+   FORECAST and OFFERS are defined where the libraries for them are linked too.
    If contenders disagree about the scene the program says so and ends with 1. No time decides anything. */
 #define _GNU_SOURCE
 #include <expat.h>
@@ -96,7 +97,8 @@ static uint8_t *fresh(size_t length) {
     return session;
 }
 
-static struct seen pass_step(void) {
+/* An event at a time, by a call that takes one. */
+static struct seen event_by_event(void (*take)(uint8_t *session, size_t length, uint64_t *answer)) {
     size_t length = (size_t)calcivorne_session_size();
     uint8_t *session = fresh(length);
     uint64_t answer[4] = { 0, 0, 0, 0 };
@@ -105,13 +107,39 @@ static struct seen pass_step(void) {
     while (!answer[0]) {
         if (s.calls && s.calls == most_calls) break;
         if (s.calls % 256 == 255 && patience > 0 && now() - begin > patience) break;
-        calcivorne_step(rules.at, rules.length, scene.at, scene.length, session, length, room, sizeof room, answer);
+        take(session, length, answer);
         tally(&s, answer, room);
     }
     if (answer[0]) ends_with_9("a step", answer);
     free(session);
     return s;
 }
+
+static void take_step(uint8_t *session, size_t length, uint64_t *answer) {
+    calcivorne_step(rules.at, rules.length, scene.at, scene.length, session, length, room, sizeof room, answer);
+}
+
+static struct seen pass_step(void) {
+    return event_by_event(take_step);
+}
+
+#ifdef OFFERS
+/* Asked first, then committed: two calls an event. */
+static void take_offered(uint8_t *session, size_t length, uint64_t *answer) {
+    static uint8_t offer[65536];
+    if (calcivorne_offer_size() > sizeof offer) die("no room for an offer", "");
+    calcivorne_ask(rules.at, rules.length, scene.at, scene.length, session, length, offer, sizeof offer, answer);
+    calcivorne_commit(offer, sizeof offer, session, length, rules.at, rules.length, scene.at, scene.length, room, sizeof room, answer);
+}
+
+static struct seen pass_offered(void) {
+    return event_by_event(take_offered);
+}
+#else
+static struct seen pass_offered(void) {
+    return (struct seen){ 0, 0, 0, 0, 0 };
+}
+#endif
 
 /* The scene grows by a piece at a time; an output that is full is taken away. */
 static struct seen advance_by(size_t piece) {
@@ -291,7 +319,7 @@ static struct seen pass_load(void) {
 }
 
 /* Neighbours take turns next to each other: each of ours stands before the one that it is held against. */
-enum { RUN, FORECASTING, EXPAT, LIBXML2, ADVANCE64, PIECES64, ADVANCE4, PIECES4, STEP, MEMCHR, CONTENDERS, LOAD = CONTENDERS };
+enum { RUN, FORECASTING, EXPAT, LIBXML2, ADVANCE64, PIECES64, ADVANCE4, PIECES4, STEP, MEMCHR, CONTENDERS, LOAD = CONTENDERS, ASK, COMMIT };
 
 static const struct { const char *word, *title; struct seen (*pass)(void); int writes; } contender[] = {
     { "run", "`run`", pass_run, 1 },
@@ -305,11 +333,16 @@ static const struct { const char *word, *title; struct seen (*pass)(void); int w
     { "step", "`step`, one call an event", pass_step, 1 },
     { "memchr", "memchr for `<`", pass_memchr, 0 },
     { "load", "the scene loaded, nothing done", pass_load, 0 },
+    { "ask", "`ask`, before each `commit`", pass_offered, 1 },
+    { "commit", "`commit`, one call an event", pass_offered, 1 },
 };
 
 static int takes_part(int who) {
 #ifndef FORECAST
     if (who == FORECASTING) return 0;
+#endif
+#ifndef OFFERS
+    if (who == ASK || who == COMMIT) return 0;
 #endif
     return calcivorne_advance || (who != ADVANCE64 && who != ADVANCE4);
 }
@@ -525,7 +558,7 @@ static int lines(const char *word, char **words, int count) {
 
 static int once(const char *word) {
     summing = 1;
-    for (int k = 0; k <= LOAD; k++)
+    for (int k = 0; k <= COMMIT; k++)
         if (!strcmp(word, contender[k].word) && takes_part(k)) {
             struct seen s = contender[k].pass();
             printf("%ld KB, %llu events, %llu records, %llu calls, sum %016llx\n", peak_kb(), (unsigned long long)s.events, (unsigned long long)s.records, (unsigned long long)s.calls, (unsigned long long)s.sum);

@@ -1,8 +1,8 @@
 /*
  * calcivorne.h: the dispatcher for hosts in C and C++. This file is the manual of the interface.
  *
- * The library is libcalcivorne.a, and libcalcivorne_forecast.a for calcivorne_forecast, for Linux on x86-64; `./install PREFIX` puts them and this file
- * under a prefix. examples/ has hosts in C, Rust and Python.
+ * The library is libcalcivorne.a, libcalcivorne_forecast.a for calcivorne_forecast, and libcalcivorne_offers.a for calcivorne_ask, calcivorne_commit and
+ * calcivorne_offer_size, for Linux on x86-64; `./install PREFIX` puts them and this file under a prefix. examples/ has hosts in C, Rust and Python.
  *
  * SLICES. A run of bytes is passed as a pointer and a length. A length may be 0; the pointer must then not be NULL all the same. All the bytes of
  * a slice must be there to be read and, where the parameter is not const, to be written, and no two of a call's slices and arrays may overlap.
@@ -18,15 +18,16 @@
  * instructions any XML character. A byte with which no character goes on that may stand there is 2; one that the scene's end cuts is 1. Places, offsets
  * and limits count bytes; names and namespaces are equal when their bytes are. No byte order mark: its first byte is refused.
  *
- * THE ANSWER. judge, run, step and advance write four numbers:
+ * THE ANSWER. judge, run, step, advance, ask and commit write four numbers:
  *
  *     answer[0]  number    see below; the call returns it too
  *     answer[1]  place     where in the scene, or for judge in the table
- *     answer[2]  events    judge: 0. step: 1 with number 0, else 0. run and advance: the steps that gave 0
- *     answer[3]  records   how many records stand in the output, 16 bytes each, from its first byte on
+ *     answer[2]  events    judge, ask: 0. step, commit: 1 with number 0, else 0. run and advance: the steps that gave 0
+ *     answer[3]  records   how many records stand in the output, 16 bytes each, from its first byte on; ask: how many would
  *
  *     number                                                                              place
- *       0  step: an event. advance: so many steps. judge: the table is accepted           step, advance: the new session's. judge: the table's length
+ *       0  step, commit: an event; ask: one comes next. advance: so many steps            the new session's
+ *          judge: the table is accepted                                                   the table's length
  *       1  the scene ends, and nothing else is wrong so far: go on with a longer one      the scene's length
  *       2  a byte that cannot stand there                                                 that byte
  *       3  the 65th byte of a name's part, or the first of a 17th attribute               that byte
@@ -44,11 +45,12 @@
  *      23  a 17th strand                                                                  the tag's <
  *      24  a unit past 65,535                                                             the tag's <
  *      25  the event's records exceed the output; run, advance: what is left of it        the tag's <, or the text's first byte
- *     255  the session's slice is shorter than calcivorne_session_size()                  the answer is not written
+ *      30  commit: the session, or the scene's length, is not the offer's                 0
+ *     255  the session's or the offer's slice is shorter than it has to be                the answer is not written
  *
- * 8 and 13 to 19 are not used. Where several hold, the first of this order is given: 255; 10 under 4 bytes, 11 of the first four, 10, 11, 12; 7; 20;
- * 1, 2, 3 or 9; 4; 5, 6, 21, 22, 23, 24; 25. run and forecast never give 0, 20 or 255, forecast never 25, judge only 0 and 10 to 12. With another number
- * than 0 run and advance tell of their last step, behind the events that they count.
+ * 8, 13 to 19 and 26 to 29 are not used. Where several hold, the first of this order is given: 255; 10 under 4 bytes, 11 of the first four, 10, 11, 12; 7;
+ * 20; 30; 1, 2, 3 or 9; 4; 5, 6, 21, 22, 23, 24; 25. run and forecast never give 0, 20 or 255, forecast and ask never 25, judge only 0 and 10 to 12, and 30
+ * is commit's alone. With another number than 0 run and advance tell of their last step, behind the events that they count.
  *
  * A RECORD. 16 bytes, the most significant byte of a field first; a field that a kind does not use is zero:
  *
@@ -86,7 +88,18 @@
  *     bytes  7208 on     of a longer slice: never read, never written
  *
  * What stands in declarations past their count, in levels past the depth and in strands past theirs is no part of the session, but its zero bytes
- * and the form of its strands are asked for there too: bytes that calcivorne_fresh, calcivorne_step and calcivorne_advance wrote always have them.
+ * and the form of its strands are asked for there too: bytes that calcivorne_fresh, calcivorne_step, calcivorne_advance and calcivorne_commit wrote always
+ * have them.
+ *
+ * AN OFFER is a session and a scene's length, in calcivorne_offer_size() bytes:
+ *
+ *     byte      0        version: 1
+ *     bytes     1 to  7  zero
+ *     bytes     8 to 15  the scene's length
+ *     bytes    16 on     the session: its bytes as above
+ *     bytes  7224 on     of a longer slice: never read, never written
+ *
+ * Bytes that hold no offer, for their version, their zero bytes or their session's, are an offer of nothing: commit answers 30 in 30's place of the order.
  */
 #ifndef CALCIVORNE_H
 #define CALCIVORNE_H
@@ -202,6 +215,48 @@ unsigned char calcivorne_advance(
     const unsigned char *scene, size_t scene_len,
     unsigned char *session, size_t session_len,
     calcivorne_number most,
+    unsigned char *out, size_t out_len,
+    calcivorne_number answer[4]);
+
+/*
+ * How many bytes an offer takes. This is the only size that a host may use.
+ */
+calcivorne_number calcivorne_offer_size(void);
+
+/*
+ * Ask: what one step would give with an output that suffices. Nothing is read past that, no output is lent, and the session is not written. Returns the
+ * number. Writes the four numbers of the answer: number and place of that step, 0, and how many records it would write. With number 0 calcivorne_step in an
+ * out of 16 * answer[3] bytes, or more, gives this very number, place and count of records, and in fewer bytes 25; with another number it gives that number
+ * and place in every out.
+ *
+ * Writes an offer to the first bytes of offer, whatever the number is: the session's bytes as they were given, and the scene's length. The bytes of offer
+ * behind it keep their values. Where session_len is below calcivorne_session_size() or offer_len below calcivorne_offer_size() it returns 255 and writes
+ * nothing.
+ */
+unsigned char calcivorne_ask(
+    const unsigned char *table, size_t table_len,
+    const unsigned char *scene, size_t scene_len,
+    const unsigned char *session, size_t session_len,
+    unsigned char *offer, size_t offer_len,
+    calcivorne_number answer[4]);
+
+/*
+ * Commit: one step on the table, the scene, the session and the output handed in, as calcivorne_step takes it, where the session and the scene's length
+ * are the offer's. With the table and the scene that were asked about, and an out of 16 bytes for each record that ask counted, it gives what ask said.
+ *
+ * Where the session holds anything else than the offer's, or the scene has another length, it returns 30: place, events and records are 0, and session and
+ * out are as they were. 30 stands behind 10 to 12, 7 and 20, which judge the session handed in and not the offer's, and before anything of the scene is
+ * read. Sessions hold the same where all that the tables above have of them is the same; what stands past the counts does not matter. Other bytes in a
+ * scene of the same length, and another table, are not noticed: commit is a step with what it was handed.
+ *
+ * An offer is not used up: the same offer may be committed again, and any other that a host has stored. With 255, where a slice is too short, nothing is
+ * written.
+ */
+unsigned char calcivorne_commit(
+    const unsigned char *offer, size_t offer_len,
+    unsigned char *session, size_t session_len,
+    const unsigned char *table, size_t table_len,
+    const unsigned char *scene, size_t scene_len,
     unsigned char *out, size_t out_len,
     calcivorne_number answer[4]);
 

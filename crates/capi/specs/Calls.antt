@@ -1,25 +1,11 @@
 -- What the calls for hosts hand back, for all arguments. Definitions.
 use Prim.Native.Nat.{ℕ}
-use mathlib.Core.List.{List, [], _∷_}
-use mathlib.Core.Bool.{cond, not}
-use lib.ListN.{length}
-use lib.Dec.{eqb, ltb}
-use Rattle.laws.specs.Over.{overwrite}
+use mathlib.Core.List.{List}
+use mathlib.Core.Bool.{cond}
 use Rattle.table.specs.Table.{standard}
-use Rattle.table.specs.Judge.{judged}
-use Rattle.table.specs.declared.Answer.{Answer}
-use Rattle.dispatcher.specs.Stepping.{Step, refusedStep, longest, stepOf, advanceOf}
-use Rattle.capi.specs.Layout.{sessionIn, holdsSession, sessionBytes}
-
--- number, place, events, records
-abbrev pub answerNumbers : Answer → List ℕ
-answerNumbers a = a .number ∷ a .place ∷ a .events ∷ a .records ∷ []
-
--- what bytes that hold no session are answered: 20, in 20's rank
-abbrev pub unheld : List ℕ → List ℕ → List ℕ → List ℕ → Step
-unheld table s b out =
-    cond (not (eqb (judged table .number) 0)) (refusedStep (judged table .number) (judged table .place) (sessionIn b) out)
-    (cond (ltb longest (length s)) (refusedStep 7 0 (sessionIn b) out) (refusedStep 20 0 (sessionIn b) out))
+use Rattle.dispatcher.specs.Stepping.{Step, stepOf, advanceOf}
+use Rattle.layout.specs.Layout.{sessionIn, holdsSession}
+use Rattle.layout.specs.Answers.{unheld}
 
 -- a step from a session in bytes
 unfoldable pub byteStep : List ℕ → List ℕ → List ℕ → List ℕ → Step
@@ -28,11 +14,3 @@ byteStep table s b out = cond (holdsSession b) (stepOf standard table s (session
 -- so many steps from it. Where no step is asked for, bytes that hold no session are answered so too: there is no session whose place could be answered
 unfoldable pub byteAdvance : ℕ → List ℕ → List ℕ → List ℕ → List ℕ → Step
 byteAdvance most table s b out = cond (holdsSession b) (advanceOf standard most table s (sessionIn b) out) (unheld table s b out)
-
--- the bytes behind them: those of the session handed back where a step gave 0, whatever number came last; further bytes as they were
-abbrev pub bytesBehind : List ℕ → Step → List ℕ
-bytesBehind b r = cond (eqb (r .answer .events) 0) b (overwrite b 0 (sessionBytes (r .session)))
-
--- a session slice that is too short
-abbrev pub tooShort : ℕ
-tooShort = 255

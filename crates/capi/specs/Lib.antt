@@ -1,4 +1,2 @@
-pub mod Layout
-pub mod Parts
 pub mod Calls
 pub mod Sources

@@ -1,14 +1,15 @@
 // The dispatcher for hosts written in C, C++, Rust or Python: include/calcivorne.h is the manual.
-mod layout;
-
-use crate::layout::arrays_in;
-use crate::layout::head_in;
-use crate::layout::holds_session;
-use crate::layout::put_fresh;
-use crate::layout::put_session;
-use dispatcher::Session;
 use dispatcher::advance_in;
 use dispatcher::answer_of;
+use layout::answers::TOO_SHORT;
+use layout::answers::no_session;
+use layout::answers::tell;
+use layout::sessions::SESSION_SIZE;
+use layout::sessions::arrays_in;
+use layout::sessions::head_in;
+use layout::sessions::holds_session;
+use layout::sessions::put_fresh;
+use layout::sessions::put_session;
 use strands::LEVELS;
 use table::Answer;
 use table::judge;
@@ -16,37 +17,20 @@ use uris::Source;
 use uris::UriSpan;
 use uris::uri_span;
 ghost use mathlib.Core.Path.{_≡_};
-ghost use mathlib.Core.Bool.{cond, not};
+ghost use mathlib.Core.Bool.{cond};
 ghost use Prim.Native.Nat.{_≤_};
 ghost use lib.ListN.{length};
-ghost use lib.Dec.{eqb, ltb};
+ghost use lib.Dec.{ltb};
 ghost use Rattle.laws.specs.Over.{overwrite};
 ghost use Rattle.table.specs.Table.{standard};
 ghost use Rattle.table.specs.Judge.{judged};
 ghost use Rattle.dispatcher.specs.Sessions.{freshOf};
-ghost use Rattle.dispatcher.specs.Stepping.{answered, longest, runOf};
+ghost use Rattle.dispatcher.specs.Stepping.{runOf};
 ghost use Rattle.uris.specs.Uris.{uriSpanOf};
-ghost use Rattle.capi.specs.Layout.{sessionSize, sessionBytes};
-ghost use Rattle.capi.specs.Calls.{answerNumbers, byteStep, byteAdvance, bytesBehind, tooShort};
+ghost use Rattle.layout.specs.Layout.{sessionSize, sessionBytes};
+ghost use Rattle.layout.specs.Answers.{answerNumbers, bytesBehind, tooShort};
+ghost use Rattle.capi.specs.Calls.{byteStep, byteAdvance};
 ghost use Rattle.capi.specs.Sources.{sourceNumber, spanNumbers};
-
-// A session's bytes.
-const SESSION_SIZE: usize = 7208;
-
-// What a call answers where the session's slice has no room for it.
-const TOO_SHORT: u8 = 255;
-
-// The answer's four numbers.
-fn tell(a: Answer, answer: &mut [u64; 4])
-    ensures { λ _. ⌜ now (answer .exit) ≡ answerNumbers a ⌝ }
-{
-    *answer = [
-        a.number as u64,
-        a.place as u64,
-        a.events as u64,
-        a.records as u64,
-    ];
-}
 
 // The rule table judged.
 #[no_mangle]
@@ -95,32 +79,6 @@ pub extern "C" fn calcivorne_fresh(session: &mut [u8]) -> u8
     }
     put_fresh(session);
     0
-}
-
-// An answer with no event.
-fn refusal(number: u8, place: usize) -> Answer
-    ensures { λ r. ⌜ r ≡ answered number place 0 0 ⌝ }
-{
-    Answer {
-        number,
-        place,
-        events: 0,
-        records: 0,
-    }
-}
-
-// What bytes that hold no session are answered: 20, behind the numbers that go before it.
-fn no_session(table: &[u8], scene: &[u8]) -> Answer
-    ensures { λ r. ⌜ r ≡ cond (not (eqb (judged (now (table .entry)) .number) 0)) (answered (judged (now (table .entry)) .number) (judged (now (table .entry)) .place) 0 0) (cond (ltb longest (length (now (scene .entry)))) (answered 7 0 0 0) (answered 20 0 0 0)) ⌝ }
-{
-    let judged = judge(table);
-    if judged.number != 0 {
-        return refusal(judged.number, judged.place);
-    }
-    if Session::LONGEST < scene.len() {
-        return refusal(7, 0);
-    }
-    refusal(20, 0)
 }
 
 // At most so many events of the session in bytes, which are written where a step gave 0.

@@ -1,5 +1,6 @@
 pub mod Goes
 pub mod CoherentHeld
+pub mod HeldAlike
 pub mod Refusals
 pub mod Late
 pub mod LateNext
@@ -22,4 +23,6 @@ pub mod Calls
 pub mod Steps
 pub mod Accepted
 pub mod Ends
+pub mod Offers
+pub mod Commits
 pub mod Samples

@@ -36,7 +36,7 @@ use Rattle.demands.proofs.Goes.{event-goes}
 use Rattle.demands.proofs.CoherentHeld.{coherent-held}
 
 -- judge's numbers
-abbrev Judges : Answer → Type 0
+abbrev pub Judges : Answer → Type 0
 Judges a = (a .number ≡ 0) ⊎ ((10 ≤ a .number) × (a .number ≤ 12))
 
 by-tests : (n : ℕ) (a b c d e : Bool) → Judges (cond a (said 10 0) (cond b (said 11 0) (cond c (said 10 0) (cond d (said 11 0) (cond e (said 12 0) (said 0 n))))))
@@ -47,7 +47,7 @@ by-tests n false false false true e = inr (omega arith)
 by-tests n false false false false true = inr (omega arith)
 by-tests n false false false false false = inl refl
 
-judges : (table : List ℕ) → Judges (judged table)
+pub judges : (table : List ℕ) → Judges (judged table)
 unfolding judged
 judges table =
     let h = headerOf table in

@@ -1,4 +1,4 @@
--- Worked examples of lists of calls, by computation: sample A cut, with refused steps between the accepted ones; and by steps and advances.
+-- Worked examples of lists of calls, by computation: sample A cut, with refused steps between the accepted ones; by steps and advances; and with commits.
 use Prim.Native.Nat.{ℕ}
 use mathlib.Core.Path.{_≡_, refl}
 use mathlib.Core.List.{List, [], _∷_, _++_, map}
@@ -8,9 +8,11 @@ use Rattle.table.specs.Examples.{T}
 use Rattle.model.specs.Rows.{row}
 use Rattle.dispatcher.specs.Sessions.{freshOf}
 use Rattle.dispatcher.specs.Stepping.{Step}
+use Rattle.dispatcher.specs.declared.offers.Offer.{Offer}
 use Rattle.model.specs.Dispatch.{expected}
 use Rattle.table.specs.Table.{decode}
 use Rattle.demands.specs.Calls.{Call, stepsFrom, acceptedIn, joinedOf, AnyCall, ofStep, ofAdvance, callsFrom, eventsIn, allRecords}
+use Rattle.demands.specs.Offers.{OfferedCall, ofCall, ofCommit, offeredFrom}
 use Rattle.demands.specs.Computing.{computing}
 
 abbrev A : List ℕ
@@ -51,3 +53,19 @@ all-five = refl
 all-seven : allRecords (callsFrom T freshOf mixed) ≡ row 0 0 0 0 0 0 0 ++ row 0 1 1 1 1 0 0 ++ row 0 4 0 13 1 0 0 ++ row 0 1 1 15 1 0 0 ++ row 0 5 1 15 1 0 0 ++ row 0 5 1 20 1 0 0 ++ row 0 6 0 0 0 0 0
 unfolding computing
 all-seven = refl
+
+-- an offer of the fresh session and of the first k bytes of the scene
+abbrev freshly : ℕ → Offer
+freshly k = record { session = freshOf; length = k }
+
+-- 1 in a tag; 30, the scene has grown; the start; 30, the session is another; the text and the start of x, by a step each
+abbrev held : List OfferedCall
+held = ofCommit (freshly 5) (cutAt 5 64) ∷ ofCommit (freshly 5) (cutAt 13 64) ∷ ofCommit (freshly 13) (cutAt 13 64) ∷ ofCommit (freshly 15) (cutAt 15 64) ∷ ofCall (ofStep (cutAt 15 64)) ∷ ofCall (ofStep (cutAt 22 64)) ∷ []
+
+held-numbers : map (λ (r : Step). r .answer .number) (offeredFrom T freshOf held) ≡ 1 ∷ 30 ∷ 0 ∷ 30 ∷ 0 ∷ 0 ∷ []
+unfolding computing
+held-numbers = refl
+
+held-records : allRecords (offeredFrom T freshOf held) ≡ row 0 0 0 0 0 0 0 ++ row 0 1 1 1 1 0 0 ++ row 0 4 0 13 1 0 0 ++ row 0 1 1 15 1 0 0
+unfolding computing
+held-records = refl

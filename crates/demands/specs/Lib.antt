@@ -1,6 +1,7 @@
 pub mod Calls
 pub mod Scenes
 pub mod Answers
+pub mod Offers
 pub mod Limits
 pub mod Runs
 pub mod Samples

@@ -36,7 +36,7 @@ use Rattle.dispatcher.proofs.Clauses.{Clauses, clauses, all-clauses}
 
 -- ---- tests of all elements that follow from tests of all
 module _ {A : Type 0} where
-  weaker : (p q : A → Bool) → ((x : A) → p x ≡ true → q x ≡ true) → (l : List A) → all p l ≡ true → all q l ≡ true
+  pub weaker : (p q : A → Bool) → ((x : A) → p x ≡ true → q x ≡ true) → (l : List A) → all p l ≡ true → all q l ≡ true
   unfolding all
   weaker p q f [] e = refl
   weaker p q f (x ∷ l) e = both (q x) (all q l) (f x (and-left (p x) (all p l) e)) (weaker p q f l (and-right (p x) (all p l) e))

@@ -28,26 +28,9 @@ use Rattle.dispatcher.proofs.Sound.{Sound}
 use Rattle.dispatcher.proofs.SoundCoherent.{sound-coherent}
 use Rattle.dispatcher.proofs.CoherentSound.{coherent-sound}
 use Rattle.dispatcher.proofs.SoundStep.{step-kept}
+use Rattle.dispatcher.proofs.JudgedFirst.{table-refused, scene-refused, session-refused, session-goes, step-judged-first}
 use Rattle.dispatcher.proofs.Room.{Roomed, planned-roomed}
 use Rattle.dispatcher.proofs.Advancing.{stepAs, soFar, further, joined-none, advance-stops, further-none, further-stops, further-goes}
-
--- ---- the ways out of a step
-module _ (table s : List ℕ) (z : Session) (out : List ℕ) where
-  step-judged : (judged table .number ≡ 0 → ⊥) → refusedStep (judged table .number) (judged table .place) z out ≡ stepOf standard table s z out
-  unfolding stepOf
-  step-judged n = rw (ne-eqb (judged table .number) 0 n)
-
-  step-long : judged table .number ≡ 0 → 16777215 < length s → refusedStep 7 0 z out ≡ stepOf standard table s z out
-  unfolding stepOf
-  step-long e h = rw (eq-eqb (judged table .number) 0 e, lt-ltb 16777215 (length s) h)
-
-  step-incoherent : Accepted table ≡ true → length s ≤ 16777215 → coherent (decode table) s z ≡ false → refusedStep 20 0 z out ≡ stepOf standard table s z out
-  unfolding stepOf
-  step-incoherent a h c = rw (a, le-ltb 16777215 (length s) h, c)
-
-  step-planned : Accepted table ≡ true → length s ≤ 16777215 → coherent (decode table) s z ≡ true → planned (planOf (decode table) s z) z out ≡ stepOf standard table s z out
-  unfolding stepOf
-  step-planned a h c = rw (a, le-ltb 16777215 (length s) h, c)
 
 -- ---- a turn
 -- where so many steps are after some turns: what is left to do is what was asked
@@ -89,7 +72,7 @@ module _ (table s : List ℕ) (z₀ : Session) (out₀ : List ℕ) (most : ℕ) 
     (r : Step) (q : r ≡ planned (planOf (decode table) s z) z lent) where
   turn-step : stepOf standard table s z (drop (16 * records) out) ≡ r
   turn-step =
-      sym (q ∙ ap (planned (planOf (decode table) s z) z) (l ∙ ap (λ (n : ℕ). drop n out) (sym (g .counted))) ∙ step-planned table s z (drop (16 * records) out) accepted short (sound-coherent (decode table) s z (g .sound)))
+      sym (q ∙ ap (planned (planOf (decode table) s z) z) (l ∙ ap (λ (n : ℕ). drop n out) (sym (g .counted))) ∙ session-goes table s z (λ (n p : ℕ). refusedStep n p z (drop (16 * records) out)) (planned (planOf (decode table) s z) z (drop (16 * records) out)) accepted short (sound-coherent (decode table) s z (g .sound)) ∙ step-judged-first table s z (drop (16 * records) out))
 
   abbrev left : ℕ
   left = most - (events + 1)
@@ -153,12 +136,12 @@ module _ (most : ℕ) (some : 1 ≤ most) (table s : List ℕ) (z : Session) (ou
 -- ---- behind judge and 7
 module _ (table s : List ℕ) (header : Header) (z : Session) (head-is : header ≡ headerOf table) (accepted : Accepted table ≡ true) (short : length s ≤ 16777215)
     (r : Bool) (q : r ≡ coherent (tableOf table header) s z) where
-  judged-coherent : r ≡ coherent (decode table) s z
+  pub judged-coherent : r ≡ coherent (decode table) s z
   judged-coherent = q ∙ ap (λ (h : Header). coherent (tableOf table h) s z) head-is
 
   pub from-refused : (most : ℕ) (out : List ℕ) → 1 ≤ most → not r ≡ true → refusedStep 20 0 z out ≡ advanceOf standard most table s z out
   from-refused most out m n =
-      first-refused most m table s z out 20 0 (λ e. absurd (omega arith)) (step-incoherent table s z out accepted short (sym judged-coherent ∙ not-true r n))
+      first-refused most m table s z out 20 0 (λ e. absurd (omega arith)) (session-refused table s z (λ (n p : ℕ). refusedStep n p z out) (planned (planOf (decode table) s z) z out) accepted short (sym judged-coherent ∙ not-true r n) ∙ step-judged-first table s z out)
 
   pub from-ready : (index : List ℕ) → not r ≡ false → index ≡ indexOf table header → TurnReady table header index s z
   from-ready index n e = record { accepted = accepted; header-is = head-is; index-is = e; short = short; coherent′ = sym judged-coherent ∙ not-false r n }
@@ -170,25 +153,30 @@ parted head all levels bindings spaces strands en es ew =
     ∙ ap (λ (x : List ℕ). sessionOf head (levelNames all) bindings x strands) es
     ∙ ap (λ (x : List ℕ). sessionOf head (levelNames all) bindings (levelSpaces all) x) ew
 
--- the numbers and the arrays of a session, its levels joined, and what some steps make of them
-pub next-advanced : (most : ℕ) (table s : List ℕ) (z : Session) (head : Head) (all : List ℕ) (r : Advanced) (a : Answer) (z′ : Session) (levels bindings out′ out : List ℕ)
+-- the numbers and the arrays of a session, its levels joined, are it
+pub whole-session : (z : Session) (head : Head) (all : List ℕ) → head ≡ headOf z → levelNames all ≡ z .scope .levels → levelSpaces all ≡ z .spaces → levelStrands all ≡ z .strands → sessionAt head all (z .scope .bindings) ≡ z
+whole-session z head all eh en es ew =
+    ap (λ (h : Head). sessionAt h all (z .scope .bindings)) eh
+    ∙ sym (parted (headOf z) all (z .scope .levels) (z .scope .bindings) (z .spaces) (z .strands) (sym en) (sym es) (sym ew))
+
+-- what some steps make of them
+pub next-advanced : (F : Session → Step) (z : Session) (head : Head) (all : List ℕ) (r : Advanced) (a : Answer) (z′ : Session) (levels bindings out′ : List ℕ)
     → head ≡ headOf z → levelNames all ≡ z .scope .levels → levelSpaces all ≡ z .spaces → levelStrands all ≡ z .strands
     → a ≡ advancedAnswer r → z′ ≡ sessionAt (r .head) levels bindings
-    → advancedIn r levels bindings out′ ≡ advanceOf standard most table s (sessionAt head all (z .scope .bindings)) out
-    → handed (record { answer = a; session = z′ }) out′ ≡ advanceOf standard most table s z out
-next-advanced most table s z head all r a z′ levels bindings out′ out eh en es ew ea ez q =
+    → advancedIn r levels bindings out′ ≡ F (sessionAt head all (z .scope .bindings))
+    → handed (record { answer = a; session = z′ }) out′ ≡ F z
+next-advanced F z head all r a z′ levels bindings out′ eh en es ew ea ez q =
     ap (λ (x : Answer). handed (record { answer = x; session = z′ }) out′) ea
     ∙ ap (λ (x : Session). handed (record { answer = advancedAnswer r; session = x }) out′) ez
     ∙ q
-    ∙ ap (λ (h : Head). advanceOf standard most table s (sessionAt h all (z .scope .bindings)) out) eh
-    ∙ ap (λ (x : Session). advanceOf standard most table s x out) (sym (parted (headOf z) all (z .scope .levels) (z .scope .bindings) (z .spaces) (z .strands) (sym en) (sym es) (sym ew)))
+    ∙ ap F (whole-session z head all eh en es ew)
 
 -- ---- before that
 module _ (table s : List ℕ) (a : Answer) (q : a ≡ judged table) where
-  judged-zero : (a .number ≡ 0 → ⊥) → judged table .number ≡ 0 → ⊥
+  pub judged-zero : (a .number ≡ 0 → ⊥) → judged table .number ≡ 0 → ⊥
   judged-zero n e = n (ap (λ (x : Answer). x .number) q ∙ e)
 
-  number-zero : a .number ≡ 0 → judged table .number ≡ 0
+  pub number-zero : a .number ≡ 0 → judged table .number ≡ 0
   number-zero e = sym (ap (λ (x : Answer). x .number) q) ∙ e
 
   pub then-accepted : a .number ≡ 0 → Accepted table ≡ true
@@ -198,12 +186,12 @@ module _ (table s : List ℕ) (a : Answer) (q : a ≡ judged table) where
     pub advance-refused : (a .number ≡ 0 → ⊥) → b ≡ answered (a .number) (a .place) 0 0 → handed (record { answer = b; session = z }) out ≡ advanceOf standard most table s z out
     advance-refused n e =
         ap (λ (x : Answer). handed (record { answer = x; session = z }) out) (e ∙ ap (λ (x : Answer). answered (x .number) (x .place) 0 0) q)
-        ∙ first-refused most some table s z out (judged table .number) (judged table .place) (judged-zero n) (step-judged table s z out (judged-zero n))
+        ∙ first-refused most some table s z out (judged table .number) (judged table .place) (judged-zero n) (table-refused table s z (λ (n p : ℕ). refusedStep n p z out) (planned (planOf (decode table) s z) z out) (judged-zero n) ∙ step-judged-first table s z out)
 
     pub advance-too-long : a .number ≡ 0 → 16777215 < length s → b ≡ answered 7 0 0 0 → handed (record { answer = b; session = z }) out ≡ advanceOf standard most table s z out
     advance-too-long e h f =
         ap (λ (x : Answer). handed (record { answer = x; session = z }) out) f
-        ∙ first-refused most some table s z out 7 0 (λ e. absurd (omega arith)) (step-long table s z out (number-zero e) h)
+        ∙ first-refused most some table s z out 7 0 (λ e. absurd (omega arith)) (scene-refused table s z (λ (n p : ℕ). refusedStep n p z out) (planned (planOf (decode table) s z) z out) (number-zero e) h ∙ step-judged-first table s z out)
 
 pub advance-none : (table s : List ℕ) (z : Session) (out : List ℕ) (most : ℕ) (b : Answer) → most ≡ 0 → b ≡ answered 0 (z .place) 0 0 → handed (record { answer = b; session = z }) out ≡ advanceOf standard most table s z out
 unfolding advanceOf

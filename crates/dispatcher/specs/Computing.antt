@@ -8,8 +8,10 @@ use Rattle.model.specs.Computing as model
 use Rattle.strands.specs.Packed.{strandIn, packed}
 use Rattle.dispatcher.specs.Sessions.{levelUri, strandsIn, levelIn, levelsIn}
 use Rattle.dispatcher.specs.Coherence.{coherent}
+use Rattle.equality.specs.Same.{sameEach, heldLevel}
 use Rattle.dispatcher.specs.Stepping.{planOf, startPlan, stepOf, advanceOf, runOf}
+use Rattle.dispatcher.specs.Offers.{holdsSame, judgedFirst}
 
 unfoldable pub computing : Bool
-unfolding model.computing runOf advanceOf stepOf planOf startPlan coherent strandIn packed levelUri strandsIn levelIn levelsIn bindingIn nameIn opensIn closedOf overwrite isPart isWholeName
+unfolding model.computing judgedFirst holdsSame sameEach heldLevel runOf advanceOf stepOf planOf startPlan coherent strandIn packed levelUri strandsIn levelIn levelsIn bindingIn nameIn opensIn closedOf overwrite isPart isWholeName
 computing = true

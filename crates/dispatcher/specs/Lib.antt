@@ -2,7 +2,9 @@ pub mod Sessions
 pub mod Coherence
 pub mod Checks
 pub mod Stepping
+pub mod Offers
 pub mod Turns
 pub mod Computing
 pub mod CoherenceExamples
 pub mod StepExamples
+pub mod OfferExamples

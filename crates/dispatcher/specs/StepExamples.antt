@@ -78,7 +78,7 @@ unfolding computing uriSpanOf
 rejected-uri = refl
 
 -- a fresh session that has opened so many units
-abbrev having : ℕ → Session
+abbrev pub having : ℕ → Session
 having units =
     record {
       place = freshOf .place;

@@ -2,12 +2,16 @@
 mod checks;
 mod decisions;
 mod ends;
+pub mod offers;
 mod opening;
 mod planning;
 mod readings;
 mod starts;
 pub mod steps;
 
+use crate::offers::Asked;
+use crate::offers::Offer;
+use crate::offers::ask_in;
 use crate::steps::steps_from;
 use attributes::Placing;
 use lexer::Tag;
@@ -25,9 +29,10 @@ ghost use mathlib.Core.Path.{_≡_};
 ghost use Prim.Native.Nat.{_+_, _*_, _≤_};
 ghost use lib.ListN.{length};
 ghost use Rattle.table.specs.Table.{standard};
-ghost use Rattle.strands.specs.Levels.{levelFree};
+ghost use Rattle.strands.specs.Levels.{levelNames, levelSpaces, levelStrands, levelFree};
 ghost use Rattle.dispatcher.specs.Sessions.{freshOf, headOf, sessionAt};
 ghost use Rattle.dispatcher.specs.Stepping.{answered, stepOf, advanceOf, handed, runOf, ran};
+ghost use Rattle.dispatcher.specs.Offers.{askOf};
 ghost use Rattle.dispatcher.specs.Turns.{advancedAnswer, advancedIn};
 
 // Where a run over a scene is. A caller may hand in any: number 20 judges it.
@@ -143,11 +148,7 @@ impl Session {
     pub fn advance(self, table: &[u8], scene: &[u8], most: usize, out: &mut [u8]) -> Stepped
         ensures { λ r. ⌜ handed r (now (out .exit)) ≡ advanceOf standard most (now (table .entry)) (now (scene .entry)) self (now (out .entry)) ⌝ }
     {
-        let names = self.scope.levels;
-        let spaces = self.spaces;
-        let strands = self.strands;
-        let mut levels: [u32; LEVELS] = [0; LEVELS];
-        join_levels(&names, &spaces, &strands, &mut levels);
+        let mut levels = self.levels();
         let mut bindings = self.scope.bindings;
         let advanced = advance_in(
             table,
@@ -162,6 +163,36 @@ impl Session {
             answer: answer_of(advanced),
             session: Session::of(advanced.head, &levels, bindings),
         }
+    }
+
+    // What a step would answer with an output that suffices, and an offer of it. Nothing is written.
+    pub fn ask(self, table: &[u8], scene: &[u8]) -> Asked
+        ensures { λ r. ⌜ r ≡ askOf standard (now (table .entry)) (now (scene .entry)) self ⌝ }
+    {
+        let mut levels = self.levels();
+        let mut bindings = self.scope.bindings;
+        let answer = ask_in(table, scene, self.head(), &mut levels, &mut bindings);
+        Asked {
+            number: answer.number,
+            place: answer.place,
+            records: answer.records,
+            offer: Offer {
+                session: self,
+                length: scene.len(),
+            },
+        }
+    }
+
+    // Its levels in one array.
+    pub(crate) fn levels(self) -> [u32; LEVELS]
+        ensures { λ r. ⌜ (levelNames r ≡ self .scope .levels) × (levelSpaces r ≡ self .spaces) × (levelStrands r ≡ self .strands) ⌝ }
+    {
+        let names = self.scope.levels;
+        let spaces = self.spaces;
+        let strands = self.strands;
+        let mut levels: [u32; LEVELS] = [0; LEVELS];
+        join_levels(&names, &spaces, &strands, &mut levels);
+        levels
     }
 
     // Its numbers.

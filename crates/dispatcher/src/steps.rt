@@ -30,12 +30,13 @@ ghost use mathlib.Core.List.{[]};
 ghost use mathlib.Core.Bool.{true};
 ghost use Prim.Native.Nat.{_≤_};
 ghost use lib.ListN.{length};
-ghost use Rattle.table.specs.Table.{decode, headerOf, standard};
+ghost use Rattle.table.specs.Table.{tableOf, decode, headerOf, standard};
 ghost use Rattle.table.specs.Judge.{Accepted};
 ghost use Rattle.strands.specs.Levels.{levelFree};
 ghost use Rattle.dispatcher.specs.Sessions.{sessionAt};
+ghost use Rattle.dispatcher.specs.Coherence.{coherent};
 ghost use Rattle.dispatcher.specs.Stepping.{planOf, planned, advanceOf};
-ghost use Rattle.dispatcher.specs.Turns.{LoopReady, Beside, PlannedAs, stopTurn, stepIn, sessionBy, weighed, advancedIn};
+ghost use Rattle.dispatcher.specs.Turns.{turnAnswer, LoopReady, Beside, PlannedAs, stopTurn, stepIn, sessionBy, weighed, advancedIn};
 
 // A refusal: the session's numbers stay.
 pub(crate) fn stop(number: u8, place: usize, head: Head) -> Turn
@@ -331,5 +332,43 @@ pub(crate) fn steps_from(
         &mut known,
         most,
         out,
+    )
+}
+
+// What the next event of a coherent session comes to, its records counted. The arrays are those behind it.
+pub(crate) fn asked_step(
+    table: &[u8],
+    header: Header,
+    scene: &[u8],
+    head: Head,
+    levels: &mut [u32; LEVELS],
+    bindings: &mut [u32; 4 * Session::BINDINGS],
+) -> Turn
+    requires { ⌜ (Accepted (now table) ≡ true) × (header ≡ headerOf (now table)) × (length (now scene) ≤ 16777215) × (coherent (tableOf (now table) header) (now scene) (sessionAt head (now levels) (now bindings)) ≡ true) ⌝ }
+    ensures { λ r. ⌜ turnAnswer r ≡ weighed (planOf (decode (now (table .entry))) (now (scene .entry)) (sessionAt head (now (levels .entry)) (now (bindings .entry)))) (sessionAt head (now (levels .entry)) (now (bindings .entry))) .answer ⌝ }
+{
+    let index = load(table, header);
+    let mut known: [u64; 2 * Scope::KNOWN] = [0; 2 * Scope::KNOWN];
+    let opened: &[u32] = bindings;
+    put_keys(scene, opened, head.bound, 0, &mut known);
+    put_classes(table, header, scene, opened, head.bound, 0, &mut known);
+    let mut attrs: [usize; 80] = [0; 80];
+    let mut own: [u32; 64] = [0; 64];
+    let mut attributes: [u32; HELD] = [0; HELD];
+    let mut words: [u32; Session::STRANDS] = [0; Session::STRANDS];
+    let mut schemas: [u32; Session::STRANDS] = [0; Session::STRANDS];
+    weighed_step(
+        table,
+        &index,
+        scene,
+        head,
+        levels,
+        bindings,
+        &mut known,
+        &mut attrs,
+        &mut own,
+        &mut attributes,
+        &mut words,
+        &mut schemas,
     )
 }

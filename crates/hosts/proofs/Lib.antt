@@ -3,4 +3,5 @@ pub mod Answers
 pub mod Told
 pub mod HostCalls
 pub mod HostSteps
+pub mod HostCommits
 pub mod HostExamples

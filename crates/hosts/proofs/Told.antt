@@ -1,6 +1,8 @@
 -- Calls on bytes that hold a session tell what the steps and advances of that session tell, and leave bytes that hold the session behind them.
 --     Holding, fresh-holding     bytes and the session in them
+--     host-back                  a call
 --     told, told-steps           a list of calls; of calls of calcivorne_step alone
+--     told-none, told-next       by which such a list is told
 use Prim.Native.Nat.{ℕ, suc, _+_, _≤_}
 use mathlib.Core.Path.{_≡_, refl, sym, ap, subst}
 use mathlib.Core.List.{List, [], _∷_, _++_, map}
@@ -20,10 +22,11 @@ use Rattle.dispatcher.specs.Sessions.{freshOf}
 use Rattle.dispatcher.specs.Stepping.{Step}
 use Rattle.demands.specs.Calls.{stepsFrom, isAccepted, acceptedIn, recordsOf, joinedOf, AnyCall, ofStep, ofAdvance, handedBack, callsFrom, eventsIn, allRecords}
 use Rattle.demands.proofs.Steps.{asCalls, as-steps}
-use Rattle.capi.specs.Layout.{sessionSize, sessionIn, holdsSession, sessionBytes}
-use Rattle.capi.specs.Calls.{answerNumbers, byteStep, byteAdvance, bytesBehind, tooShort}
-use Rattle.capi.proofs.RoundTrip.{Storable, AllPack, size, fresh-held}
-use Rattle.capi.proofs.NextStored.{stored-read, stored-held}
+use Rattle.layout.specs.Layout.{sessionSize, sessionIn, holdsSession, sessionBytes}
+use Rattle.layout.specs.Answers.{answerNumbers, bytesBehind, tooShort}
+use Rattle.layout.proofs.RoundTrip.{Storable, AllPack, size, fresh-held}
+use Rattle.layout.proofs.NextStored.{stored-read, stored-held}
+use Rattle.capi.specs.Calls.{byteStep, byteAdvance}
 use Rattle.hosts.specs.Calls.{HostStep, HostCall, hostFresh, hostStep, hostSteps, callsOf, gaveZero, acceptedBy, recordsBy, joinedBy, hostAdvance, AnyHostCall, anyCallsOf, hostBack, hostCalls, eventsBy, allRecordsBy}
 use Rattle.hosts.proofs.Answers.{Answers, answers}
 
@@ -58,15 +61,15 @@ module _ (b : List ℕ) (long : sessionSize ≤ length b) where
   fresh-length = rw (le-ltb (length b) sessionSize long) (laid-length b long freshOf (fresh-held .0) (fresh-held .1))
 
 -- ---- a call
--- what it tells of a step or an advance, and the bytes that it leaves
-abbrev telling : Step → List ℕ → HostStep
+-- what it tells of what a session's call hands back, and the bytes that it leaves
+abbrev pub telling : Step → List ℕ → HostStep
 telling r b = record { number = r .answer .number; answer = answerNumbers (r .answer); output = r .output; session = b }
 
-module _ (table b : List ℕ) (z : Session) (h : Holding b z) where
-  host-back : (c : AnyCall) (answer : List ℕ) → hostBack table b c answer ≡ telling (handedBack table z c) (bytesBehind b (handedBack table z c))
+module _ (b : List ℕ) (z : Session) (h : Holding b z) where
+  pub host-back : (table : List ℕ) (c : AnyCall) (answer : List ℕ) → hostBack table b c answer ≡ telling (handedBack table z c) (bytesBehind b (handedBack table z c))
   unfolding hostStep byteStep hostAdvance byteAdvance
-  host-back (ofStep c) answer = rw (le-ltb (length b) sessionSize (h .long), h .held, h .read)
-  host-back (ofAdvance most c) answer = rw (le-ltb (length b) sessionSize (h .long), h .held, h .read)
+  host-back table (ofStep c) answer = rw (le-ltb (length b) sessionSize (h .long), h .held, h .read)
+  host-back table (ofAdvance most c) answer = rw (le-ltb (length b) sessionSize (h .long), h .held, h .read)
 
   module _ (r : Step) (a : Answers z r) where
     behind-holding : Holding (bytesBehind b r) (r .session)
@@ -90,7 +93,7 @@ pub record Told (n : ℕ) (hs : List HostStep) (rs : List Step) : Type 0 where
   pub numbers : All (λ (r : Step). r .answer .number ≡ 20 → ⊥) rs → All (λ (r : HostStep). (r .number ≡ 20 → ⊥) × (r .number ≡ tooShort → ⊥)) hs
   pub lengths : All (λ (r : HostStep). length (r .session) ≡ n) hs
 
-told-more : (n : ℕ) (r : Step) (b : List ℕ) (hs : List HostStep) (rs : List Step) → r .answer .number ≤ 25 → length b ≡ n → Told n hs rs → Told n (telling r b ∷ hs) (r ∷ rs)
+told-more : (n : ℕ) (r : Step) (b : List ℕ) (hs : List HostStep) (rs : List Step) → r .answer .number ≤ 30 → length b ≡ n → Told n hs rs → Told n (telling r b ∷ hs) (r ∷ rs)
 unfolding joinedBy joinedOf keep gather eventsBy eventsIn total allRecordsBy allRecords
 told-more n r b hs rs few l h =
     record {
@@ -110,16 +113,26 @@ told-more n r b hs rs few l h =
     join true = ap (λ (l : List ℕ). recordsOf r ++ l) (h .joined)
     join false = h .joined
 
+pub told-none : (n : ℕ) → Told n [] []
+unfolding joinedBy joinedOf keep gather eventsBy eventsIn total allRecordsBy allRecords
+told-none n = record { accepted = refl; joined = refl; events = refl; records = refl; numbers = λ k. tt; lengths = tt }
+
+-- a call x that tells of r, and those behind it
+pub told-next : (b : List ℕ) (z : Session) → Holding b z → (r : Step) → Answers z r → (x : HostStep) → x ≡ telling r (bytesBehind b r) → (hs : List ℕ → List HostStep) (rs : List Step)
+    → ((l : List ℕ) → Holding l (r .session) → Told (length l) (hs l) rs) → Told (length b) (x ∷ hs (x .session)) (r ∷ rs)
+told-next b z h r a x e hs rs more =
+    let behind = bytesBehind b r in
+    let l : length behind ≡ length b = behind-length b z h r a in
+    let ih : Told (length b) (hs behind) rs = rw (← l) (more behind (behind-holding b z h r a)) in
+    rw e (told-more (length b) r behind (hs behind) rs (a .few) l ih)
+
 pub told : (table : List ℕ) (calls : List AnyHostCall) (b : List ℕ) (z : Session) → Holding b z → Told (length b) (hostCalls table b calls) (callsFrom table z (anyCallsOf calls))
-unfolding hostCalls callsFrom joinedBy joinedOf keep gather eventsBy eventsIn total allRecordsBy allRecords
-told table [] b z h = record { accepted = refl; joined = refl; events = refl; records = refl; numbers = λ k. tt; lengths = tt }
+unfolding hostCalls callsFrom
+told table [] b z h = told-none (length b)
 told table (c ∷ cs) b z h =
     let r = handedBack table z (c .call) in
-    let a = answers table z (c .call) in
-    let behind = bytesBehind b r in
-    let l : length behind ≡ length b = behind-length table b z h r a in
-    let ih : Told (length b) (hostCalls table behind cs) (callsFrom table (r .session) (anyCallsOf cs)) = rw (← l) (told table cs behind (r .session) (behind-holding table b z h r a)) in
-    rw (host-back table b z h (c .call) (c .answer)) (told-more (length b) r behind (hostCalls table behind cs) (callsFrom table (r .session) (anyCallsOf cs)) (a .few) l ih)
+    told-next b z h r (answers table z (c .call)) (hostBack table b (c .call) (c .answer)) (host-back b z h table (c .call) (c .answer)) (λ (l : List ℕ). hostCalls table l cs) (callsFrom table (r .session) (anyCallsOf cs))
+    (λ l k. told table cs l (r .session) k)
 
 -- ---- calls each of which is a step
 abbrev asHostCalls : List HostCall → List AnyHostCall

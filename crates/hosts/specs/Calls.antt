@@ -10,8 +10,9 @@ use Rattle.laws.specs.Gather.{gather, total}
 use Rattle.laws.specs.Over.{overwrite}
 use Rattle.dispatcher.specs.Sessions.{freshOf}
 use Rattle.demands.specs.Calls.{Call, AnyCall, ofStep, ofAdvance}
-use Rattle.capi.specs.Layout.{sessionSize, sessionBytes}
-use Rattle.capi.specs.Calls.{answerNumbers, byteStep, byteAdvance, bytesBehind, tooShort}
+use Rattle.layout.specs.Layout.{sessionSize, sessionBytes}
+use Rattle.layout.specs.Answers.{answerNumbers, bytesBehind, tooShort}
+use Rattle.capi.specs.Calls.{byteStep, byteAdvance}
 
 -- What calcivorne_fresh hands back: the number that it returns, and the session's bytes
 pub record HostFresh : Type 0 where

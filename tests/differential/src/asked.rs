@@ -2,7 +2,7 @@
 
 use crate::calls::{self, Four, Lent};
 use crate::layout;
-use reference::{Answer, Forecast, Record, Session};
+use reference::{Answer, Asked, Forecast, Offer, Record, Session};
 
 /// An output for the records of any event of the vectors.
 const LARGE: usize = 1 << 20;
@@ -15,23 +15,63 @@ pub fn judge(table: &[u8]) -> Answer {
 pub fn run(table: &[u8], scene: &[u8], out_len: usize) -> (Answer, Vec<u8>) {
     let mut out = Lent::patterned(out_len);
     let answer = answer(calls::run(table, scene, &mut out));
-    let written = written(&answer, &out);
+    let written = written(&answer, &out, calls::keeps_pattern);
     (answer, written)
 }
 
 /// One step from a session that has bytes; with another number than 0 they have kept their values.
 pub fn step(table: &[u8], scene: &[u8], session: &Session, out_len: usize) -> (Answer, Session, Vec<u8>) {
-    let bytes = layout::encode(session).expect("a session that has bytes");
+    let call = |session: &mut Lent, out: &mut Lent| calls::step(table, scene, session, out);
+    stepped(session, Lent::patterned(out_len), calls::keeps_pattern, call)
+}
+
+/// What a step, or a commit that is one, makes of a session and an output; `kept` tells whether that is as it was from an offset on.
+fn stepped(
+    session: &Session,
+    mut out: Lent,
+    kept: impl Fn(&[u8], usize) -> bool,
+    call: impl FnOnce(&mut Lent, &mut Lent) -> (u8, Four),
+) -> (Answer, Session, Vec<u8>) {
+    let bytes = encoded(session);
     let mut lent = Lent::new(&bytes);
-    let mut out = Lent::patterned(out_len);
-    let answer = answer(calls::step(table, scene, &mut lent, &mut out));
-    let written = written(&answer, &out);
+    let answer = answer(call(&mut lent, &mut out));
+    let written = written(&answer, &out, kept);
     if answer.number != 0 {
-        assert!(lent.content() == bytes, "a refused step changed the session");
+        assert!(lent.content() == bytes, "a refused call changed the session");
         return (answer, session.clone(), written);
     }
     let next = layout::decode(lent.content()).expect("the bytes hold a session");
     (answer, next, written)
+}
+
+/// Number, place, records and the offer; the session's bytes have kept their values.
+pub fn ask(table: &[u8], scene: &[u8], session: &Session) -> Asked {
+    let bytes = encoded(session);
+    let mut lent = Lent::new(&bytes);
+    let mut offer = Lent::patterned(calls::offer_size());
+    let answer = answer(calls::ask(table, scene, &mut lent, &mut offer));
+    assert!(lent.content() == bytes, "an ask changed the session");
+    assert_eq!(answer.events, 0, "the third number of an ask");
+    Asked {
+        number: answer.number,
+        place: answer.place,
+        records: answer.records,
+        offer: layout::decode_offer(offer.content()).expect("the bytes hold an offer"),
+    }
+}
+
+/// What page N6's outputs hold before a call.
+const LENT: u8 = 0xEE;
+
+/// A commit of an offer and from a session that have bytes; the offer's have kept their values, and the session's as with a step.
+pub fn commit(offer: &Offer, session: &Session, table: &[u8], scene: &[u8], out_len: usize) -> (Answer, Session, Vec<u8>) {
+    let bytes = layout::encode_offer(offer).expect("an offer that has bytes");
+    let mut lent = Lent::new(&bytes);
+    let kept = |out: &[u8], from: usize| out[from..].iter().all(|&byte| byte == LENT);
+    let call = |session: &mut Lent, out: &mut Lent| calls::commit(&mut lent, session, table, scene, out);
+    let given = stepped(session, Lent::new(&vec![LENT; out_len]), kept, call);
+    assert!(lent.content() == bytes, "a commit changed the offer");
+    given
 }
 
 /// Whether a step with an accepted table does not answer 20.
@@ -84,6 +124,11 @@ pub fn forecast(table: &[u8], scene: &[u8]) -> Forecast {
     }
 }
 
+/// The bytes of a session that has some.
+pub fn encoded(session: &Session) -> Vec<u8> {
+    layout::encode(session).expect("a session that has bytes")
+}
+
 /// A fresh session's bytes.
 pub fn fresh() -> Vec<u8> {
     let mut session = Lent::patterned(calls::session_size());
@@ -102,10 +147,10 @@ pub fn answer((number, four): (u8, Four)) -> Answer {
     }
 }
 
-fn written(answer: &Answer, out: &Lent) -> Vec<u8> {
+fn written(answer: &Answer, out: &Lent, kept: impl Fn(&[u8], usize) -> bool) -> Vec<u8> {
     let out = out.content();
     let len = 16 * answer.records as usize;
     assert!(len <= out.len(), "{answer:?} counts more records than the output holds");
-    assert!(calls::keeps_pattern(out, len), "output behind the records was written");
+    assert!(kept(out, len), "output behind the records was written");
     out[..len].to_vec()
 }

@@ -1,4 +1,5 @@
-//! The C calls with slices. Every slice that may be written is lent from the middle of a longer buffer whose borders are looked at afterwards.
+//! The C calls with slices. Every slice that may be written, and sessions and offers in any case, is lent from the middle of a longer buffer whose
+//! borders are looked at afterwards.
 
 /// Number, place, events, records.
 pub type Four = [u64; 4];
@@ -51,6 +52,31 @@ extern "C" {
         span: *mut u64,
     ) -> u8;
     fn calcivorne_forecast(table: *const u8, table_len: usize, scene: *const u8, scene_len: usize, figures: *mut u64) -> u8;
+    fn calcivorne_offer_size() -> u64;
+    fn calcivorne_ask(
+        table: *const u8,
+        table_len: usize,
+        scene: *const u8,
+        scene_len: usize,
+        session: *const u8,
+        session_len: usize,
+        offer: *mut u8,
+        offer_len: usize,
+        answer: *mut u64,
+    ) -> u8;
+    fn calcivorne_commit(
+        offer: *const u8,
+        offer_len: usize,
+        session: *mut u8,
+        session_len: usize,
+        table: *const u8,
+        table_len: usize,
+        scene: *const u8,
+        scene_len: usize,
+        out: *mut u8,
+        out_len: usize,
+        answer: *mut u64,
+    ) -> u8;
 }
 
 /// A buffer to lend, with borders.
@@ -206,4 +232,48 @@ pub fn forecast(table: &[u8], scene: &[u8]) -> (u8, Six) {
     let [before, figures @ .., behind] = lent;
     assert_eq!([before, behind], [UNWRITTEN; 2], "a number beside the figures was written");
     (number, figures)
+}
+
+pub fn offer_size() -> usize {
+    unsafe { calcivorne_offer_size() as usize }
+}
+
+pub fn ask(table: &[u8], scene: &[u8], session: &mut Lent, offer: &mut Lent) -> (u8, Four) {
+    let mut answer = NO_ANSWER;
+    let (session, offer) = (session.slice(), offer.slice());
+    let number = unsafe {
+        calcivorne_ask(
+            table.as_ptr(),
+            table.len(),
+            scene.as_ptr(),
+            scene.len(),
+            session.as_mut_ptr(),
+            session.len(),
+            offer.as_mut_ptr(),
+            offer.len(),
+            answer.as_mut_ptr(),
+        )
+    };
+    (number, answer)
+}
+
+pub fn commit(offer: &mut Lent, session: &mut Lent, table: &[u8], scene: &[u8], out: &mut Lent) -> (u8, Four) {
+    let mut answer = NO_ANSWER;
+    let (offer, session, out) = (offer.slice(), session.slice(), out.slice());
+    let number = unsafe {
+        calcivorne_commit(
+            offer.as_mut_ptr(),
+            offer.len(),
+            session.as_mut_ptr(),
+            session.len(),
+            table.as_ptr(),
+            table.len(),
+            scene.as_ptr(),
+            scene.len(),
+            out.as_mut_ptr(),
+            out.len(),
+            answer.as_mut_ptr(),
+        )
+    };
+    (number, answer)
 }

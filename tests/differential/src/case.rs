@@ -64,9 +64,17 @@ pub fn hex(bytes: &[u8]) -> String {
     text
 }
 
-/// A session's bytes without the zeros: pieces as offset and hexadecimal.
 pub fn session_text(bytes: &[u8]) -> String {
-    let mut text = String::from("session:");
+    pieces("session", bytes)
+}
+
+pub fn offer_text(bytes: &[u8]) -> String {
+    pieces("offer", bytes)
+}
+
+/// Bytes without the zeros: pieces as offset and hexadecimal.
+fn pieces(name: &str, bytes: &[u8]) -> String {
+    let mut text = format!("{name}:");
     for (index, piece) in bytes.chunks(16).enumerate().filter(|(_, piece)| piece.iter().any(|&byte| byte != 0)) {
         let _ = write!(text, "\n    {:5}: {}", 16 * index, hex(piece));
     }

@@ -1,11 +1,11 @@
 //! Both asked, everything compared. Each function hands back what both said.
 
 use crate::asked;
-use crate::calls::{self, Lent};
-use crate::case::{session_text, Case};
+use crate::calls::{self, Four, Lent};
+use crate::case::{offer_text, session_text, Case};
 use crate::layout;
 use reference::limits;
-use reference::{Answer, EventCounts, Forecast, Session};
+use reference::{Answer, EventCounts, Forecast, Offer, Session};
 
 pub fn judge(case: &Case) -> Answer {
     let answer = asked::judge(case.table);
@@ -81,11 +81,24 @@ pub fn step(case: &Case, session: &mut Vec<u8>, out_len: usize) -> (Answer, Vec<
 
 /// The dispatcher's step against an answer, the next session (with number 0) and the records.
 pub fn step_as(case: &Case, session: &mut Vec<u8>, out_len: usize, expected: Answer, next: Option<&Session>, records: &[u8]) {
+    let call = |session: &mut Lent, out: &mut Lent| calls::step(case.table, case.scene, session, out);
+    called_as(case, || "step".into(), session, out_len, (expected, next, records), call);
+}
+
+/// A step, or a commit that is one.
+fn called_as(
+    case: &Case,
+    name: impl Fn() -> String,
+    session: &mut Vec<u8>,
+    out_len: usize,
+    (expected, next, records): (Answer, Option<&Session>, &[u8]),
+    call: impl FnOnce(&mut Lent, &mut Lent) -> (u8, Four),
+) {
     let before = session.clone();
-    let more = || format!("step with an output of {out_len} bytes, {}", session_text(&before));
+    let more = || format!("{} with an output of {out_len} bytes, {}", name(), session_text(&before));
     let mut lent = Lent::new(session);
     let mut out = Lent::patterned(out_len);
-    let answer = asked::answer(calls::step(case.table, case.scene, &mut lent, &mut out));
+    let answer = asked::answer(call(&mut lent, &mut out));
     case.same("number, place, events, records", &expected, &answer, more);
     case.same_bytes("output", &filled(out_len, records), out.content(), more);
     let after = lent.content();
@@ -94,9 +107,60 @@ pub fn step_as(case: &Case, session: &mut Vec<u8>, out_len: usize, expected: Ans
             case.same("next session", &next.cloned(), &layout::decode(after), more);
             case.same_bytes("bytes behind the session", &before[layout::SIZE..], &after[layout::SIZE..], more);
         }
-        _ => case.same_bytes("session of a refused step", &before, after, more),
+        _ => case.same_bytes("session of a refused call", &before, after, more),
     }
     *session = after.to_vec();
+}
+
+/// More than an offer, to see what stands behind it.
+const OFFER_SLICE: usize = layout::OFFER_SIZE + 9;
+
+/// An ask about bytes, and the bytes of its offer: those of the session and the scene's length, whatever the number.
+pub fn ask(case: &Case, session: &[u8]) -> (Answer, Vec<u8>) {
+    let more = || format!("ask, {}", session_text(session));
+    let (mut lent, mut offer) = (Lent::new(session), Lent::patterned(OFFER_SLICE));
+    let answer = asked::answer(calls::ask(case.table, case.scene, &mut lent, &mut offer));
+    let (expected, offered) = expected_ask(case, session);
+    case.same("number, place, 0, records", &expected, &answer, more);
+    case.same("offer", &offered, &layout::decode_offer(offer.content()), more);
+    let bytes = layout::offer_of(session, case.scene.len());
+    case.same_bytes("offer", &filled(OFFER_SLICE, &bytes), offer.content(), more);
+    case.same_bytes("session of an ask", session, lent.content(), more);
+    (expected, bytes)
+}
+
+fn expected_ask(case: &Case, session: &[u8]) -> (Answer, Option<Offer>) {
+    let Some(held) = layout::decode(session) else {
+        return (refused(case), None);
+    };
+    let asked = reference::ask(case.table, case.scene, &held);
+    let bare = Answer::bare(asked.number, asked.place);
+    let records = asked.records;
+    (Answer { records, ..bare }, Some(asked.offer))
+}
+
+/// A commit of an offer's bytes from those of a session, which become those of the next one: what the reference's commit says of what they hold.
+pub fn commit(case: &Case, offer: &[u8], session: &mut Vec<u8>, out_len: usize) -> (Answer, Vec<u8>) {
+    let (expected, next, records) = expected_commit(case, offer, session, out_len);
+    let mut lent = Lent::new(offer);
+    let call = |session: &mut Lent, out: &mut Lent| calls::commit(&mut lent, session, case.table, case.scene, out);
+    let name = || format!("commit, {}\n ", offer_text(offer));
+    called_as(case, name, session, out_len, (expected, next.as_ref(), &records), call);
+    case.same_bytes("offer of a commit", offer, lent.content(), name);
+    (expected, records)
+}
+
+/// Bytes that hold no offer are answered 30, in its rank, as one is that differs.
+fn expected_commit(case: &Case, offer: &[u8], session: &[u8], out_len: usize) -> (Answer, Option<Session>, Vec<u8>) {
+    let Some(held) = layout::decode(session) else {
+        return (refused(case), None, Vec::new());
+    };
+    let offer = layout::decode_offer(offer).unwrap_or(Offer {
+        session: held.clone(),
+        length: case.scene.len() + 1,
+    });
+    let (answer, next, records) = reference::commit(&offer, &held, case.table, case.scene, out_len);
+    (answer, Some(next), records)
 }
 
 /// One advance from bytes, which become those of the next session: what as many calls of `step` say, and every byte that they leave.

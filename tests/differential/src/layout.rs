@@ -1,6 +1,6 @@
-//! A session in bytes, as include/calcivorne.h and docs/SESSION.md lay it out.
+//! A session in bytes, as include/calcivorne.h and docs/SESSION.md lay it out; and an offer.
 
-use reference::{Action, Binding, Level, Session, Span, Strand};
+use reference::{Action, Binding, Level, Offer, Session, Span, Strand};
 
 pub const SIZE: usize = 7_208;
 pub const VERSION: usize = 0;
@@ -15,6 +15,12 @@ pub const BOUND: usize = 32;
 pub const DECLARATIONS: usize = 64;
 pub const LEVELS: usize = 64;
 pub const STRANDS: usize = 16;
+
+/// Where an offer has what; its version is its first byte.
+pub const OFFER_RESERVED: usize = 1;
+pub const OFFER_LENGTH: usize = 8;
+pub const OFFER_SESSION: usize = 16;
+pub const OFFER_SIZE: usize = OFFER_SESSION + SIZE;
 
 /// Where a level has what.
 pub const LEVEL_NAME: usize = 0;
@@ -108,6 +114,30 @@ pub fn decode(bytes: &[u8]) -> Option<Session> {
         awaited: bytes[AWAITED] == 1,
         bindings: (0..bound).map(|index| get_binding(bytes, index)).collect(),
         levels: (0..depth).map(|index| get_level(bytes, index)).collect::<Option<_>>()?,
+    })
+}
+
+/// The bytes of an offer of these bytes of a session, whatever they hold.
+pub fn offer_of(session: &[u8], length: usize) -> Vec<u8> {
+    let mut bytes = vec![0; OFFER_SESSION];
+    bytes[VERSION] = 1;
+    put8(&mut bytes, OFFER_LENGTH, length as u64);
+    bytes.extend(&session[..SIZE]);
+    bytes
+}
+
+pub fn encode_offer(offer: &Offer) -> Option<Vec<u8>> {
+    Some(offer_of(&encode(&offer.session)?, offer.length))
+}
+
+/// The offer of bytes, if they hold one. None too where its session is none that `decode` gives: no session that 20 lets pass is like that.
+pub fn decode_offer(bytes: &[u8]) -> Option<Offer> {
+    if bytes.len() < OFFER_SIZE || bytes[VERSION] != 1 || !zero(&bytes[OFFER_RESERVED..OFFER_LENGTH]) {
+        return None;
+    }
+    Some(Offer {
+        session: decode(&bytes[OFFER_SESSION..])?,
+        length: get8(bytes, OFFER_LENGTH) as usize,
     })
 }
 

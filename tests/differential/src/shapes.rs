@@ -1,10 +1,14 @@
 //! Document 01's tables, and scenes of the shapes at the limits.
 
-use reference::generate::{damaged_scene, pack, rule, scene, scene_of, script_scene, script_soup, Plan, Profile, Random};
+use reference::generate::{self, damaged_scene, damaged_table, many_units, misc_scene, soup};
+use reference::generate::{pack, rule, scene, scene_of, script_scene, script_soup, Plan, Profile, Random};
 use reference::table::{Rule, ANY, ELEMENT_SECTION};
 use reference::{plus, Action};
 
 pub const SAMPLE: &[u8] = b"<r xmlns=\"u\">a<x/></r>";
+
+/// The length of the longest scene.
+pub const LONGEST: usize = 16_777_215;
 
 /// Document 01's T.
 pub fn t() -> Vec<u8> {
@@ -192,5 +196,24 @@ pub fn any_scene(random: &mut Random, table: &[u8], seed: u64) -> Vec<u8> {
         }
         4 => script_scene(random),
         _ => scene(random, table),
+    }
+}
+
+/// A table and a scene that may meet any number; half of them are damaged. By number 7 the scene is too long, by 24 it has about 65,536 units.
+pub fn any_case(random: &mut Random, number: u64) -> (Vec<u8>, Vec<u8>) {
+    let table = generate::table(random);
+    match number {
+        7 => return (table, vec![b' '; LONGEST + random.between(1, 9)]),
+        24 => return many_units(&(0..60).map(|_| random.below(20).min(16)).collect::<Vec<usize>>()),
+        _ => {}
+    }
+    let whole = scene(random, &table);
+    match random.below(13) {
+        0 => (damaged_table(random, &table), whole),
+        1..=5 => (table, damaged_scene(random, &whole)),
+        6 => (table, misc_scene(random)),
+        7 => (table, soup(random)),
+        8 => (table, scripted(random)),
+        _ => (table, whole),
     }
 }

@@ -3,12 +3,11 @@
 
 use differential::calls::{self, Lent};
 use differential::layout;
-use differential::shapes::{alternating, bound, every_change, scripted, shaped, small, t, t2, validating};
+use differential::shapes::{alternating, any_case, bound, every_change, shaped, small, t, t2, validating, LONGEST};
 use differential::{asked, checked, Case, Pace};
-use reference::generate::{damaged_scene, damaged_table, many_units, misc_scene, numbered_case, scene, soup, table, Random};
+use reference::generate::{damaged_scene, many_units, numbered_case, table, Random};
 use reference::Forecast;
 
-const LONGEST: usize = 16_777_215;
 /// Far less than the longest scenes take.
 const SMALL_STACK: usize = 1 << 18;
 
@@ -23,30 +22,11 @@ fn figures(number: u8, place: usize, [records, units, strands, depth]: [u64; 4])
     }
 }
 
-/// Half of them damaged; of a thousand, one with too long a scene and one with about 65,536 units.
-fn some_case(random: &mut Random, seed: u64) -> (Vec<u8>, Vec<u8>) {
-    let table = table(random);
-    match seed % 1_000 {
-        7 => return (table, vec![b' '; LONGEST + random.between(1, 9)]),
-        24 => return many_units(&(0..60).map(|_| random.below(20).min(16)).collect::<Vec<usize>>()),
-        _ => {}
-    }
-    let whole = scene(random, &table);
-    match random.below(13) {
-        0 => (damaged_table(random, &table), whole),
-        1..=5 => (table, damaged_scene(random, &whole)),
-        6 => (table, misc_scene(random)),
-        7 => (table, soup(random)),
-        8 => (table, scripted(random)),
-        _ => (table, whole),
-    }
-}
-
 #[test]
 fn random_scenes_of_every_number() {
     let mut pace = Pace::new("forecasts: random, every number", 6);
     while let Some(seed) = pace.next_seed() {
-        let (table, scene) = some_case(&mut Random::new(seed), seed);
+        let (table, scene) = any_case(&mut Random::new(seed), seed % 1_000);
         pace.met(checked::forecast(&Case::new("random forecast", seed, &table, &scene)).number);
     }
     pace.finish(&[1, 2, 3, 4, 5, 6, 7, 9, 10, 11, 12, 21, 22, 23, 24]);

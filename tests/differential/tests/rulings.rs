@@ -1,5 +1,5 @@
-//! The reference's own vectors, unchanged, asked of the dispatcher: judge, run, step, uri, forecast, coherent, session_after and program are those of
-//! `differential` here.
+//! The reference's own vectors, unchanged, asked of the dispatcher: judge, run, step, uri, forecast, ask, commit, coherent, session_after and program
+//! are those of `differential` here.
 //! rustfmt must leave the reference's files alone.
 
 extern crate differential as reference;
@@ -28,6 +28,9 @@ mod n03;
 #[path = "../../reference/tests/rulings/n04.rs"]
 #[rustfmt::skip]
 mod n04;
+#[path = "../../reference/tests/rulings/n06.rs"]
+#[rustfmt::skip]
+mod n06;
 #[path = "../../reference/tests/rulings/names.rs"]
 #[rustfmt::skip]
 mod names;
@@ -54,4 +57,5 @@ mod tables;
 #[test]
 fn the_dispatcher_is_asked() {
     assert_eq!(reference::calls::session_size(), reference::layout::SIZE);
+    assert_eq!(reference::calls::offer_size(), reference::layout::OFFER_SIZE);
 }

@@ -1,11 +1,13 @@
 //! Sessions that no call handed back: one change for each clause of 20, flipped bits, bytes that hold no session, odd but coherent ones, sessions
 //! given to another table or scene, slices of another length, spans that cut characters; given to step and to advance.
 
+use differential::asked::encoded;
 use differential::calls::{self, Lent, NO_ANSWER};
+use differential::held::{change_past_counts, held, no_session};
 use differential::layout::{self, declaration, level, put4, put8, strand};
-use differential::shapes::{bound, former, k, shaped, t, t2, table, validating};
+use differential::shapes::{bound, former, k, t, t2, table, validating};
 use differential::{asked, checked, Case, Pace};
-use reference::generate::{damaged_scene, damaged_table, numbered_case, odd_session, rule, scene, script_scene, Random};
+use reference::generate::{damaged_scene, damaged_table, numbered_case, odd_session, rule, script_scene, Random};
 use reference::{session_after, Action, Session, Span};
 
 const AMPLE: usize = 1 << 16;
@@ -21,10 +23,6 @@ fn two() -> Vec<u8> {
 /// Inside the root's child: two declarations, two levels, one unit.
 fn base() -> Vec<u8> {
     encoded(&session_after(&two(), SCENE, 2))
-}
-
-fn encoded(session: &Session) -> Vec<u8> {
-    layout::encode(session).expect("a session that has bytes")
 }
 
 /// Offset in SCENE, and length.
@@ -328,23 +326,6 @@ fn clause_flags() {
     assert_eq!(fresh(0, 0), 0);
 }
 
-/// Changes after which bytes hold no session, wherever the level stands.
-fn no_session(bytes: &mut [u8], random: &mut Random) {
-    let (index, number) = (random.below(64), random.below(16));
-    let word = strand(index, number);
-    match random.below(9) {
-        0 => bytes[layout::VERSION] = *random.pick(&[0, 2, 3, 129, 255]),
-        1 => bytes[layout::CLOSED] = random.between(2, 255) as u8,
-        2 => bytes[layout::AWAITED] = random.between(2, 255) as u8,
-        3 => bytes[random.between(layout::RESERVED, 7)] = random.between(1, 255) as u8,
-        4 => bytes[level(index) + layout::LEVEL_RESERVED + random.below(4)] = random.between(1, 255) as u8,
-        5 => bytes[word] |= 3 << 5,
-        6 => put4(bytes, word, (random.below(3) << 5 | random.between(1, 0xFFFF) << 9) as u64),
-        7 => bytes[word + 3] |= 2 << random.below(7),
-        _ => put4(bytes, word, u32::MAX as u64),
-    }
-}
-
 /// Each kind of them at open and at closed levels.
 #[test]
 fn every_form_that_holds_no_session() {
@@ -451,20 +432,6 @@ fn go_on(pace: &mut Pace, random: &mut Random, case: &Case, mut bytes: Vec<u8>) 
             break;
         }
     }
-}
-
-/// A table, a scene and a session behind some of its events; half of them of the shapes at the limits, some in other scripts.
-fn held(seed: u64) -> (Random, Vec<u8>, Vec<u8>, Session) {
-    let mut random = Random::new(seed);
-    let table = reference::generate::table(&mut random);
-    let scene = match seed % 4 {
-        0 | 2 => shaped(&mut random, &table, seed / 2 % 7),
-        1 => script_scene(&mut random),
-        _ => scene(&mut random, &table),
-    };
-    let accepted = reference::accepted_events(&table, &scene);
-    let session = session_after(&table, &scene, random.below(accepted + 1));
-    (random, table, scene, session)
 }
 
 #[test]
@@ -578,22 +545,7 @@ fn bytes_past_the_counts() {
     for seed in 0..300 {
         let (mut random, table, scene, session) = held(seed);
         let mut bytes = encoded(&session);
-        for index in session.bindings.len()..64 {
-            (0..16).for_each(|at| bytes[declaration(index) + at] = random.below(256) as u8);
-        }
-        for index in 0..64 {
-            let used = session.levels.get(index).map_or(0, |level| level.strands.len());
-            if index >= session.levels.len() {
-                (0..28).for_each(|at| bytes[level(index) + at] = random.below(256) as u8);
-            }
-            for number in used..16 {
-                put4(
-                    &mut bytes,
-                    strand(index, number),
-                    (random.below(32) | random.below(3) << 5 | 1 << 8 | random.below(65_536) << 9) as u64,
-                );
-            }
-        }
+        change_past_counts(&mut random, &mut bytes, &session);
         assert_eq!(layout::decode(&bytes), Some(session));
         go_on(&mut pace, &mut random, &Case::new("past the counts", seed, &table, &scene), bytes);
     }

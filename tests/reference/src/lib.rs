@@ -1,7 +1,8 @@
 //! A tree-building implementation of document 01, the Rig scene section dispatcher.
 //!
-//! It was written from document 01, requests N1 to N4 of document 02 and their rulings alone, to
-//! be matched byte for byte with the dispatcher. The way a scene goes:
+//! It was written from document 01, requests N1 to N6 of document 02 and their rulings alone, to
+//! be matched byte for byte with the dispatcher. N5 alters nothing that is handed back, so that
+//! nothing was to be done for it. The way a scene goes:
 //!
 //! 1. `characters`, `lexical`, `misc` and `reader`: the whole scene becomes a list of events;
 //! 2. `tree`: the events become a tree, closed at the cut;
@@ -17,7 +18,7 @@
 //!
 //! No session and no step takes part in that. `session` derives the session after some accepted
 //! steps from the tree's open path; `step` stands apart from the model and is there only for
-//! sessions that no scene leads to.
+//! sessions that no scene leads to, and `offers` for request N6 on top of it.
 
 pub mod answer;
 pub mod characters;
@@ -29,6 +30,7 @@ pub mod limits;
 mod misc;
 pub mod model;
 pub mod names;
+pub mod offers;
 pub mod prefixes;
 pub mod program;
 pub mod reader;
@@ -47,6 +49,7 @@ pub use answer::Answer;
 pub use defaults::{plus, Defaults, REJECT};
 pub use forecast::{forecast, forecast_by_event, record_bound, EventCounts, Forecast};
 pub use forecast::{forecast_by_event_under, forecast_under};
+pub use offers::{ask, commit, Asked, Offer};
 pub use prefixes::{accepted_events, prefix_records, records_by_event, records_of_event};
 pub use prefixes::{accepted_events_under, records_by_event_under};
 pub use program::{program, program_under};

@@ -11,10 +11,11 @@ use reference::generate::{
 };
 use reference::table::{self, ANY};
 use reference::{
-    accepted_events, accepted_events_under, coherent, events, forecast_by_event,
+    accepted_events, accepted_events_under, coherent, commit, events, forecast_by_event,
     forecast_by_event_under, judge, plus, prefix_records, program, program_under, records_by_event,
     records_by_event_under, records_of_event, run, run_under, session_after, session_after_under,
-    step, step_under, Action, Answer, Defaults, EventCounts, Forecast, Record, Session, REJECT,
+    step, step_under, Action, Answer, Defaults, EventCounts, Forecast, Offer, Record, Session,
+    REJECT,
 };
 use std::collections::BTreeMap;
 
@@ -298,6 +299,39 @@ fn odd_sessions() {
         "{fine} of {asked}"
     );
     assert!(went_on * 4 > asked, "{went_on} of {asked}");
+}
+
+/// A commit is the step where that is refused before 30 or where the offer is as it should be.
+#[test]
+fn commits_are_steps_or_refused() {
+    let mut met = BTreeMap::new();
+    for (mut random, table, scene) in cases(CASES) {
+        let accepted = accepted_events(&table, &scene);
+        let reached = session_after(&table, &scene, random.below(accepted + 1));
+        for _ in 0..8 {
+            let mut some = |session: &Session| match random.percent(40) {
+                true => odd_session(&mut random, &scene, session),
+                false => session.clone(),
+            };
+            let from = some(&reached);
+            let offer = Offer {
+                session: some(&from),
+                length: scene.len() + random.percent(10) as usize,
+            };
+            let output = *random.pick(&[0, 16, 31, 32, 100, AMPLE]);
+            let stepped = step(&table, &scene, &from, output);
+            let expected = match stepped.0.number {
+                10 | 11 | 12 | 20 => stepped,
+                _ if offer.session == from && offer.length == scene.len() => stepped,
+                _ => (answer(30, 0, 0, 0), from.clone(), Vec::new()),
+            };
+            *met.entry(expected.0.number).or_insert(0) += 1;
+            assert_eq!(commit(&offer, &from, &table, &scene, output), expected);
+        }
+    }
+    for wanted in [0, 1, 2, 9, 10, 11, 12, 20, 23, 24, 25, 30] {
+        assert!(met.contains_key(&wanted), "{met:?}");
+    }
 }
 
 #[test]

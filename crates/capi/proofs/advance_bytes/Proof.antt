@@ -4,9 +4,10 @@ use Rattle.table.specs.Table.{standard}
 use Rattle.dispatcher.specs.Sessions.{sessionAt}
 use Rattle.dispatcher.specs.Stepping.{advanceOf}
 use Rattle.dispatcher.specs.declared.Stepped.{Stepped}
-use Rattle.capi.specs.Layout.{sessionIn}
-use Rattle.capi.proofs.ByteSteps.{none-held, no-event, some-events}
-use Rattle.capi.proofs.Lent.{parts-joined, lent-handed}
+use Rattle.layout.specs.Layout.{sessionIn}
+use Rattle.layout.proofs.Lent.{parts-joined, lent-handed}
+use Rattle.layout.proofs.Told.{no-event, some-events}
+use Rattle.capi.proofs.ByteSteps.{none-held, advanced}
 use Rattle.capi.proofs.advance_bytes.Statement.{statement}
 use Rattle.capi.proofs.advance_bytes.Tie as tie
 
@@ -58,7 +59,7 @@ returns-2 c =
     let out′ = after .1 .1 .1 .0 in
     let gone = lent-handed (s .result) (w .result) (after .0) (after .1 .0) out′ (advanceOf standard (a .most) (a .table .now) (a .scene .now) z (a .out .now)) (w .ensures) (s .ensures .0) in
     let r : Stepped = record { answer = w .result; session = sessionAt (s .result .head) (after .0) (after .1 .0) } in
-    no-event (a .most) (a .table .now) (a .scene .now) (a .session .now) (a .out .now) (held .result) (held .ensures) (c .before .before .before .before .before .before .before .before .before .before .before .before .before .before .before .if1 .left) z joined r out′ gone (c .if2 .taken)
+    no-event (a .session .now) r out′ _ (advanced (a .most) (a .table .now) (a .scene .now) (a .session .now) (a .out .now) (held .result) (held .ensures) (c .before .before .before .before .before .before .before .before .before .before .before .before .before .before .before .if1 .left) z joined r out′ gone) (c .if2 .taken)
 
 put-session-requires : tie.Need-put-session-requires
 put-session-requires c κs = c .before .before .before .before .before .before .before .before .before .before .before .before .before .before .before .before .before .before .before .before .before .before .before .before .before .pre
@@ -84,7 +85,7 @@ returns-3 c =
     let out′ = after .1 .1 .1 .0 in
     let gone = lent-handed (s .result) (w .result) (after .0) (after .1 .0) out′ (advanceOf standard (a .most) (a .table .now) (a .scene .now) z (a .out .now)) (w .ensures) (s .ensures .0) in
     let r : Stepped = record { answer = w .result; session = sessionAt (s .result .head) (after .0) (after .1 .0) } in
-    some-events (a .most) (a .table .now) (a .scene .now) (a .session .now) (a .out .now) (held .result) (held .ensures) (c .before .before .before .before .before .before .before .before .before .before .before .before .before .before .before .before .before .before .before .before .before .if1 .left) z joined r out′ gone _ (c .before .before .before .before .before .before .if2 .left) (c .before .before .put-session .ensures)
+    some-events (a .session .now) r out′ _ (advanced (a .most) (a .table .now) (a .scene .now) (a .session .now) (a .out .now) (held .result) (held .ensures) (c .before .before .before .before .before .before .before .before .before .before .before .before .before .before .before .before .before .before .before .before .before .if1 .left) z joined r out′ gone) _ (c .before .before .before .before .before .before .if2 .left) (c .before .before .put-session .ensures)
 
 pub advance-bytes-spec : {M : Type 1} → statement M
 advance-bytes-spec =

@@ -1,7 +1,7 @@
 -- `capi::calcivorne_advance` meets its contract.
 use borrow.Author.Needs.{needs}
+use Rattle.layout.proofs.Told.{called-short, called}
 use Rattle.capi.specs.Calls.{byteAdvance}
-use Rattle.capi.proofs.ByteSteps.{called-short, called}
 use Rattle.capi.proofs.calcivorne_advance.Statement.{statement}
 use Rattle.capi.proofs.calcivorne_advance.Tie as tie
 

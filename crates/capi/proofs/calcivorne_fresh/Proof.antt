@@ -3,8 +3,8 @@ use mathlib.Core.Path.{refl}
 use borrow.Author.Needs.{needs}
 use Rattle.laws.specs.Over.{overwrite}
 use Rattle.dispatcher.specs.Sessions.{freshOf}
-use Rattle.capi.specs.Layout.{sessionBytes}
-use Rattle.capi.proofs.Told.{short, long}
+use Rattle.layout.specs.Layout.{sessionBytes}
+use Rattle.layout.proofs.Told.{short, long}
 use Rattle.capi.proofs.calcivorne_fresh.Statement.{statement}
 use Rattle.capi.proofs.calcivorne_fresh.Tie as tie
 

@@ -1,6 +1,6 @@
 -- `capi::calcivorne_judge` meets its contract.
 use borrow.Author.Needs.{needs}
-use Rattle.capi.proofs.Told.{told}
+use Rattle.layout.proofs.Told.{told}
 use Rattle.capi.proofs.calcivorne_judge.Statement.{statement}
 use Rattle.capi.proofs.calcivorne_judge.Tie as tie
 

@@ -1,6 +1,6 @@
 -- `capi::calcivorne_run` meets its contract.
 use borrow.Author.Needs.{needs}
-use Rattle.capi.proofs.Told.{ran-told}
+use Rattle.layout.proofs.Told.{ran-told}
 use Rattle.capi.proofs.calcivorne_run.Statement.{statement}
 use Rattle.capi.proofs.calcivorne_run.Tie as tie
 

@@ -1,8 +1,9 @@
 -- `capi::calcivorne_step` meets its contract.
 use mathlib.Core.Path.{subst}
 use borrow.Author.Needs.{needs}
+use Rattle.layout.proofs.Told.{Handed, called-short, called}
 use Rattle.capi.specs.Calls.{byteStep}
-use Rattle.capi.proofs.ByteSteps.{Handed, byte-one, called-short, called}
+use Rattle.capi.proofs.ByteSteps.{byte-one}
 use Rattle.capi.proofs.calcivorne_step.Statement.{statement}
 use Rattle.capi.proofs.calcivorne_step.Tie as tie
 

@@ -2,6 +2,7 @@
 
 mod boundaries;
 mod damage;
+mod held;
 mod miscs;
 mod random;
 mod scenes;
@@ -11,6 +12,7 @@ mod tables;
 
 pub use boundaries::{boundary, boundary_of_25, BOUNDARIES};
 pub use damage::{damaged_scene, damaged_table};
+pub use held::{held_things, Change};
 pub use miscs::{misc, misc_scene, soup};
 pub use random::Random;
 pub use scenes::{scene, scene_of, Profile};

@@ -10,6 +10,7 @@ mod n01;
 mod n02;
 mod n03;
 mod n04;
+mod n06;
 mod names;
 mod odd;
 mod reader;

@@ -1,0 +1,30 @@
+-- `Session::ask` meets its contract: the session is taken apart, and offered as it is.
+use mathlib.Core.Path.{ap, _∙_}
+use Rattle.table.specs.Table.{standard}
+use Rattle.table.specs.declared.Answer.{Answer}
+use Rattle.dispatcher.specs.Offers.{askAnswer, askedAs, offerOf}
+use Rattle.dispatcher.specs.declared.Session.{Session}
+use Rattle.dispatcher.proofs.RunTurns.{whole-session}
+use borrow.Author.Needs.{needs}
+use Rattle.dispatcher.proofs.Session.ask.Statement.{statement}
+use Rattle.dispatcher.proofs.Session.ask.Tie as tie
+
+levels-requires : tie.Need-levels-requires
+levels-requires c κs = search needs
+
+head-requires : tie.Need-head-requires
+head-requires c κs = search needs
+
+ask-in-requires : tie.Need-ask-in-requires
+ask-in-requires c κs = search needs
+
+returns : tie.Need-returns
+returns c =
+    let a = c .before .before .before .before .before .before .before .before .args in
+    let l = c .before .before .before .before .before .levels .ensures in
+    let h = c .before .before .before .head in
+    ap (λ (x : Answer). askedAs x (offerOf (a .self) (a .scene .now)))
+    (c .ask-in .ensures ∙ ap (λ (z : Session). askAnswer standard (a .table .now) (a .scene .now) z) (whole-session (a .self) (h .result) _ (h .ensures) (l .0) (l .1) (l .2)))
+
+pub ask-spec : {M : Type 1} → statement M
+ask-spec = tie.close (tie.spec levels-requires head-requires ask-in-requires returns)

@@ -1,0 +1,4 @@
+pub mod Chain
+pub mod Each
+pub mod Turns
+pub mod Sameness
