@@ -3,10 +3,10 @@
 --     commits, withholds    a commit is a step, or 30
 --     commit-of-ask         a commit of what was asked is the step, with ask's figures where the output suffices
 --     commit-ways           a commit is a step, or 30 and nothing changed
-use Prim.Native.Nat.{ℕ, _*_, _≤_, _<_}
+use Prim.Native.Nat.{ℕ, _*_, _≤_}
 use mathlib.Core.Path.{_≡_, refl, sym, ap, _∙_}
 use mathlib.Core.List.{List}
-use mathlib.Core.Bool.{Bool, true, false, cond, not, _&&_}
+use mathlib.Core.Bool.{Bool, true, false, cond, not}
 use mathlib.Core.Logic.{_⊎_, inl, inr, ⊎-elim}
 use native.Mathlib.Omega.{arith}
 use borrow.Author.Tests.{lt-ltb, le-ltb, ltb-false, eq-eqb, eqb-true, eqb-false, not-true, not-false}
@@ -23,7 +23,7 @@ use Rattle.dispatcher.specs.declared.Session.{Session}
 use Rattle.dispatcher.specs.declared.offers.Offer.{Offer}
 use Rattle.dispatcher.proofs.JudgedFirst.{step-judged-first}
 use Rattle.dispatcher.proofs.HeldSame.{same-self}
-use Rattle.demands.specs.Answers.{Ready, Unchanged, Exactly}
+use Rattle.demands.specs.Answers.{Ready}
 use Rattle.demands.specs.Offers.{Foretold, JudgedNumber, AsOffered}
 use Rattle.demands.proofs.Refusals.{judges, exactly-table, exactly-7, exactly-20}
 

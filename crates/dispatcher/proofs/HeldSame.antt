@@ -2,14 +2,13 @@
 --     same-parts              by their numbers and their arrays
 --     same-self, same-held    a session holds the same as itself; what is held alike is equal
 --     within-coherent         the counts of a session that number 20 accepts
-use Prim.Native.Nat.{ℕ, _+_, _*_}
+use Prim.Native.Nat.{ℕ}
 use mathlib.Core.Path.{_≡_, refl, ap₂, _∙_}
 use mathlib.Core.List.{List}
 use mathlib.Core.Bool.{Bool, true, false, _&&_}
 use borrow.Author.Tests.{eq-eqb, eqb-true}
-use lib.ListN.{getD}
 use lib.Dec.{leb, eqb}
-use Rattle.laws.specs.Lists.{all, tabulate}
+use Rattle.laws.specs.Lists.{tabulate}
 use Rattle.laws.specs.Tests.{both}
 use Rattle.laws.proofs.Flags.{and-left, and-right}
 use Rattle.table.specs.Table.{Table}

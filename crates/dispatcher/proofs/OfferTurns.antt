@@ -7,7 +7,7 @@ use borrow.Author.Tests.{not-true, not-false}
 use lib.ListN.{length}
 use lib.Dec.{eqb}
 use Rattle.table.specs.Table.{tableOf, headerOf, decode, standard}
-use Rattle.table.specs.Judge.{judged, Accepted}
+use Rattle.table.specs.Judge.{judged}
 use Rattle.table.specs.declared.Answer.{Answer}
 use Rattle.table.specs.declared.Header.{Header}
 use Rattle.equality.specs.Checks.{withinArrays}

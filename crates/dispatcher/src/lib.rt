@@ -169,9 +169,9 @@ impl Session {
     pub fn ask(self, table: &[u8], scene: &[u8]) -> Asked
         ensures { λ r. ⌜ r ≡ askOf standard (now (table .entry)) (now (scene .entry)) self ⌝ }
     {
-        let mut levels = self.levels();
-        let mut bindings = self.scope.bindings;
-        let answer = ask_in(table, scene, self.head(), &mut levels, &mut bindings);
+        let levels = self.levels();
+        let bindings = self.scope.bindings;
+        let answer = ask_in(table, scene, self.head(), levels, bindings);
         Asked {
             number: answer.number,
             place: answer.place,

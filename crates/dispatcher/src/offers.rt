@@ -15,7 +15,7 @@ use table::judge;
 use table::words::header_of;
 ghost use mathlib.Core.Path.{_≡_};
 ghost use mathlib.Core.List.{List};
-ghost use mathlib.Core.Bool.{true, false, _&&_};
+ghost use mathlib.Core.Bool.{false, _&&_};
 ghost use Prim.Native.Nat.{ℕ};
 ghost use Rattle.table.specs.Table.{standard};
 ghost use Rattle.strands.specs.Levels.{levelSpaces, levelFree};
@@ -87,15 +87,15 @@ fn counted(number: u8, place: usize, records: usize) -> Answer
     }
 }
 
-// What a step of the session would answer with an output that suffices. Its arrays are taken to work on.
+// What a step of a session, whose numbers and arrays are handed in, would answer with an output that suffices.
 pub fn ask_in(
     table: &[u8],
     scene: &[u8],
     head: Head,
-    levels: &mut [u32; LEVELS],
-    bindings: &mut [u32; 4 * Session::BINDINGS],
+    levels: [u32; LEVELS],
+    bindings: [u32; 4 * Session::BINDINGS],
 ) -> Answer
-    ensures { λ r. ⌜ r ≡ askAnswer standard (now (table .entry)) (now (scene .entry)) (sessionAt head (now (levels .entry)) (now (bindings .entry))) ⌝ }
+    ensures { λ r. ⌜ r ≡ askAnswer standard (now (table .entry)) (now (scene .entry)) (sessionAt head levels bindings) ⌝ }
 {
     let judged = judge(table);
     if judged.number != 0 {
@@ -105,10 +105,12 @@ pub fn ask_in(
         return counted(7, 0, 0);
     }
     let header = header_of(table);
-    if !coherent(table, header, scene, head, levels, bindings) {
+    if !coherent(table, header, scene, head, &levels, &bindings) {
         return counted(20, 0, 0);
     }
-    let turn = asked_step(table, header, scene, head, levels, bindings);
+    let mut behind = levels;
+    let mut bound = bindings;
+    let turn = asked_step(table, header, scene, head, &mut behind, &mut bound);
     counted(turn.number, turn.place, turn.records)
 }
 

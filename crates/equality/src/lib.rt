@@ -8,7 +8,7 @@ use crate::levels::strands_within;
 use reader::Scope;
 use strands::LEVELS;
 ghost use mathlib.Core.Path.{_≡_};
-ghost use mathlib.Core.Bool.{true, _&&_};
+ghost use mathlib.Core.Bool.{_&&_};
 ghost use Rattle.strands.specs.Levels.{levelNames, levelSpaces, levelStrands};
 ghost use Rattle.equality.specs.Checks.{withinArrays, arraysSame};
 

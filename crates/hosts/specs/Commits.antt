@@ -1,7 +1,7 @@
 -- 'For demand 3', for hosts, with N6: what calcivorne_ask and calcivorne_commit hand back, by their contracts; lists of calls in which commits of any offers in
 -- bytes stand. Definitions.
 use Prim.Native.Nat.{ℕ, _≤_}
-use mathlib.Core.List.{List, [], _∷_, map}
+use mathlib.Core.List.{List, [], _∷_}
 use mathlib.Core.Bool.{cond}
 use lib.ListN.{length}
 use Rattle.laws.specs.Over.{overwrite}

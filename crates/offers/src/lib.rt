@@ -55,7 +55,7 @@ fn ask_bytes(table: &[u8], scene: &[u8], session: &[u8]) -> Answer
     let mut levels: [u32; LEVELS] = [0; LEVELS];
     let mut bindings: [u32; 256] = [0; 256];
     arrays_in(session, &mut levels, &mut bindings);
-    ask_in(table, scene, head_in(session), &mut levels, &mut bindings)
+    ask_in(table, scene, head_in(session), levels, bindings)
 }
 
 // Ask: what a step would answer with an output that suffices, and an offer of it; or 255 and nothing written where a slice has no room.

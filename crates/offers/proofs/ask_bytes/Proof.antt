@@ -30,14 +30,14 @@ ask-in-requires c κs = search needs
 
 returns-2 : tie.Need-returns-2
 returns-2 c =
-    let a = c .before .before .before .before .before .before .before .before .before .before .before .before .args in
-    let held = c .before .before .before .before .before .before .before .before .holds-session in
-    let ar = c .before .before .before .before .arrays-in in
-    let hd = c .before .before .before .head-in in
+    let a = c .before .before .before .before .before .before .before .before .before .before .args in
+    let held = c .before .before .before .before .before .before .holds-session in
+    let ar = c .before .before .arrays-in in
+    let hd = c .before .head-in in
     let read = ar .last .1 in
     let z = sessionAt (hd .result) (read .0) (read .1 .0) in
     let joined = parts-joined (sessionIn (a .session .now)) (hd .result) (read .0) (read .1 .0) (hd .ensures) (ar .ensures .0) (ar .ensures .1) (ar .ensures .2) (ar .ensures .3) in
-    then-asked (a .table .now) (a .scene .now) (a .session .now) (held .result) (held .ensures) z (c .ask-in .result) (c .before .before .before .before .before .before .before .if1 .left) joined (c .ask-in .ensures)
+    then-asked (a .table .now) (a .scene .now) (a .session .now) (held .result) (held .ensures) z (c .ask-in .result) (c .before .before .before .before .before .if1 .left) joined (c .ask-in .ensures)
 
 pub ask-bytes-spec : {M : Type 1} → statement M
 ask-bytes-spec =

@@ -20,9 +20,9 @@ ask-in-requires c κs = search needs
 
 returns : tie.Need-returns
 returns c =
-    let a = c .before .before .before .before .before .before .before .before .args in
-    let l = c .before .before .before .before .before .levels .ensures in
-    let h = c .before .before .before .head in
+    let a = c .before .before .before .before .before .before .args in
+    let l = c .before .before .before .levels .ensures in
+    let h = c .before .head in
     ap (λ (x : Answer). askedAs x (offerOf (a .self) (a .scene .now)))
     (c .ask-in .ensures ∙ ap (λ (z : Session). askAnswer standard (a .table .now) (a .scene .now) z) (whole-session (a .self) (h .result) _ (h .ensures) (l .0) (l .1) (l .2)))
 

@@ -6,7 +6,7 @@ use Rattle.table.specs.declared.Answer.{Answer}
 use Rattle.dispatcher.specs.Sessions.{sessionAt}
 use Rattle.dispatcher.specs.Stepping.{planOf, answered}
 use Rattle.dispatcher.specs.Offers.{planAnswer}
-use Rattle.dispatcher.proofs.RunTurns.{then-accepted, judged-coherent}
+use Rattle.dispatcher.proofs.RunTurns.{then-accepted}
 use Rattle.dispatcher.proofs.OfferTurns.{by-table, by-length, by-session, by-plan, counted-plan}
 use borrow.Author.Needs.{needs}
 use borrow.Author.Tests.{not-false}
@@ -22,7 +22,7 @@ counted-requires c κs = search needs
 returns : tie.Need-returns
 returns c =
     let a = c .before .before .before .before .before .before .args in
-    let z = sessionAt (a .head) (a .levels .now) (a .bindings .now) in
+    let z = sessionAt (a .head) (a .t4) (a .t5) in
     c .counted .ensures ∙ by-table (a .table .now) (a .scene .now) z (λ (n p : ℕ). answered n p 0 0) (planAnswer (planOf (decode (a .table .now)) (a .scene .now) z)) (c .before .before .before .judge .result) (c .before .before .before .judge .ensures) (c .before .if1 .taken)
 
 counted-requires-2 : tie.Need-counted-requires-2
@@ -31,7 +31,7 @@ counted-requires-2 c κs = search needs
 returns-2 : tie.Need-returns-2
 returns-2 c =
     let a = c .before .before .before .before .before .before .before .args in
-    let z = sessionAt (a .head) (a .levels .now) (a .bindings .now) in
+    let z = sessionAt (a .head) (a .t4) (a .t5) in
     c .counted2 .ensures ∙ by-length (a .table .now) (a .scene .now) z (λ (n p : ℕ). answered n p 0 0) (planAnswer (planOf (decode (a .table .now)) (a .scene .now) z)) (c .before .before .before .before .judge .result) (c .before .before .before .before .judge .ensures) (c .before .before .if1 .left) (c .before .if2 .taken)
 
 header-of-requires : tie.Need-header-of-requires
@@ -46,7 +46,7 @@ counted-requires-3 c κs = search needs
 returns-3 : tie.Need-returns-3
 returns-3 c =
     let a = c .before .before .before .before .before .before .before .before .before .before .before .before .args in
-    let z = sessionAt (a .head) (a .levels .now) (a .bindings .now) in
+    let z = sessionAt (a .head) (a .t4) (a .t5) in
     c .counted3 .ensures ∙ by-session (a .table .now) (a .scene .now) z (λ (n p : ℕ). answered n p 0 0) (planAnswer (planOf (decode (a .table .now)) (a .scene .now) z)) (c .before .before .before .before .before .before .before .before .before .judge .result) (c .before .before .before .before .before .before .before .before .before .judge .ensures) (c .before .before .before .before .before .before .before .if1 .left) (c .before .before .before .before .before .before .if2 .left) (c .before .before .before .before .before .header-of .result) (c .before .before .before .before .before .header-of .ensures) (c .before .before .coherent .result) (c .before .before .coherent .ensures) (c .before .if3 .taken)
 
 asked-step-requires : tie.Need-asked-step-requires
@@ -61,7 +61,7 @@ counted-requires-4 c κs = search needs
 returns-4 : tie.Need-returns-4
 returns-4 c =
     let a = c .before .before .before .before .before .before .before .before .before .before .before .before .before .before .before .args in
-    let z = sessionAt (a .head) (a .levels .now) (a .bindings .now) in
+    let z = sessionAt (a .head) (a .t4) (a .t5) in
     let p = planOf (decode (a .table .now)) (a .scene .now) z in
     c .counted4 .ensures
     ∙ ap (λ (x : Answer). answered (x .number) (x .place) 0 (x .records)) (c .before .asked-step .ensures)
