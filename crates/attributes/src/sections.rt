@@ -1,8 +1,8 @@
 // The sections of a tag's attributes: one per namespace, ordered by first attribute.
 use crate::HELD;
+use namespaces::clashes::same_space;
+use namespaces::spaces::found_in;
 use reader::Found;
-use reader::clashes::same_space;
-use reader::spaces::found_in;
 ghost use mathlib.Core.Path.{_≡_};
 ghost use mathlib.Core.List.{[]};
 ghost use mathlib.Core.Bool.{cond};

@@ -9,10 +9,9 @@ use lib.ListN.{length}
 use Rattle.table.specs.Table.{standard}
 use Rattle.table.specs.Judge.{judged}
 use Rattle.table.specs.declared.Answer.{Answer}
-use Rattle.dispatcher.specs.Stepping.{longest, advanceOf, handed}
-use Rattle.dispatcher.specs.declared.Session.{Session}
-use Rattle.dispatcher.specs.declared.Stepped.{Stepped}
-use Rattle.dispatcher.proofs.Advancing.{advance-one}
+use Rattle.sessions.specs.Stepping.{Step, longest, advanceOf}
+use Rattle.sessions.specs.declared.Session.{Session}
+use Rattle.sessions.proofs.Advancing.{advance-one}
 use Rattle.layout.specs.Layout.{sessionIn, holdsSession}
 use Rattle.layout.proofs.Told.{Handed}
 use Rattle.layout.proofs.Unheld.{unheldAnswer, refusals}
@@ -23,9 +22,9 @@ module _ (most : ℕ) (table s b out : List ℕ) (held : Bool) (e : held ≡ hol
   unfolding byteAdvance
   none-held r h q = rw (sym e ∙ not-true held h) (refusals (judged table) r (ltb longest (length s)) (sessionIn b) b out q)
 
-  pub advanced : not held ≡ false → (z : Session) → z ≡ sessionIn b → (r : Stepped) (out′ : List ℕ) → handed r out′ ≡ advanceOf standard most table s z out → handed r out′ ≡ byteAdvance most table s b out
+  pub advanced : not held ≡ false → (z : Session) → z ≡ sessionIn b → (r : Step) → r ≡ advanceOf standard most table s z out → r ≡ byteAdvance most table s b out
   unfolding byteAdvance
-  advanced h z ez r out′ q = q ∙ (ap (λ (x : Session). advanceOf standard most table s x out) ez ∙ rw (sym e ∙ not-false held h))
+  advanced h z ez r q = q ∙ (ap (λ (x : Session). advanceOf standard most table s x out) ez ∙ rw (sym e ∙ not-false held h))
 
 -- one step
 pub byte-one : (table s b out : List ℕ) → byteAdvance 1 table s b out ≡ byteStep table s b out

@@ -9,7 +9,7 @@ use lib.ListN.{length}
 use Rattle.laws.specs.Members.{All}
 use Rattle.laws.proofs.Holds.{holds-cond}
 use Rattle.table.specs.Table.{standard}
-use Rattle.dispatcher.specs.Stepping.{Step, advanceOf}
+use Rattle.sessions.specs.Stepping.{Step, advanceOf}
 use Rattle.layout.specs.Layout.{sessionIn, holdsSession}
 use Rattle.layout.specs.Answers.{bytesBehind}
 use Rattle.layout.proofs.RoundTrip.{Storable, AllPack, in-packs, in-storable}

@@ -3,7 +3,7 @@ use Prim.Native.Nat.{ℕ}
 use mathlib.Core.List.{List}
 use mathlib.Core.Bool.{cond}
 use Rattle.table.specs.Table.{standard}
-use Rattle.dispatcher.specs.Stepping.{Step, stepOf, advanceOf}
+use Rattle.sessions.specs.Stepping.{Step, stepOf, advanceOf}
 use Rattle.layout.specs.Layout.{sessionIn, holdsSession}
 use Rattle.layout.specs.Answers.{unheld}
 

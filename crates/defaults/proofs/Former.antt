@@ -12,10 +12,10 @@ use Rattle.table.specs.Table.{Table, Defaults, standard, former, decodeBy}
 use Rattle.table.specs.Judge.{said, judged, Accepted}
 use Rattle.table.specs.declared.Answer.{Answer}
 use Rattle.table.proofs.Accepted.{accepted-answer}
-use Rattle.dispatcher.specs.Sessions.{freshOf}
-use Rattle.dispatcher.specs.Coherence.{coherent}
-use Rattle.dispatcher.specs.Stepping.{Step, refusedStep, planned, planOf, longest, restOf, joined, stepOf, advanceOf, runBy, runOf}
-use Rattle.dispatcher.specs.declared.Session.{Session}
+use Rattle.sessions.specs.Sessions.{freshOf}
+use Rattle.sessions.specs.Coherence.{coherent}
+use Rattle.sessions.specs.Stepping.{Step, refusedStep, planned, planOf, longest, restOf, joined, stepOf, advanceOf, runBy, runOf}
+use Rattle.sessions.specs.declared.Session.{Session}
 use Rattle.forecast.specs.Forecasts.{noFigures, figuresOf, forecastOf}
 use Rattle.forecast.specs.declared.figures.Forecast.{Forecast}
 use Rattle.defaults.specs.Former.{Suffices, withAny, Meets, modelList, cutList}

@@ -27,11 +27,11 @@ use Rattle.model.specs.Groups.{AttributeGroup, groupsOf, unitBy, attributeUnits
 use Rattle.model.specs.Stream.{HeldStrand, heldBeforeRoot, stay, byRule, receiver, give, attributesFrom, opening, startRecords, Level, Entry, allot, newUnits, takeRules, entriesAt, unitsOf, written, after}
 use Rattle.model.specs.Dispatch.{dispatch}
 use Rattle.model.proofs.Lists.{all-map, all-unmap}
-use Rattle.strands.proofs.Entered.{allot-modes}
-use Rattle.dispatcher.specs.Sessions.{freshOf, levelUri, levelIn, levelsIn, readerOf, stateOf, withPlace, withEnd, withStart}
-use Rattle.dispatcher.specs.Coherence.{coherent}
-use Rattle.dispatcher.specs.Stepping.{Plan, refused, event, ownDeclarations, startPlan, planBy, planOf, Step, restOf, joined, stepOf, advanceOf, runBy, runOf}
-use Rattle.dispatcher.specs.declared.Session.{Session}
+use Rattle.entries.proofs.Entered.{allot-modes}
+use Rattle.sessions.specs.Sessions.{freshOf, levelUri, levelIn, levelsIn, readerOf, stateOf, withPlace, withEnd, withStart}
+use Rattle.sessions.specs.Coherence.{coherent}
+use Rattle.sessions.specs.Stepping.{Plan, refused, event, ownDeclarations, startPlan, planBy, planOf, Step, restOf, joined, stepOf, advanceOf, runBy, runOf}
+use Rattle.sessions.specs.declared.Session.{Session}
 use Rattle.defaults.specs.Meeting.{MeetsRule, taking, MeetsAt, MeetsNext}
 use Rattle.defaults.proofs.SameTable.{some-taken}
 

@@ -12,7 +12,7 @@ use Rattle.laws.specs.Reading.{le-or-lt}
 use Rattle.table.specs.Judge.{Accepted}
 use Rattle.reader.specs.Events as scene
 use Rattle.reader.specs.Spans.{span}
-use Rattle.dispatcher.specs.Stepping.{eventPlace}
+use Rattle.sessions.specs.Stepping.{eventPlace}
 use Rattle.demands.specs.Limits.{passed, firstPast, eventsWithin, runEnd}
 use Rattle.demands.proofs.Limits.{FirstPast, first-past, beforeBy, endBy}
 use Rattle.defaults.specs.Ends.{EndsSame, EndsEarlier}

@@ -35,7 +35,7 @@ use Rattle.model.proofs.Assigned.{entryModes, modesAt, nextModes, take-modes}
 use Rattle.model.proofs.Steps.{new-append}
 use Rattle.model.proofs.Tables.{one-by}
 use Rattle.strands.specs.Rules.{opened}
-use Rattle.strands.proofs.Entered.{allot-modes}
+use Rattle.entries.proofs.Entered.{allot-modes}
 use Rattle.demands.specs.Limits.{depthAt, boundAt, strandsAt, unitsAt, passed}
 use Rattle.demands.proofs.Measures.{streamAfter, numberBy, depth-is, strands-are, units-are}
 use Rattle.defaults.proofs.Meeting.{now, before, element-same}

@@ -16,10 +16,10 @@ use Rattle.reader.specs.Events.{ReaderState}
 use Rattle.reader.proofs.Progress.{leftOf, less, onward}
 use Rattle.model.specs.Theory.{Record}
 use Rattle.model.specs.Records.{Body}
-use Rattle.dispatcher.specs.Sessions.{readerOf}
-use Rattle.dispatcher.specs.Stepping.{Step, answered, refusedStep, stepOf, restOf, joined, advanceOf}
-use Rattle.dispatcher.specs.declared.Session.{Session}
-use Rattle.dispatcher.proofs.Behind.{behind}
+use Rattle.sessions.specs.Sessions.{readerOf}
+use Rattle.sessions.specs.Stepping.{Step, answered, refusedStep, stepOf, restOf, joined, advanceOf}
+use Rattle.sessions.specs.declared.Session.{Session}
+use Rattle.sessions.proofs.Behind.{behind}
 use Rattle.demands.proofs.Bytes.{laid, none-laid, behind-laid, laid-length, laid-on}
 use Rattle.demands.proofs.Reached.{Reached, reached-step}
 use Rattle.demands.proofs.Outcomes.{Said, Outcome, refuses, accepts, outcome}

@@ -18,10 +18,10 @@ use Rattle.reader.proofs.Held.{finished-at}
 use Rattle.model.specs.Theory.{Record}
 use Rattle.model.specs.Records.{Body}
 use Rattle.model.specs.Dispatch.{recordBytesOf, expected}
-use Rattle.dispatcher.specs.Sessions.{readerOf, freshOf}
-use Rattle.dispatcher.specs.Stepping.{Step}
-use Rattle.dispatcher.specs.declared.Session.{Session}
-use Rattle.dispatcher.proofs.Advancing.{advance-one}
+use Rattle.sessions.specs.Sessions.{readerOf, freshOf}
+use Rattle.sessions.specs.Stepping.{Step}
+use Rattle.sessions.specs.declared.Session.{Session}
+use Rattle.sessions.proofs.Advancing.{advance-one}
 use Rattle.demands.specs.Calls.{Call, BeginsWith, GrowingFrom, Growing, lastSceneFrom, lastScene, recordsOf, numberFrom, lastNumber, AnyCall, ofStep, ofAdvance, callOf, handedBack, callsFrom, eventsIn, allRecords}
 use Rattle.demands.specs.Scenes.{wholeModel}
 use Rattle.demands.proofs.Bytes.{laid, first-bytes}

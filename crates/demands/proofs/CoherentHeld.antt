@@ -29,11 +29,11 @@ use Rattle.reader.specs.Held.{SpanHeld, BindingHeld, OpenHeld, Held}
 use Rattle.reader.specs.declared.Span.{Span}
 use Rattle.reader.specs.declared.Binding.{Binding}
 use Rattle.reader.proofs.MoreBytes.{bytes-more, refused-more}
-use Rattle.dispatcher.specs.Sessions.{uriIn, readerOf}
+use Rattle.sessions.specs.Sessions.{uriIn, readerOf}
 use Rattle.coherence.specs.Fitting.{spanInside, prefixFits}
-use Rattle.dispatcher.specs.Coherence.{openLevels, openBindings, depthFits, boundFits, placeInside, levelSpansInside, bindingSpansInside, namesFit, bindingsAllowed, prefixesFit, strandCountsFit, modesFit, classesFit, targetsFit, validatesAim, unitsFit, countsAddUp, awaitedFits, closedFits, coherent}
-use Rattle.dispatcher.specs.declared.Session.{Session}
-use Rattle.dispatcher.proofs.SoundCoherent.{total-numbers}
+use Rattle.sessions.specs.Coherence.{openLevels, openBindings, depthFits, boundFits, placeInside, levelSpansInside, bindingSpansInside, namesFit, bindingsAllowed, prefixesFit, strandCountsFit, modesFit, classesFit, targetsFit, validatesAim, unitsFit, countsAddUp, awaitedFits, closedFits, coherent}
+use Rattle.sessions.specs.declared.Session.{Session}
+use Rattle.sessions.proofs.SoundCoherent.{total-numbers}
 
 -- ---- a list of f k, f (k + 1), ..
 module _ {A : Type 0} (f : ℕ → A) where

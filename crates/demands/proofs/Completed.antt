@@ -41,7 +41,7 @@ use Rattle.lexer.specs.declared.Begin.the-variants as begin
 use Rattle.lexer.specs.declared.Ahead.the-variants as ahead
 use Rattle.lexer.proofs.Inside.{ReadInside, SpacesTo, spaces-inside, NameInside, NamedInside, name-inside, ByteTo, wanted-inside, EqualsTo, equals-inside, AttrInside, AttributedInside, attribute-inside, TurnInside, turn-inside}
 use Rattle.lexer.proofs.Stable.{spaces-stable, name-stable, wanted-stable, equals-stable, attribute-stable, turn-stable}
-use Rattle.misc.proofs.BeginLaws.{begin-is, begin-held, CutAhead, ahead-stable}
+use Rattle.lexer.proofs.BeginLaws.{begin-is, begin-held, CutAhead, ahead-stable}
 use Rattle.lexer.proofs.Parts.{no-gt-char}
 use Rattle.demands.specs.Answers.{Overfull}
 use Rattle.demands.proofs.MiscCompleted.{misc-completed, misc-begins}

@@ -23,7 +23,7 @@ use Rattle.lexer.specs.declared.Read.{Read}
 use Rattle.lexer.specs.declared.Read.the-variants as read
 use Rattle.lexer.proofs.Inside.{ReadInside, SpacesTo, spaces-inside}
 use Rattle.lexer.proofs.Stable.{spaces-stable, wanted-stable}
-use Rattle.misc.proofs.MiscLaws.{Onward, byte-inside}
+use Rattle.lexer.proofs.MiscLaws.{Onward, byte-inside}
 use Rattle.demands.proofs.CompletedParts.{byte-in, byte-kept, Form, Rest, NotCut, runs-out, read-so, spaces-here, spaces-completed}
 
 abbrev pub Refused : Form

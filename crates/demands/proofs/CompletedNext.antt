@@ -21,7 +21,7 @@ use Rattle.lexer.specs.declared.Ended.{Ended}
 use Rattle.lexer.specs.declared.Ended.the-variants as ended
 use Rattle.lexer.specs.declared.Begin.{Begin}
 use Rattle.lexer.specs.declared.Begin.the-variants as begin
-use Rattle.misc.proofs.BeginLaws.{BeginInside, begin-inside, CutBegin, begin-stable}
+use Rattle.lexer.proofs.BeginLaws.{BeginInside, begin-inside, CutBegin, begin-stable}
 use Rattle.reader.specs.Spans.{bytesOf, wholeSpan}
 use Rattle.reader.specs.Namespaces.{Meaning, refused, meant, meaningOf}
 use Rattle.reader.specs.Events as scene

@@ -24,9 +24,9 @@ use Rattle.reader.proofs.Held.{held-fresh, numbered}
 use Rattle.reader.proofs.EventsFirst.{state-held, events-end}
 use Rattle.model.specs.Dispatch.{expected}
 use Rattle.model.proofs.Tables.{one}
-use Rattle.dispatcher.specs.Sessions.{readerOf}
-use Rattle.dispatcher.specs.Stepping.{eventPlace, Step, answered, refusedStep, Run, runOf}
-use Rattle.dispatcher.specs.declared.Session.{Session}
+use Rattle.sessions.specs.Sessions.{readerOf}
+use Rattle.sessions.specs.Stepping.{eventPlace, Step, answered, refusedStep, Run, runOf}
+use Rattle.sessions.specs.declared.Session.{Session}
 use Rattle.demands.specs.Scenes.{modelCount}
 use Rattle.demands.specs.Limits.{passed, WithinFirst, Within, FirstLimit, firstPast, eventsWithin, readEnd, runEnd}
 use Rattle.demands.proofs.Goes.{goes-on}

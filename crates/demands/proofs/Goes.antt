@@ -24,7 +24,7 @@ use Rattle.lexer.specs.declared.Ended.{Ended}
 use Rattle.lexer.specs.declared.Ended.the-variants as ended
 use Rattle.lexer.specs.declared.Begin.{Begin}
 use Rattle.lexer.specs.declared.Begin.the-variants as begin
-use Rattle.misc.proofs.BeginLaws.{BeginInside, begin-inside}
+use Rattle.lexer.proofs.BeginLaws.{BeginInside, begin-inside}
 use Rattle.reader.specs.Spans.{bytesOf, wholeSpan}
 use Rattle.reader.specs.Namespaces.{Meaning, refused, meant, meaningOf}
 use Rattle.reader.specs.Events.{Event, start, text, end, Open, ReaderState, freshReader, bindingsOf, Next, event, refusal, finished, isNil, left, endRead, startMeant, startRead, textRead, begun, nextBy, next, eventThen, events}

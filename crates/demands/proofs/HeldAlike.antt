@@ -28,13 +28,13 @@ use Rattle.model.specs.Stream.{Level, State}
 use Rattle.model.specs.Dispatch.{dispatch}
 use Rattle.equality.specs.Same.{sameFlag, sameEach, sameBinding, HeldLevel, sameLevel, heldLevel}
 use Rattle.equality.proofs.Sameness.{each-self, flag-self, binding-self, level-self}
-use Rattle.dispatcher.specs.Sessions.{levelUri, strandsIn, levelIn, levelsIn, readerOf, stateOf, freshOf, sessionOf}
-use Rattle.dispatcher.specs.Coherence.{openLevels, openBindings, countsAddUp, coherent}
-use Rattle.dispatcher.specs.Offers.{heldLevels, holdsSame}
-use Rattle.dispatcher.specs.declared.Session.{Session}
-use Rattle.dispatcher.proofs.SoundCoherent.{total-numbers}
-use Rattle.dispatcher.proofs.Clauses.{clauses}
-use Rattle.dispatcher.proofs.HeldSame.{SameHeld, same-held}
+use Rattle.sessions.specs.Sessions.{levelUri, strandsIn, levelIn, levelsIn, readerOf, stateOf, freshOf, sessionOf}
+use Rattle.sessions.specs.Coherence.{openLevels, openBindings, countsAddUp, coherent}
+use Rattle.sessions.specs.Asking.{heldLevels, holdsSame}
+use Rattle.sessions.specs.declared.Session.{Session}
+use Rattle.sessions.proofs.SoundCoherent.{total-numbers}
+use Rattle.sessions.proofs.Clauses.{clauses}
+use Rattle.sessions.proofs.HeldSame.{SameHeld, same-held}
 
 -- rows that are equal are as long, and equal place by place
 rows-equal : {A : Type 0} (f g : ℕ → A) (n m : ℕ) → tabulate f 0 n ≡ tabulate g 0 m → (n ≡ m) × ((k : ℕ) → k < n → f k ≡ g k)

@@ -56,8 +56,8 @@ use Rattle.lexer.specs.declared.Ahead.the-variants as ahead
 use Rattle.lexer.proofs.Common.{common-kept}
 use Rattle.lexer.proofs.CharacterLaws.{Within, PassedTo}
 use Rattle.lexer.proofs.ValueLaws.{reference-inside, reference-stable, text-inside, closes-kept, closes-behind}
-use Rattle.misc.proofs.MiscLaws.{xml-three, declared-kept, xml-kept}
-use Rattle.misc.proofs.BeginLaws.{begin-is, begin-held, CutAhead, ahead-stable}
+use Rattle.lexer.proofs.MiscLaws.{xml-three, declared-kept, xml-kept}
+use Rattle.lexer.proofs.BeginLaws.{begin-is, begin-held, CutAhead, ahead-stable}
 use Rattle.demands.specs.Answers.{settled}
 
 -- ---- what settles the two refusals that their byte does not settle

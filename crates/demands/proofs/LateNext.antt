@@ -34,7 +34,7 @@ use Rattle.lexer.specs.declared.Begin.{Begin}
 use Rattle.lexer.specs.declared.Begin.the-variants as begin
 use Rattle.lexer.proofs.ValueLaws.{value-stable}
 use Rattle.lexer.proofs.Stable.{CutTag, tag-stable, endTag-stable}
-use Rattle.misc.proofs.BeginLaws.{BeginInside, begin-inside, CutBegin, begin-stable}
+use Rattle.lexer.proofs.BeginLaws.{BeginInside, begin-inside, CutBegin, begin-stable}
 use Rattle.reader.specs.Spans.{bytesOf, wholeSpan}
 use Rattle.reader.specs.Namespaces.{declarationsOf, refusedBinding, Namespace, ofElement, ReadAttribute, resolved, sameName, sameExpanded, Meaning, refused, meant, meantBy, meaningOf}
 use Rattle.reader.specs.Events as scene

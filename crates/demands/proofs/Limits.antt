@@ -36,10 +36,10 @@ use Rattle.model.specs.Dispatch.{dispatch, told}
 use Rattle.model.proofs.Steps as stream
 use Rattle.model.proofs.Assigned.{modesAt}
 use Rattle.model.proofs.Tables.{one}
-use Rattle.dispatcher.specs.Sessions.{readerOf, stateOf, freshOf, withPlace, withEnd}
-use Rattle.dispatcher.specs.Stepping.{eventPlace, Plan, refused, event, startPlan, ownDeclarations, planBy, planOf, planned, Step, refusedStep, stepOf}
-use Rattle.dispatcher.specs.declared.Session.{Session}
-use Rattle.dispatcher.proofs.SoundCoherent.{sound-coherent}
+use Rattle.sessions.specs.Sessions.{readerOf, stateOf, freshOf, withPlace, withEnd}
+use Rattle.sessions.specs.Stepping.{eventPlace, Plan, refused, event, startPlan, ownDeclarations, planBy, planOf, planned, Step, refusedStep, stepOf}
+use Rattle.sessions.specs.declared.Session.{Session}
+use Rattle.sessions.proofs.SoundCoherent.{sound-coherent}
 use Rattle.demands.specs.Scenes.{readerAfter}
 use Rattle.demands.specs.Limits.{depthAt, boundAt, strandsAt, unitsAt, passed, WithinFirst, firstPast, eventsWithin, End, readEnd}
 use Rattle.demands.proofs.Goes.{goes-on, event-goes}

@@ -37,10 +37,10 @@ use Rattle.model.proofs.Cut.{IsPrefix}
 use Rattle.model.proofs.Steps.{reached-step, levels-open}
 use Rattle.model.proofs.Assigned.{modesAt, assigned-count}
 use Rattle.model.proofs.Opened.{model-units}
-use Rattle.dispatcher.specs.Sessions.{levelsIn, readerOf, stateOf}
-use Rattle.dispatcher.specs.declared.Session.{Session}
-use Rattle.dispatcher.proofs.Sound.{LevelSound, Sound}
-use Rattle.dispatcher.proofs.NewStrands.{new-length}
+use Rattle.sessions.specs.Sessions.{levelsIn, readerOf, stateOf}
+use Rattle.sessions.specs.declared.Session.{Session}
+use Rattle.sessions.proofs.Sound.{LevelSound, Sound}
+use Rattle.sessions.proofs.NewStrands.{new-length}
 use Rattle.demands.specs.Scenes.{behindNext, readerAfter}
 use Rattle.demands.specs.Limits.{toldAll, depthAt, boundAt, strandsAt, unitsAt, passed}
 use Rattle.demands.proofs.Prefixes.{toldFirst, told-first-length, told-first-more, told-prefix}

@@ -34,7 +34,7 @@ use Rattle.lexer.specs.declared.Field.{Field}
 use Rattle.lexer.specs.declared.Field.the-variants as field
 use Rattle.lexer.proofs.Inside.{ReadInside, PartTo, part-inside}
 use Rattle.lexer.proofs.Stable.{part-stable}
-use Rattle.misc.proofs.MiscLaws.{word-inside, answer-inside, field-word-inside, field-inside, word-stable, answer-stable, field-stable, declared-kept, xml-kept, xml-three}
+use Rattle.lexer.proofs.MiscLaws.{word-inside, answer-inside, field-word-inside, field-inside, word-stable, answer-stable, field-stable, declared-kept, xml-kept, xml-three}
 use Rattle.demands.specs.Answers.{Overfull}
 use Rattle.demands.proofs.CompletedParts.{or-full, byte-in, byte-kept, Form, Rest, NotCut, read-so, Unfinished, unfinished, rest-read, part-stops, letter-then, letter-part, PartDone, part-completed}
 use Rattle.demands.proofs.CompletedForms.{Refused, Goes, Ends, goes-more, ends-at, fresh-behind, ends-same, ends-then, Spaced, ends-spaced, Peeked, goes-peek, ends-peek, goes-cond, goes-bad, Next, goes-next, fresh-next, Stops, ends-machine, OneByte, Word, ends-wanted, behindFirst, ends-word, Equalled, ends-equals}

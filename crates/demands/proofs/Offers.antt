@@ -16,13 +16,14 @@ use Rattle.laws.specs.Tests.{both}
 use Rattle.laws.proofs.Flags.{differ, and-left, and-right}
 use Rattle.table.specs.Table.{decode, standard}
 use Rattle.table.specs.Judge.{judged}
-use Rattle.dispatcher.specs.Coherence.{coherent}
-use Rattle.dispatcher.specs.Stepping.{Plan, refused, finished, event, planOf, Step, answered, refusedStep, planned, longest, stepOf}
-use Rattle.dispatcher.specs.Offers.{holdsSame, offerOf, planAnswer, judgedFirst, askedAs, askOf, stepWhere, offered, commitOf}
-use Rattle.dispatcher.specs.declared.Session.{Session}
+use Rattle.sessions.specs.Coherence.{coherent}
+use Rattle.sessions.specs.Stepping.{Plan, refused, finished, event, planOf, Step, answered, refusedStep, planned, longest, stepOf}
+use Rattle.sessions.specs.Asking.{holdsSame, planAnswer, judgedFirst, stepWhere}
+use Rattle.dispatcher.specs.Offers.{offerOf, askedAs, askOf, offered, commitOf}
+use Rattle.sessions.specs.declared.Session.{Session}
 use Rattle.dispatcher.specs.declared.offers.Offer.{Offer}
-use Rattle.dispatcher.proofs.JudgedFirst.{step-judged-first}
-use Rattle.dispatcher.proofs.HeldSame.{same-self}
+use Rattle.sessions.proofs.JudgedFirst.{step-judged-first}
+use Rattle.sessions.proofs.HeldSame.{same-self}
 use Rattle.demands.specs.Answers.{Ready}
 use Rattle.demands.specs.Offers.{Foretold, JudgedNumber, AsOffered}
 use Rattle.demands.proofs.Refusals.{judges, exactly-table, exactly-7, exactly-20}
@@ -88,7 +89,7 @@ module _ (table s : List ℕ) (z : Session) (out : List ℕ) where
     met m = both _ _ (m .0) (eq-eqb (length s) (o .length) (m .1))
 
     meets : offered o z s ≡ true → AsOffered o z s
-    meets e = (and-left (holdsSame z (o .session)) _ e, eqb-true (length s) (o .length) (and-right (holdsSame z (o .session)) _ e))
+    meets e = (and-left (holdsSame z (o .session .held)) _ e, eqb-true (length s) (o .length) (and-right (holdsSame z (o .session .held)) _ e))
 
     -- "Commit(o, x, t, s, out) = Step(t, s, x, out) .. if that step's number is 10, 11, 12, 7 or 20, or if x holds what o's session holds and |s| is o's
     -- length"

@@ -15,11 +15,11 @@ use Rattle.reader.specs.Events as scene
 use Rattle.model.specs.Theory.{Record}
 use Rattle.model.specs.Records.{Body}
 use Rattle.model.specs.Dispatch.{recordBytesOf}
-use Rattle.dispatcher.specs.Sessions.{readerOf}
-use Rattle.dispatcher.specs.Stepping.{event, planOf, Step, answered, refusedStep, stepOf}
-use Rattle.dispatcher.specs.declared.Session.{Session}
-use Rattle.dispatcher.proofs.Sound.{Sound}
-use Rattle.dispatcher.proofs.SoundCoherent.{sound-coherent}
+use Rattle.sessions.specs.Sessions.{readerOf}
+use Rattle.sessions.specs.Stepping.{event, planOf, Step, answered, refusedStep, stepOf}
+use Rattle.sessions.specs.declared.Session.{Session}
+use Rattle.sessions.proofs.Sound.{Sound}
+use Rattle.sessions.proofs.SoundCoherent.{sound-coherent}
 use Rattle.demands.specs.Answers.{Answered, bad-table, long-scene, bad-session, unread, all-read, limited, no-room, wrote}
 use Rattle.demands.proofs.Refusals.{answered-by}
 

@@ -25,7 +25,7 @@ use Rattle.model.specs.Records.{OpenElement}
 use Rattle.model.specs.Dispatch.{dispatch, told}
 use Rattle.model.proofs.Cut.{IsPrefix}
 use Rattle.model.proofs.Steps.{MayFollow, prefix-step}
-use Rattle.dispatcher.proofs.MoreScene.{told-more}
+use Rattle.sessions.proofs.MoreScene.{told-more}
 use Rattle.demands.proofs.Goes.{Goes, event-goes, then-closed, not-closed, Onward, state-count, goes-on}
 
 -- the first k events of a scene as the dispatcher takes them

@@ -27,10 +27,10 @@ use Rattle.model.specs.Elements.{elementOf}
 use Rattle.model.specs.Records.{Body, recordBytes}
 use Rattle.model.specs.Stream.{entriesAt, after}
 use Rattle.model.specs.Dispatch.{dispatch, recordBytesOf}
-use Rattle.dispatcher.specs.Sessions.{readerOf, stateOf}
-use Rattle.dispatcher.specs.Coherence.{coherent}
-use Rattle.dispatcher.specs.Stepping.{Plan, refused, finished, event, startPlan, ownDeclarations, planBy, planOf, Step, refusedStep, eventStep, planned, longest, stepOf}
-use Rattle.dispatcher.specs.declared.Session.{Session}
+use Rattle.sessions.specs.Sessions.{readerOf, stateOf}
+use Rattle.sessions.specs.Coherence.{coherent}
+use Rattle.sessions.specs.Stepping.{Plan, refused, finished, event, startPlan, ownDeclarations, planBy, planOf, Step, refusedStep, eventStep, planned, longest, stepOf}
+use Rattle.sessions.specs.declared.Session.{Session}
 use Rattle.demands.specs.Answers.{Ready, Deep, Full, Crowded, Spent, Limit, Starts, Answered, bad-table, long-scene, bad-session, unread, all-read, limited, no-room, wrote, Unchanged, Changed, Exactly, ExactlyAt, Unread, AllRead, NoRoom}
 use Rattle.demands.proofs.Goes.{event-goes}
 use Rattle.demands.proofs.CoherentHeld.{coherent-held}

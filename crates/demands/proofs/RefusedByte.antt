@@ -17,10 +17,10 @@ use Rattle.table.specs.Table.{decode, standard}
 use Rattle.table.specs.Judge.{judged}
 use Rattle.reader.specs.Events.{refusal, finished, next}
 use Rattle.reader.proofs.NextStable.{next-short}
-use Rattle.dispatcher.specs.Sessions.{readerOf}
-use Rattle.dispatcher.specs.Coherence.{coherent}
-use Rattle.dispatcher.specs.Stepping.{Step, refusedStep, longest, stepOf}
-use Rattle.dispatcher.specs.declared.Session.{Session}
+use Rattle.sessions.specs.Sessions.{readerOf}
+use Rattle.sessions.specs.Coherence.{coherent}
+use Rattle.sessions.specs.Stepping.{Step, refusedStep, longest, stepOf}
+use Rattle.sessions.specs.declared.Session.{Session}
 use Rattle.demands.proofs.CoherentHeld.{coherent-held, coherent-more}
 use Rattle.demands.proofs.CompletedParts.{or-full}
 use Rattle.demands.proofs.CompletedNext.{Whole, next-completed}

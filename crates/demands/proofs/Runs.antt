@@ -18,9 +18,9 @@ use Rattle.reader.proofs.EventsFirst.{stateAfter, state-rest, ending-is}
 use Rattle.model.specs.Theory.{Record}
 use Rattle.model.specs.Records.{Body}
 use Rattle.model.specs.Dispatch.{recordBytesOf, expected}
-use Rattle.dispatcher.specs.Sessions.{readerOf, freshOf}
-use Rattle.dispatcher.specs.Stepping.{answered, refusedStep, stepOf, Run, runBy, runOf}
-use Rattle.dispatcher.specs.declared.Session.{Session}
+use Rattle.sessions.specs.Sessions.{readerOf, freshOf}
+use Rattle.sessions.specs.Stepping.{answered, refusedStep, stepOf, Run, runBy, runOf}
+use Rattle.sessions.specs.declared.Session.{Session}
 use Rattle.demands.specs.Runs.{SceneRun}
 use Rattle.demands.proofs.Goes.{state-count}
 use Rattle.demands.proofs.Expected.{expected-whole}

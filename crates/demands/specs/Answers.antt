@@ -19,10 +19,10 @@ use Rattle.model.specs.Elements.{elementOf}
 use Rattle.model.specs.Records.{Body}
 use Rattle.model.specs.Stream.{entriesAt, after}
 use Rattle.model.specs.Dispatch.{dispatch, recordBytesOf}
-use Rattle.dispatcher.specs.Sessions.{readerOf, stateOf}
-use Rattle.dispatcher.specs.Coherence.{coherent}
-use Rattle.dispatcher.specs.Stepping.{event, planOf, Step, answered, refusedStep, longest, stepOf}
-use Rattle.dispatcher.specs.declared.Session.{Session}
+use Rattle.sessions.specs.Sessions.{readerOf, stateOf}
+use Rattle.sessions.specs.Coherence.{coherent}
+use Rattle.sessions.specs.Stepping.{event, planOf, Step, answered, refusedStep, longest, stepOf}
+use Rattle.sessions.specs.declared.Session.{Session}
 
 -- nothing of 10, 11, 12, 7 and 20
 pub record Ready (table s : List ℕ) (z : Session) : Type 0 where

@@ -1,6 +1,6 @@
 -- What the worked examples compute with, named once. A definition.
 use mathlib.Core.Bool.{Bool, true}
-use Rattle.dispatcher.specs.Computing as dispatcher
+use Rattle.sessions.specs.Computing as dispatcher
 use Rattle.demands.specs.Answers.{settled}
 use Rattle.demands.specs.Calls.{stepsFrom, joinedOf, callsFrom, eventsIn, allRecords}
 use Rattle.demands.specs.Offers.{offeredFrom}

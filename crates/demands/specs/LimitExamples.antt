@@ -8,7 +8,7 @@ use Rattle.laws.specs.Text.{bytes}
 use Rattle.table.specs.Table.{standard, former, decode}
 use Rattle.table.specs.declared.Answer.{Answer}
 use Rattle.table.specs.Examples.{T, T2}
-use Rattle.dispatcher.specs.Stepping.{answered, runOf}
+use Rattle.sessions.specs.Stepping.{answered, runOf}
 use Rattle.demands.specs.Limits.{passed, runEnd}
 use Rattle.demands.specs.Computing.{computing}
 

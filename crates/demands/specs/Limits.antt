@@ -15,7 +15,7 @@ use Rattle.model.specs.Tree as tree
 use Rattle.model.specs.Tree.{Tree, stillOpen, completed, treeOf}
 use Rattle.model.specs.Model.{assignedAt, unitsOpened, modelOf, assignedOf}
 use Rattle.model.specs.Dispatch.{dispatch, told}
-use Rattle.dispatcher.specs.Stepping.{eventPlace}
+use Rattle.sessions.specs.Stepping.{eventPlace}
 use Rattle.demands.specs.Scenes.{readerAfter}
 
 -- the events of a scene as the dispatcher takes them, and their tree, closed behind the last

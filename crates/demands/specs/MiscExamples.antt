@@ -7,8 +7,8 @@ use Rattle.laws.specs.Text.{bytes}
 use Rattle.table.specs.Table.{standard}
 use Rattle.table.specs.Examples.{T}
 use Rattle.model.specs.Rows.{row}
-use Rattle.dispatcher.specs.Sessions.{freshOf}
-use Rattle.dispatcher.specs.Stepping.{Step, answered, runOf}
+use Rattle.sessions.specs.Sessions.{freshOf}
+use Rattle.sessions.specs.Stepping.{Step, answered, runOf}
 use Rattle.table.specs.declared.Answer.{Answer}
 use Rattle.demands.specs.Answers.{settled}
 use Rattle.demands.specs.Calls.{Call, stepsFrom}

@@ -6,9 +6,10 @@ use mathlib.Core.Bool.{true}
 use mathlib.Core.Logic.{_⊎_}
 use lib.ListN.{length}
 use Rattle.table.specs.Table.{standard}
-use Rattle.dispatcher.specs.Stepping.{Step}
-use Rattle.dispatcher.specs.Offers.{holdsSame, commitOf}
-use Rattle.dispatcher.specs.declared.Session.{Session}
+use Rattle.sessions.specs.Stepping.{Step}
+use Rattle.sessions.specs.Asking.{holdsSame}
+use Rattle.dispatcher.specs.Offers.{commitOf}
+use Rattle.sessions.specs.declared.Session.{Session}
 use Rattle.dispatcher.specs.declared.offers.Offer.{Offer}
 use Rattle.dispatcher.specs.declared.offers.Asked.{Asked}
 use Rattle.demands.specs.Answers.{Unchanged}
@@ -26,7 +27,7 @@ JudgedNumber n = ((10 ≤ n) × (n ≤ 12)) ⊎ ((n ≡ 7) ⊎ (n ≡ 20))
 
 -- "x holds what o's session holds and |s| is o's length"
 abbrev pub AsOffered : Offer → Session → List ℕ → Type 0
-AsOffered o z s = (holdsSame z (o .session) ≡ true) × (length s ≡ o .length)
+AsOffered o z s = (holdsSame z (o .session .held) ≡ true) × (length s ≡ o .length)
 
 -- ---- lists
 -- A call of step or of advance, or of commit of an offer

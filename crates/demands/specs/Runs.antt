@@ -6,7 +6,7 @@ use lib.ListN.{length, take, drop}
 use Rattle.table.specs.Table.{decode}
 use Rattle.reader.specs.Events.{refusal, finished, events, lastOf}
 use Rattle.model.specs.Dispatch.{expected}
-use Rattle.dispatcher.specs.Stepping.{Run}
+use Rattle.sessions.specs.Stepping.{Run}
 use Rattle.demands.specs.Scenes.{modelCount, wholeModel}
 
 pub record SceneRun (table s out : List ℕ) (r : Run) : Type 0 where

@@ -7,7 +7,7 @@ use Rattle.laws.specs.Text.{bytes}
 use Rattle.table.specs.Table.{standard}
 use Rattle.table.specs.Examples.{T, T2}
 use Rattle.model.specs.Rows.{row}
-use Rattle.dispatcher.specs.Stepping.{Run, runOf}
+use Rattle.sessions.specs.Stepping.{Run, runOf}
 use Rattle.laws.specs.Gather.{gather}
 
 -- room for 20 records

@@ -1,10 +1,3 @@
-pub mod Sessions
-pub mod Coherence
-pub mod Checks
-pub mod Stepping
+pub mod Handed
 pub mod Offers
-pub mod Turns
-pub mod Computing
-pub mod CoherenceExamples
-pub mod StepExamples
 pub mod OfferExamples

@@ -13,13 +13,14 @@ use Rattle.table.specs.declared.Action.the-variants.{Validate}
 use Rattle.table.specs.Examples.{T, T2}
 use Rattle.model.specs.Rows.{row}
 use Rattle.strands.specs.Packed.{packed}
-use Rattle.dispatcher.specs.Sessions.{freshOf}
-use Rattle.dispatcher.specs.Stepping.{answered, refusedStep, stepOf, advanceOf}
-use Rattle.dispatcher.specs.Offers.{holdsSame, offerOf, askedAs, askOf, commitOf}
-use Rattle.dispatcher.specs.StepExamples.{having}
-use Rattle.dispatcher.specs.declared.Session.{Session}
+use Rattle.sessions.specs.Sessions.{freshOf}
+use Rattle.sessions.specs.Stepping.{answered, refusedStep, stepOf, advanceOf}
+use Rattle.sessions.specs.Asking.{holdsSame}
+use Rattle.dispatcher.specs.Offers.{offerOf, askedAs, askOf, commitOf}
+use Rattle.sessions.specs.StepExamples.{having}
+use Rattle.sessions.specs.declared.Session.{Session}
 use Rattle.dispatcher.specs.declared.offers.Offer.{Offer}
-use Rattle.dispatcher.specs.Computing.{computing}
+use Rattle.sessions.specs.Computing.{computing}
 
 abbrev A : List ℕ
 A = bytes "<r xmlns=\"u\">a<x/></r>"
@@ -61,7 +62,7 @@ withStrands z strands =
     }
 
 abbrev offering : Session → ℕ → Offer
-offering z n = record { session = z; length = n }
+offering z n = record { session = record { held = z }; length = n }
 
 -- ---- ask
 -- "Each offer of an ask is (the session given, the scene's length)"

@@ -9,29 +9,29 @@ use lexer::Tag;
 use lexer::Tagged;
 use lexer::stops::number_of;
 use lexer::stops::place_of;
-use lexer::tags::attr_in;
-use lexer::tags::end_tag;
-use lexer::tags::start_tag;
-use lexer::values::text_end;
 use misc::begins::begin_at;
 use reader::Found;
 use reader::Meant;
 use reader::Scope;
 use reader::Span;
+use tags::attr_in;
+use tags::end_tag;
+use tags::start_tag;
+use values::text_end;
 ghost use Prim.Native.Nat.{_+_, _<_};
 ghost use lib.ListN.{length};
+use namespaces::meaning;
+use namespaces::meant_number;
+use namespaces::spaces::found_in;
 use reader::bindings::at_most;
 use reader::bindings::put_keys;
 use reader::kinds::all_plain;
 use reader::kinds::is_declaration;
 use reader::kinds::kind_of;
 use reader::kinds::minus;
-use reader::namespaces::meaning;
-use reader::namespaces::meant_number;
 use reader::scopes::name_in;
 use reader::scopes::part_in;
 use reader::scopes::same_name;
-use reader::spaces::found_in;
 
 // Where the reader is; number 0 while it goes on, else the number and the place that it stops with.
 struct Walk {

@@ -35,8 +35,8 @@ use Rattle.model.proofs.Steps.{stream-step}
 use Rattle.model.proofs.Theorems.{stream-of-completed}
 use Rattle.model.proofs.Assigned.{attributesAt, assigned-units}
 use Rattle.model.proofs.Count.{attributeCount}
-use Rattle.dispatcher.specs.Stepping.{longest}
-use Rattle.dispatcher.proofs.Followed.{event-few}
+use Rattle.sessions.specs.Stepping.{longest}
+use Rattle.sessions.proofs.Followed.{event-few}
 use Rattle.demands.specs.Scenes.{modelCount}
 use Rattle.demands.specs.Limits.{toldAll, eventsWithin}
 use Rattle.demands.proofs.Prefixes.{toldFirst, told-first-length}

@@ -24,7 +24,7 @@ use Rattle.model.specs.Dispatch.{dispatch, told}
 use Rattle.model.proofs.Lists.{all-gather, every}
 use Rattle.model.proofs.Assigned.{attributesAt}
 use Rattle.model.proofs.Count.{attributeCount}
-use Rattle.dispatcher.proofs.Followed.{EventFew}
+use Rattle.sessions.proofs.Followed.{EventFew}
 use Rattle.forecast.proofs.WrittenFew.{keep-few, pairs-length, element-few}
 
 total-few : {A : Type 0} (f : A → ℕ) (l : List A) → All (λ (x : A). f x ≤ 36) l → total f l ≤ 36 * length l

@@ -10,13 +10,13 @@ use Rattle.table.specs.Table.{decode, headerOf}
 use Rattle.table.specs.Index.{indexOf}
 use Rattle.table.specs.Judge.{Accepted}
 use Rattle.reader.proofs.Progress.{leftOf}
-use Rattle.dispatcher.specs.Sessions.{strandCount, readerOf, freshOf, headOf, sessionAt}
-use Rattle.dispatcher.specs.Stepping.{planOf, Step}
-use Rattle.dispatcher.specs.Turns.{Beside, LoopReady, weighed}
-use Rattle.dispatcher.specs.declared.Session.{Session}
-use Rattle.dispatcher.specs.declared.Head.{Head}
-use Rattle.dispatcher.proofs.RunTurns.{fresh-arrays}
-use Rattle.dispatcher.proofs.SoundCoherent.{sound-coherent}
+use Rattle.sessions.specs.Sessions.{strandCount, readerOf, freshOf, headOf, sessionAt}
+use Rattle.sessions.specs.Stepping.{planOf, Step}
+use Rattle.sessions.specs.Turns.{Beside, LoopReady, weighed}
+use Rattle.sessions.specs.declared.Session.{Session}
+use Rattle.sessions.specs.declared.Head.{Head}
+use Rattle.advances.proofs.RunTurns.{fresh-arrays}
+use Rattle.sessions.proofs.SoundCoherent.{sound-coherent}
 use Rattle.forecast.specs.Forecasts.{greaterOf, figuresOf}
 use Rattle.forecast.proofs.Stops.{Went, turn-stops, turn-goes}
 use Rattle.forecast.proofs.Figured.{Figured, figured-fresh, left-less, shallow-behind, records-fit, opened-figured, stayed-figured, figured-stops}

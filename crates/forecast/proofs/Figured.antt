@@ -26,13 +26,13 @@ use Rattle.model.specs.Model.{unitsOpened}
 use Rattle.model.specs.Dispatch.{dispatch, told}
 use Rattle.model.proofs.Assigned.{modesAt}
 use Rattle.model.proofs.Opened.{reached-units}
-use Rattle.dispatcher.specs.Sessions.{strandCount, levelIn, levelsIn, readerOf, stateOf, freshOf}
-use Rattle.dispatcher.specs.Stepping.{event, planOf}
-use Rattle.dispatcher.specs.declared.Session.{Session}
-use Rattle.dispatcher.proofs.NewStrands.{new-length}
-use Rattle.dispatcher.proofs.SoundCoherent.{strands-counted}
-use Rattle.dispatcher.proofs.Behind.{Behind, behind}
-use Rattle.dispatcher.proofs.Followed.{followed, followed-few}
+use Rattle.sessions.specs.Sessions.{strandCount, levelIn, levelsIn, readerOf, stateOf, freshOf}
+use Rattle.sessions.specs.Stepping.{event, planOf}
+use Rattle.sessions.specs.declared.Session.{Session}
+use Rattle.sessions.proofs.NewStrands.{new-length}
+use Rattle.sessions.proofs.SoundCoherent.{strands-counted}
+use Rattle.sessions.proofs.Behind.{Behind, behind}
+use Rattle.sessions.proofs.Followed.{followed, followed-few}
 use Rattle.demands.specs.Scenes.{modelCount}
 use Rattle.demands.specs.Limits.{depthAt, strandsAt, eventsWithin, End, runEnd}
 use Rattle.demands.proofs.Measures.{streamAfter, innermost, levels-length, depth-is, inner-strands}

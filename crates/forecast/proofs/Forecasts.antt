@@ -23,10 +23,10 @@ use Rattle.reader.specs.Events.{freshReader, events, lastOf}
 use Rattle.reader.specs.Spans.{span}
 use Rattle.reader.proofs.Held.{held-fresh, numbered}
 use Rattle.reader.proofs.EventsFirst.{stateAfter, state-held, events-end}
-use Rattle.dispatcher.specs.Sessions.{freshOf}
-use Rattle.dispatcher.specs.declared.Session.{Session}
-use Rattle.dispatcher.specs.Stepping.{Step, answered, advanceOf, handed, Run, runOf}
-use Rattle.dispatcher.proofs.RunTurns.{advance-refused, advance-too-long}
+use Rattle.sessions.specs.Sessions.{freshOf}
+use Rattle.sessions.specs.declared.Session.{Session}
+use Rattle.sessions.specs.Stepping.{given, Step, answered, advanceOf, Run, runOf}
+use Rattle.advances.proofs.RunTurns.{advance-refused, advance-too-long}
 use Rattle.demands.specs.Scenes.{modelCount}
 use Rattle.demands.specs.Limits.{depthAt, strandsAt, firstPast, eventsWithin, readEnd, runEnd}
 use Rattle.demands.specs.Answers as step
@@ -50,7 +50,7 @@ pub record NoneTaken (table s : List ℕ) (number place : ℕ) : Type 0 where
   pub is : forecastOf standard table s ≡ noFigures number place
   pub not-0 : number ≡ 0 → ⊥
   pub few : number ≤ 12
-  pub run : (out : List ℕ) → advanceOf standard (2 * length s + 2) table s freshOf out ≡ handed (record { answer = answered number place 0 0; session = freshOf }) out
+  pub run : (out : List ℕ) → advanceOf standard (2 * length s + 2) table s freshOf out ≡ given (answered number place 0 0) freshOf out
 
 abbrev Way : List ℕ → List ℕ → Type 0
 Way table s = ((number : ℕ) × (place : ℕ) × NoneTaken table s number place) ⊎ ((Accepted table ≡ true) × (length s ≤ 16777215))

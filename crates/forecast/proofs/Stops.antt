@@ -20,10 +20,10 @@ use Rattle.reader.specs.Spans.{span}
 use Rattle.reader.proofs.Held.{numbered}
 use Rattle.model.specs.Theory.{Record}
 use Rattle.model.specs.Records.{Body}
-use Rattle.dispatcher.specs.Sessions.{readerOf}
-use Rattle.dispatcher.specs.Stepping.{eventPlace, Plan, refused, finished, event, planBy, planOf, Step}
-use Rattle.dispatcher.specs.Turns.{weighed}
-use Rattle.dispatcher.specs.declared.Session.{Session}
+use Rattle.sessions.specs.Sessions.{readerOf}
+use Rattle.sessions.specs.Stepping.{eventPlace, Plan, refused, finished, event, planBy, planOf, Step}
+use Rattle.sessions.specs.Turns.{weighed}
+use Rattle.sessions.specs.declared.Session.{Session}
 use Rattle.demands.specs.Limits.{passed, firstPast, eventsWithin, readEnd, runEnd}
 use Rattle.demands.proofs.Goes.{goes-on}
 use Rattle.demands.proofs.Reached.{Reached}

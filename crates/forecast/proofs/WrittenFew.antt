@@ -23,8 +23,8 @@ use Rattle.model.specs.Stream.{Level, State, Entry, HeldStrand, entriesAt, unit
 use Rattle.model.specs.Dispatch.{dispatch, told}
 use Rattle.model.proofs.Assigned.{modesAt, attributesAt}
 use Rattle.model.proofs.Count.{attributeCount, length-give, length-attributes}
-use Rattle.dispatcher.proofs.Followed.{EventFew}
-use Rattle.dispatcher.proofs.NewStrands.{new-length}
+use Rattle.sessions.proofs.Followed.{EventFew}
+use Rattle.sessions.proofs.NewStrands.{new-length}
 
 pub keep-few : {A : Type 0} (p : A → Bool) (l : List A) → length (keep p l) ≤ length l
 unfolding keep

@@ -11,7 +11,7 @@ use Rattle.table.specs.Judge.{judged}
 use Rattle.reader.specs.Events.{events}
 use Rattle.model.specs.Model.{unitsOpened, cutModel}
 use Rattle.model.specs.Dispatch.{dispatch, told}
-use Rattle.dispatcher.specs.Stepping.{longest}
+use Rattle.sessions.specs.Stepping.{longest}
 use Rattle.demands.specs.Scenes.{modelCount}
 use Rattle.demands.specs.Limits.{depthAt, strandsAt, eventsWithin, runEnd}
 use Rattle.forecast.specs.declared.figures.Forecast.{Forecast}

@@ -1,4 +1,2 @@
 pub mod Forecasts
 pub mod Bounds
-pub mod BoundExamples
-pub mod FigureExamples

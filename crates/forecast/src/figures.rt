@@ -1,8 +1,8 @@
 // The figures of an accepted table and a scene that is not too long, event by event.
 use attributes::HELD;
-use dispatcher::Session;
-use dispatcher::steps::weighed_step;
 use reader::Scope;
+use sessions::Session;
+use steps::weighed_step;
 use strands::LEVELS;
 use strands::levels::count_at;
 ghost use mathlib.Core.Path.{_≡_};

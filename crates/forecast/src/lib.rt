@@ -3,7 +3,7 @@ pub mod figures;
 
 use crate::figures::Forecast;
 use crate::figures::figures_of;
-use dispatcher::Session;
+use sessions::Session;
 use table::index::load;
 use table::judge;
 use table::words::header_of;

@@ -8,7 +8,7 @@ use lib.Dec.{eqb, ltb}
 use Rattle.laws.specs.Lists.{keep}
 use Rattle.laws.specs.Gather.{gather, total}
 use Rattle.laws.specs.Over.{overwrite}
-use Rattle.dispatcher.specs.Sessions.{freshOf}
+use Rattle.sessions.specs.Sessions.{freshOf}
 use Rattle.demands.specs.Calls.{Call, AnyCall, ofStep, ofAdvance}
 use Rattle.layout.specs.Layout.{sessionSize, sessionBytes}
 use Rattle.layout.specs.Answers.{answerNumbers, bytesBehind, tooShort}

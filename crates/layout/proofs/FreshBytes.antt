@@ -11,7 +11,7 @@ use Rattle.laws.specs.Gather.{gather}
 use Rattle.laws.specs.Over.{overwrite}
 use Rattle.laws.proofs.Gather.{gather-append}
 use Rattle.reader.proofs.Tabulated.{tabulate-same, tabulate-append}
-use Rattle.dispatcher.specs.Sessions.{freshOf}
+use Rattle.sessions.specs.Sessions.{freshOf}
 use Rattle.layout.specs.Layout.{bytes4, levelBytes, sessionBytes}
 use Rattle.layout.proofs.Filled.{tabulate-more, fill-start, fill-more}
 use Rattle.layout.proofs.Stored.{gather-upto}

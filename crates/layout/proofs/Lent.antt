@@ -11,13 +11,13 @@ use Rattle.laws.proofs.Lists.{getD-tabulate}
 use Rattle.table.specs.declared.Answer.{Answer}
 use Rattle.reader.proofs.Tabulated.{tabulate-same}
 use Rattle.strands.specs.Levels.{ofEach, levelNames, levelSpaces, levelStrands}
-use Rattle.dispatcher.specs.Sessions.{headOf, sessionAt}
-use Rattle.dispatcher.specs.Stepping.{Step, handed}
-use Rattle.dispatcher.specs.Turns.{advancedAnswer, advancedIn}
-use Rattle.dispatcher.specs.declared.Session.{Session}
-use Rattle.dispatcher.specs.declared.Head.{Head}
-use Rattle.dispatcher.specs.declared.Advanced.{Advanced}
-use Rattle.dispatcher.proofs.RunTurns.{parted}
+use Rattle.sessions.specs.Sessions.{headOf, sessionAt}
+use Rattle.sessions.specs.Stepping.{Step, given}
+use Rattle.sessions.specs.Turns.{advancedAnswer, advancedIn}
+use Rattle.sessions.specs.declared.Session.{Session}
+use Rattle.sessions.specs.declared.Head.{Head}
+use Rattle.sessions.specs.declared.Advanced.{Advanced}
+use Rattle.sessions.proofs.Parted.{parted}
 use Rattle.layout.specs.Layout.{word4, word8, levelAt, spaceAt, strandAt, sessionIn}
 
 pub head-read : (b : List ℕ) (place units depth bound : ℕ) → place ≡ word8 b 8 → units ≡ word8 b 16 → depth ≡ word8 b 24 → bound ≡ word8 b 32
@@ -60,5 +60,5 @@ module _ (b : List ℕ) where
     )
 
 pub lent-handed : (r : Advanced) (a : Answer) (levels bindings out : List ℕ) (x : Step) → a ≡ advancedAnswer r → advancedIn r levels bindings out ≡ x
-    → handed (record { answer = a; session = sessionAt (r .head) levels bindings }) out ≡ x
-lent-handed r a levels bindings out x e q = ap (λ (y : Answer). handed (record { answer = y; session = sessionAt (r .head) levels bindings }) out) e ∙ q
+    → given a (sessionAt (r .head) levels bindings) out ≡ x
+lent-handed r a levels bindings out x e q = ap (λ (y : Answer). given y (sessionAt (r .head) levels bindings) out) e ∙ q

@@ -21,14 +21,14 @@ use Rattle.model.specs.Stream.{entriesAt, after, HeldStrand}
 use Rattle.model.specs.Dispatch.{dispatch}
 use Rattle.strands.specs.Packed.{strandIn, packed}
 use Rattle.strands.proofs.Packing.{Packable, packed-back, below-more}
-use Rattle.dispatcher.specs.declared.Session.{Session}
-use Rattle.dispatcher.specs.Sessions.{readerOf, stateOf}
-use Rattle.dispatcher.specs.Coherence.{coherent}
+use Rattle.sessions.specs.declared.Session.{Session}
+use Rattle.sessions.specs.Sessions.{readerOf, stateOf}
+use Rattle.sessions.specs.Coherence.{coherent}
 use Rattle.reader.specs.declared.Binding.{Binding}
-use Rattle.dispatcher.specs.Stepping.{Plan, refused, finished, event, startPlan, ownDeclarations, planBy, planOf, Step, planned, longest, stepOf}
-use Rattle.dispatcher.proofs.Sound.{StrandSound}
-use Rattle.dispatcher.proofs.CoherentSound.{coherent-levels}
-use Rattle.dispatcher.proofs.NewStrands.{newStrands, new-strands}
+use Rattle.sessions.specs.Stepping.{Plan, refused, finished, event, startPlan, ownDeclarations, planBy, planOf, Step, planned, longest, stepOf}
+use Rattle.sessions.proofs.Sound.{StrandSound}
+use Rattle.sessions.proofs.CoherentSound.{coherent-levels}
+use Rattle.sessions.proofs.NewStrands.{newStrands, new-strands}
 use Rattle.layout.specs.Layout.{packs}
 use Rattle.layout.proofs.RoundTrip.{AllPack}
 

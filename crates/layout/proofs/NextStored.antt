@@ -27,14 +27,14 @@ use Rattle.model.specs.Stream.{entriesAt, after}
 use Rattle.model.specs.Dispatch.{dispatch}
 use Rattle.strands.specs.Packed.{packed}
 use Rattle.strands.proofs.Packing.{packed-all-small}
-use Rattle.dispatcher.specs.declared.Session.{Session}
-use Rattle.dispatcher.specs.Sessions.{readerOf, stateOf}
-use Rattle.dispatcher.specs.Coherence.{coherent}
-use Rattle.dispatcher.specs.Stepping.{Plan, refused, finished, event, startPlan, ownDeclarations, planBy, planOf, Step, planned, longest, stepOf, restOf, advanceOf}
-use Rattle.dispatcher.proofs.Sound.{Sound}
-use Rattle.dispatcher.proofs.CoherentSound.{coherent-sound}
-use Rattle.dispatcher.proofs.NewStrands.{newStrands, new-length}
-use Rattle.dispatcher.proofs.SoundStep.{sound-step}
+use Rattle.sessions.specs.declared.Session.{Session}
+use Rattle.sessions.specs.Sessions.{readerOf, stateOf}
+use Rattle.sessions.specs.Coherence.{coherent}
+use Rattle.sessions.specs.Stepping.{Plan, refused, finished, event, startPlan, ownDeclarations, planBy, planOf, Step, planned, longest, stepOf, restOf, advanceOf}
+use Rattle.sessions.proofs.Sound.{Sound}
+use Rattle.sessions.proofs.CoherentSound.{coherent-sound}
+use Rattle.sessions.proofs.NewStrands.{newStrands, new-length}
+use Rattle.sessions.proofs.SoundStep.{sound-step}
 use Rattle.layout.specs.Layout.{sessionIn, holdsSession, sessionBytes}
 use Rattle.layout.proofs.RoundTrip.{Storable, AllPack, read-back, held-back}
 use Rattle.layout.proofs.NextHeld.{each-take, each-over, new-packable}

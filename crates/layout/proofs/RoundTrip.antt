@@ -26,9 +26,9 @@ use Rattle.laws.specs.Reading.{le-or-lt}
 use Rattle.laws.proofs.Flags.{and-left, and-right}
 use Rattle.laws.proofs.Holds.{each-at}
 use Rattle.strands.specs.Packed.{strandIn, packed}
-use Rattle.dispatcher.specs.declared.Session.{Session}
-use Rattle.dispatcher.specs.Sessions.{freshOf}
-use Rattle.dispatcher.proofs.CoherentSound.{each-tabulated}
+use Rattle.sessions.specs.declared.Session.{Session}
+use Rattle.sessions.specs.Sessions.{freshOf}
+use Rattle.sessions.proofs.CoherentSound.{each-tabulated}
 use Rattle.layout.specs.Layout.{word4, word8, bytes4, bytes8, flag, bindingAt, levelAt, spaceAt, strandAt, packs, sessionIn, holdsSession, sessionBytes}
 use Rattle.layout.specs.Parts.{headBytes, levelWords}
 use Rattle.layout.proofs.Stored.{words-length, head-length, levels-length, part-length, each-level, gather-upto}

@@ -8,8 +8,7 @@ use lib.Dec.{ltb}
 use lib.ListN.{length}
 use Rattle.laws.specs.Over.{overwrite}
 use Rattle.table.specs.declared.Answer.{Answer}
-use Rattle.dispatcher.specs.Stepping.{Run, ran, Step, handed}
-use Rattle.dispatcher.specs.declared.Stepped.{Stepped}
+use Rattle.sessions.specs.Stepping.{Run, ran, Step}
 use Rattle.layout.specs.Layout.{sessionBytes}
 use Rattle.layout.specs.Answers.{answerNumbers, bytesBehind}
 
@@ -34,14 +33,14 @@ abbrev pub Handed : Answer → List ℕ → List ℕ → List ℕ → Step → T
 Handed r out′ b b′ w = (r ≡ w .answer) × ((out′ ≡ w .output) × (b′ ≡ bytesBehind b w))
 
 -- no step that gives 0, and some that do
-module _ (b : List ℕ) (r : Stepped) (out′ : List ℕ) (w : Step) (q : handed r out′ ≡ w) where
-  handed-on : (b′ : List ℕ) → b′ ≡ bytesBehind b (handed r out′) → Handed (r .answer) out′ b b′ w
+module _ (b : List ℕ) (r w : Step) (q : r ≡ w) where
+  handed-on : (b′ : List ℕ) → b′ ≡ bytesBehind b r → Handed (r .answer) (r .output) b b′ w
   handed-on b′ p = (ap (λ (x : Step). x .answer) q, (ap (λ (x : Step). x .output) q, p ∙ ap (bytesBehind b) q))
 
-  pub no-event : r .answer .events ≡ 0 → Handed (r .answer) out′ b b w
+  pub no-event : r .answer .events ≡ 0 → Handed (r .answer) (r .output) b b w
   no-event n = handed-on b (rw (eq-eqb (r .answer .events) 0 n))
 
-  pub some-events : (b′ : List ℕ) → (r .answer .events ≡ 0 → ⊥) → b′ ≡ overwrite b 0 (sessionBytes (r .session)) → Handed (r .answer) out′ b b′ w
+  pub some-events : (b′ : List ℕ) → (r .answer .events ≡ 0 → ⊥) → b′ ≡ overwrite b 0 (sessionBytes (r .session)) → Handed (r .answer) (r .output) b b′ w
   some-events b′ n p = handed-on b′ (p ∙ rw (ne-eqb (r .answer .events) 0 n))
 
 -- ---- what a call hands back: the number that it returns, the answer's numbers, the output, the session's bytes

@@ -7,8 +7,8 @@ use borrow.Author.Tests.{lt-ltb, le-ltb, eq-eqb, ne-eqb}
 use lib.Dec.{eqb, ltb}
 use lib.ListN.{length}
 use Rattle.table.specs.declared.Answer.{Answer}
-use Rattle.dispatcher.specs.Stepping.{answered, refusedStep, longest}
-use Rattle.dispatcher.specs.declared.Session.{Session}
+use Rattle.sessions.specs.Stepping.{answered, refusedStep, longest}
+use Rattle.sessions.specs.declared.Session.{Session}
 use Rattle.layout.proofs.Told.{Handed}
 
 abbrev pub unheldAnswer : Answer → Bool → Answer

@@ -7,7 +7,7 @@ use lib.Dec.{eqb, ltb}
 use Rattle.laws.specs.Over.{overwrite}
 use Rattle.table.specs.Judge.{judged}
 use Rattle.table.specs.declared.Answer.{Answer}
-use Rattle.dispatcher.specs.Stepping.{Step, refusedStep, longest}
+use Rattle.sessions.specs.Stepping.{Step, refusedStep, longest}
 use Rattle.layout.specs.Layout.{sessionIn, sessionBytes}
 
 -- number, place, events, records

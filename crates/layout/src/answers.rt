@@ -1,5 +1,5 @@
 // An answer told to a host, and what is answered where there is no session.
-use dispatcher::Session;
+use sessions::Session;
 use table::Answer;
 use table::judge;
 ghost use mathlib.Core.Path.{_≡_};
@@ -7,7 +7,7 @@ ghost use mathlib.Core.Bool.{cond, not};
 ghost use lib.ListN.{length};
 ghost use lib.Dec.{eqb, ltb};
 ghost use Rattle.table.specs.Judge.{judged};
-ghost use Rattle.dispatcher.specs.Stepping.{answered, longest};
+ghost use Rattle.sessions.specs.Stepping.{answered, longest};
 ghost use Rattle.layout.specs.Answers.{answerNumbers};
 
 // What a call answers where the session's slice has no room for it.

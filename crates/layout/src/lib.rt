@@ -1,3 +1,3 @@
 // A session in a host's bytes, and the answers that a host is told.
 pub mod answers;
-pub mod sessions;
+pub mod storing;

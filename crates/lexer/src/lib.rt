@@ -1,9 +1,7 @@
 // Bytes to tags and texts: names, references, values, attributes, tags. Prefixes are looked up by the layer above.
 pub mod names;
 pub mod stops;
-pub mod tags;
 pub mod utf8;
-pub mod values;
 
 // Why reading stops.
 pub enum Stop {

@@ -14,7 +14,7 @@ use Rattle.lexer.specs.declared.Begin.{Begin}
 use Rattle.lexer.specs.declared.Begin.the-variants as begin
 use Rattle.lexer.specs.declared.Ahead.{Ahead}
 use Rattle.lexer.specs.declared.Ahead.the-variants as ahead
-use Rattle.misc.proofs.BeginLaws.{AheadInside, ahead-inside, begin-is}
+use Rattle.lexer.proofs.BeginLaws.{AheadInside, ahead-inside, begin-is}
 
 -- r is where what stands ahead begins, m what the `match` says of it
 pub ahead-by : (s : List ℕ) (inside closed : Bool) (at : ℕ) (r m : Read) (x : Ahead) → r ≡ cond inside (read.End at) (spacesEnd s at) → r ≡ m → x ≡ afterRead (ending closed) m (λ (i : ℕ). eitherAt s inside closed i) → x ≡ aheadAt s inside closed at

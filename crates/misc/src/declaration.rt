@@ -5,9 +5,9 @@ use lexer::Stop;
 use lexer::Turn;
 use lexer::names::is_space;
 use lexer::names::spaces_end;
-use lexer::tags::equals_end;
-use lexer::tags::slash_at;
-use lexer::tags::want;
+use tags::equals_end;
+use tags::slash_at;
+use tags::want;
 ghost use mathlib.Core.Path.{_≡_};
 ghost use Rattle.lexer.specs.Declaration.{isDigit, isLetter, isFieldByte, wordEnd, someEnd, versionEnd, encodingEnd, answerEnd, standaloneEnd, fieldWord, fieldValue, quotedEnd, fieldEnd, turnFrom, fieldTurn, lastRest, standaloneThen, encodingRest, encodingThen, eitherThen, versionRest, versionThen, declarationEnd};
 

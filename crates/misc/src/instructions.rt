@@ -6,9 +6,9 @@ use lexer::Read;
 use lexer::Stop;
 use lexer::names::is_space;
 use lexer::names::part_end;
-use lexer::tags::want;
 use lexer::utf8::char_end;
 use lexer::utf8::is_char;
+use tags::want;
 ghost use mathlib.Core.Path.{_≡_};
 ghost use Rattle.lexer.specs.Misc.{commentRest, commentEnd, contentEnd, behindTarget, isXml, isDeclared, instructionEnd, miscEnd};
 

@@ -10,10 +10,10 @@ use Rattle.table.specs.Table.{standard}
 use Rattle.table.specs.Judge.{judged}
 use Rattle.table.specs.declared.Answer.{Answer}
 use Rattle.equality.specs.Checks.{withinArrays}
-use Rattle.dispatcher.specs.Stepping.{longest, handed}
-use Rattle.dispatcher.specs.Offers.{holdsSame, askAnswer, offered, stepWhere}
-use Rattle.dispatcher.specs.declared.Session.{Session}
-use Rattle.dispatcher.specs.declared.Stepped.{Stepped}
+use Rattle.sessions.specs.Stepping.{Step, longest}
+use Rattle.sessions.specs.Asking.{holdsSame, askAnswer, stepWhere}
+use Rattle.dispatcher.specs.Offers.{offered}
+use Rattle.sessions.specs.declared.Session.{Session}
 use Rattle.dispatcher.specs.declared.offers.Offer.{Offer}
 use Rattle.dispatcher.proofs.OfferTurns.{where-offered}
 use Rattle.layout.specs.Layout.{sessionIn, holdsSession}
@@ -24,7 +24,7 @@ use Rattle.offers.specs.Calls.{byteAsk, byteCommit}
 
 -- an offer as the code compares it: only where the session's counts fit its arrays
 abbrev pub compared : Offer → Session → List ℕ → Bool
-compared o z s = (withinArrays (z .scope .depth) (z .scope .bound) (z .spaces) && holdsSame z (o .session)) && eqb (length s) (o .length)
+compared o z s = (withinArrays (z .scope .depth) (z .scope .bound) (z .spaces) && holdsSame z (o .session .held)) && eqb (length s) (o .length)
 
 where-held : (table s : List ℕ) (z : Session) (out : List ℕ) (held : Bool) (o : Offer) → stepWhere (held && compared o z s) standard table s z out ≡ stepWhere (held && offered o z s) standard table s z out
 where-held table s z out true o = where-offered table s z out o
@@ -45,9 +45,9 @@ module _ (table s b : List ℕ) (held : Bool) (e : held ≡ holdsSession b) wher
     none-held r h q = rw (sym e ∙ not-true held h) (refusals (judged table) r (ltb longest (length s)) (sessionIn b) b out q)
 
     -- same: what comparing the offer said
-    pub committed : not held ≡ false → (z : Session) → z ≡ sessionIn b → (same : Bool) → same ≡ (holdsOffer offer && compared (offerIn offer) z s) → (r : Stepped) (out′ : List ℕ) → handed r out′ ≡ stepWhere same standard table s z out → handed r out′ ≡ byteCommit offer b table s out
+    pub committed : not held ≡ false → (z : Session) → z ≡ sessionIn b → (same : Bool) → same ≡ (holdsOffer offer && compared (offerIn offer) z s) → (r : Step) → r ≡ stepWhere same standard table s z out → r ≡ byteCommit offer b table s out
     unfolding byteCommit
-    committed h z ez same es r out′ q =
+    committed h z ez same es r q =
         q
         ∙ ap (λ (t : Bool). stepWhere t standard table s z out) es
         ∙ ap (λ (x : Session). stepWhere (holdsOffer offer && compared (offerIn offer) x s) standard table s x out) ez

@@ -9,7 +9,7 @@ use lib.ListN.{length}
 use Rattle.laws.specs.Tests.{on, off}
 use Rattle.laws.proofs.Flags.{or-left, or-right}
 use Rattle.table.specs.declared.Answer.{Answer}
-use Rattle.dispatcher.specs.Stepping.{Step}
+use Rattle.sessions.specs.Stepping.{Step}
 use Rattle.layout.specs.Layout.{sessionSize}
 use Rattle.layout.specs.Answers.{answerNumbers, bytesBehind, tooShort}
 use Rattle.layout.proofs.Told.{Handed}

@@ -6,8 +6,9 @@ use lib.ListN.{length}
 use lib.Dec.{ltb}
 use Rattle.table.specs.Table.{standard}
 use Rattle.table.specs.declared.Answer.{Answer}
-use Rattle.dispatcher.specs.Stepping.{Step}
-use Rattle.dispatcher.specs.Offers.{askAnswer, offered, stepWhere}
+use Rattle.sessions.specs.Stepping.{Step}
+use Rattle.sessions.specs.Asking.{askAnswer, stepWhere}
+use Rattle.dispatcher.specs.Offers.{offered}
 use Rattle.layout.specs.Layout.{sessionSize, sessionIn, holdsSession}
 use Rattle.layout.specs.Answers.{unheld}
 use Rattle.offers.specs.Layout.{offerSize, offerIn, holdsOffer}

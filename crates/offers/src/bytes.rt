@@ -1,12 +1,12 @@
 // An offer in a host's bytes: stored, and held against a session.
-use dispatcher::Head;
-use dispatcher::offers::same_session;
-use layout::sessions::SESSION_SIZE;
-use layout::sessions::arrays_in;
-use layout::sessions::head_in;
-use layout::sessions::holds_session;
-use layout::sessions::put8;
-use layout::sessions::word8_at;
+use asking::same_session;
+use layout::storing::SESSION_SIZE;
+use layout::storing::arrays_in;
+use layout::storing::head_in;
+use layout::storing::holds_session;
+use layout::storing::put8;
+use layout::storing::word8_at;
+use sessions::Head;
 use strands::LEVELS;
 ghost use mathlib.Core.Path.{_≡_};
 ghost use mathlib.Core.Bool.{_&&_};
@@ -16,8 +16,8 @@ ghost use lib.Dec.{eqb};
 ghost use Rattle.laws.specs.Over.{overwrite};
 ghost use Rattle.strands.specs.Levels.{levelSpaces};
 ghost use Rattle.equality.specs.Checks.{withinArrays};
-ghost use Rattle.dispatcher.specs.Sessions.{sessionAt};
-ghost use Rattle.dispatcher.specs.Offers.{holdsSame};
+ghost use Rattle.sessions.specs.Sessions.{sessionAt};
+ghost use Rattle.sessions.specs.Asking.{holdsSame};
 ghost use Rattle.layout.specs.Layout.{sessionSize};
 ghost use Rattle.offers.specs.Layout.{offerSize, offerIn, holdsOffer, offerBytes};
 
@@ -52,7 +52,7 @@ pub fn is_offered(
     bindings: &[u32; 256],
 ) -> bool
     requires { ⌜ offerSize ≤ length (now offer) ⌝ }
-    ensures { λ r. ⌜ r ≡ (holdsOffer (now (offer .entry)) && ((withinArrays (head .depth) (head .bound) (levelSpaces (now (levels .entry))) && holdsSame (sessionAt head (now (levels .entry)) (now (bindings .entry))) (offerIn (now (offer .entry)) .session)) && eqb len (offerIn (now (offer .entry)) .length))) ⌝ }
+    ensures { λ r. ⌜ r ≡ (holdsOffer (now (offer .entry)) && ((withinArrays (head .depth) (head .bound) (levelSpaces (now (levels .entry))) && holdsSame (sessionAt head (now (levels .entry)) (now (bindings .entry))) (offerIn (now (offer .entry)) .session .held)) && eqb len (offerIn (now (offer .entry)) .length))) ⌝ }
 {
     if word8_at(offer, 0) != 1 {
         return false;

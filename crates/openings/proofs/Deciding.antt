@@ -21,7 +21,7 @@ use Rattle.model.specs.Stream.{Entry, allot, newUnits}
 use Rattle.strands.specs.Packed.{strandIn, wordsAt}
 use Rattle.strands.specs.Entries.{entriesBy, entriesFrom, stayEntry, counted, strandWord, schemaWord, hereCount, Unnumbered, entriesIn}
 use Rattle.strands.specs.Rules.{unitsFor}
-use Rattle.strands.proofs.Entered.{here-count}
+use Rattle.entries.proofs.Entered.{here-count}
 use Rattle.attributes.specs.Attributes.{Sorted}
 use Rattle.strands.specs.Writing.{members, headClass, sectionCount, elementCount}
 use Rattle.openings.specs.Openings.{onlyNumber}

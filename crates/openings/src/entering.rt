@@ -2,13 +2,13 @@
 use crate::STRANDS;
 use attributes::Placing;
 use compare::part_of;
+use entries::stay_all;
+use entries::take_all;
+use entries::take_rules;
+use namespaces::clashes::has_uri;
 use reader::Found;
 use reader::Scope;
-use reader::clashes::has_uri;
 use strands::LEVELS;
-use strands::entries::stay_all;
-use strands::entries::take_all;
-use strands::entries::take_rules;
 use strands::levels::count_at;
 use strands::levels::space_at;
 ghost use mathlib.Core.Path.{_≡_};

@@ -30,7 +30,7 @@ use Rattle.lexer.specs.declared.Begin.the-variants as begin
 use Rattle.lexer.proofs.ValueLaws.{ValueTo, value-inside}
 use Rattle.lexer.proofs.Inside.{StopInside, ReadInside, within-read, TagInside, TaggedInside, TagReadInside, tag-inside, EndedInside, endTag-inside}
 use Rattle.lexer.proofs.WholeNames.{whole-name}
-use Rattle.misc.proofs.BeginLaws.{BeginInside, begin-inside}
+use Rattle.lexer.proofs.BeginLaws.{BeginInside, begin-inside}
 use Rattle.reader.specs.Spans.{bytesOf, wholeSpan}
 use Rattle.reader.specs.Namespaces.{Meaning, refused, meant, meaningOf}
 use Rattle.reader.specs.Events.{Start, Event, start, text, end, Open, ReaderState, freshReader, bindingsOf, Next, event, refusal, finished, stopped, colonEnd, partOf, isNil, left, endRead, startMeant, startRead, textRead, begun, nextBy, next}

@@ -29,7 +29,7 @@ use Rattle.lexer.specs.declared.Begin.the-variants as begin
 use Rattle.lexer.proofs.ValueLaws.{value-stable}
 use Rattle.lexer.proofs.Inside.{TaggedInside, TagReadInside, tag-inside, EndedInside, endTag-inside}
 use Rattle.lexer.proofs.Stable.{CutTag, tag-stable, endTag-stable}
-use Rattle.misc.proofs.BeginLaws.{CutBegin, begin-stable}
+use Rattle.lexer.proofs.BeginLaws.{CutBegin, begin-stable}
 use Rattle.reader.specs.Spans.{wholeSpan}
 use Rattle.reader.specs.Events.{Event, end, Open, ReaderState, bindingsOf, Next, event, refusal, finished, stopped, isNil, left, endRead, startMeant, startRead, textRead, begun, nextBy, next}
 use Rattle.reader.specs.Held.{OpenHeld, Held}

@@ -19,7 +19,7 @@ use Rattle.lexer.specs.Begins.{beginAt}
 use Rattle.lexer.proofs.CharacterLaws.{Within}
 use Rattle.lexer.proofs.ValueLaws.{ValueTo, value-inside}
 use Rattle.lexer.proofs.Inside.{StopInside, TaggedInside, tag-inside, EndedInside, endTag-inside}
-use Rattle.misc.proofs.BeginLaws.{BeginInside, begin-inside}
+use Rattle.lexer.proofs.BeginLaws.{BeginInside, begin-inside}
 use Rattle.lexer.specs.declared.Stop.{Stop}
 use Rattle.lexer.specs.declared.Stop.the-variants as stop
 use Rattle.lexer.specs.declared.Read.{Read}

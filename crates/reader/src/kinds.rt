@@ -8,7 +8,7 @@ use compare::part_of;
 use compare::same;
 use lexer::Attr;
 use lexer::Name;
-use lexer::tags::attr_in;
+use tags::attr_in;
 ghost use mathlib.Core.Path.{_≡_};
 ghost use Prim.Native.Nat.{ℕ, _-_};
 ghost use lib.Dec.{eqb};

@@ -1,11 +1,7 @@
 // Tags to events: declarations, prefixes looked up, numbers 4, 5 and 6, and the scopes of open elements.
 pub mod bindings;
-pub mod clashes;
-pub mod declarations;
 pub mod kinds;
-pub mod namespaces;
 pub mod scopes;
-pub mod spaces;
 
 // Bytes of the scene: the first, and how many.
 pub struct Span {

@@ -8,12 +8,4 @@ pub mod StartRecords
 pub mod Counting
 pub mod Counted
 pub mod Ruled
-pub mod UnitRows
-pub mod ElementRows
-pub mod Laying
-pub mod Taking
-pub mod UnitNumbers
-pub mod Entered
-pub mod Copies
 pub mod LevelNumbers
-pub mod KeptCopies

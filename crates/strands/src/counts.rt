@@ -21,7 +21,7 @@ ghost use Rattle.attributes.specs.Attributes.{sortedIn, sortedHeld, sectionsIn,
 ghost use Rattle.strands.specs.Writing.{members, headClass, keeps, sectionCount, elementCount};
 
 // The class of the k-th attribute's namespace.
-pub(crate) fn class_at(attributes: &[u32; HELD], k: usize) -> u8
+pub fn class_at(attributes: &[u32; HELD], k: usize) -> u8
     requires { ⌜ k < 16 ⌝ }
     ensures { λ r. ⌜ ((sections : List ℕ) → r ≡ sortedIn (attributesIn (now (attributes .entry))) sections k .class) ⌝ }
 {
@@ -29,7 +29,7 @@ pub(crate) fn class_at(attributes: &[u32; HELD], k: usize) -> u8
 }
 
 // How many of the n attributes are of the j-th section.
-pub(crate) fn members_of(attributes: &[u32; HELD], n: usize, j: usize) -> usize
+pub fn members_of(attributes: &[u32; HELD], n: usize, j: usize) -> usize
     requires { ⌜ (n ≤ 16) × (j ≤ 16) ⌝ }
     ensures { λ r. ⌜ (r ≡ length (members (sortedHeld (now (attributes .entry)) n) j)) × (r ≤ 16) ⌝ }
 {
@@ -46,7 +46,7 @@ pub(crate) fn members_of(attributes: &[u32; HELD], n: usize, j: usize) -> usize
 }
 
 // The class of the j-th section: that of its first attribute; 0 where it has none.
-pub(crate) fn section_class(attributes: &[u32; HELD], n: usize, j: usize) -> u8
+pub fn section_class(attributes: &[u32; HELD], n: usize, j: usize) -> u8
     requires { ⌜ (n ≤ 16) × (j ≤ 16) ⌝ }
     ensures { λ r. ⌜ r ≡ headClass (members (sortedHeld (now (attributes .entry)) n) j) ⌝ }
 {
@@ -62,13 +62,7 @@ pub(crate) fn section_class(attributes: &[u32; HELD], n: usize, j: usize) -> u8
 }
 
 // The attribute units of a strand in this mode, of the first m sections.
-pub(crate) fn load_of(
-    index: &[u32; 256],
-    attributes: &[u32; HELD],
-    n: usize,
-    m: usize,
-    mode: u8,
-) -> Load
+pub fn load_of(index: &[u32; 256], attributes: &[u32; HELD], n: usize, m: usize, mode: u8) -> Load
     requires { ⌜ (n ≤ 16) × (m ≤ 16) ⌝ }
     ensures { λ r. ⌜ (
         let l = sortedHeld (now (attributes .entry)) n in
@@ -128,7 +122,7 @@ pub fn load_all(
 }
 
 // Is the k-th attribute kept with the element along a strand of this mode?
-pub(crate) fn is_kept(index: &[u32; 256], mode: u8, attributes: &[u32; HELD], k: usize) -> bool
+pub fn is_kept(index: &[u32; 256], mode: u8, attributes: &[u32; HELD], k: usize) -> bool
     requires { ⌜ k < 16 ⌝ }
     ensures { λ r. ⌜ r ≡ keeps (now (index .entry)) mode (sortedIn (attributesIn (now (attributes .entry))) (sectionsIn (now (attributes .entry))) k) ⌝ }
 {
@@ -139,7 +133,7 @@ pub(crate) fn is_kept(index: &[u32; 256], mode: u8, attributes: &[u32; HELD], k:
 }
 
 // How many of the n attributes are kept.
-pub(crate) fn kept_count(index: &[u32; 256], mode: u8, attributes: &[u32; HELD], n: usize) -> usize
+pub fn kept_count(index: &[u32; 256], mode: u8, attributes: &[u32; HELD], n: usize) -> usize
     requires { ⌜ n ≤ 16 ⌝ }
     ensures { λ r. ⌜ (r ≡ length (keep (keeps (now (index .entry)) mode) (sortedHeld (now (attributes .entry)) n))) × (r ≤ 16) ⌝ }
 {

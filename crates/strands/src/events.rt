@@ -60,7 +60,7 @@ fn with_unit(row: Row, unit: u32) -> Row
 }
 
 // A row of this unit with kind and class alone.
-pub(crate) fn plain_row(unit: u32, kind: u8, class: u8) -> Row
+pub fn plain_row(unit: u32, kind: u8, class: u8) -> Row
     ensures { λ r. ⌜ r ≡ rowFor unit (plain kind class (span 0 0)) ⌝ }
 {
     Row {

@@ -1,12 +1,9 @@
 // The strands of an element, its attribute sections, and the records of an event, over arrays of numbers.
 pub mod counts;
-pub mod elements;
-pub mod entries;
 pub mod events;
 pub mod levels;
 pub mod packed;
 pub mod rules;
-pub mod units;
 
 use reader::Scope;
 

@@ -10,28 +10,28 @@ ghost use Rattle.strands.specs.Packed.{strandIn, packed, actionNumber, t
 ghost use Rattle.strands.specs.Entries.{madeBy, aimedAt};
 
 // Its mode.
-pub(crate) fn mode_of(w: u32) -> u8
+pub fn mode_of(w: u32) -> u8
     ensures { λ r. ⌜ (r ≡ strandIn w .mode) × (r < 32) ⌝ }
 {
     (w % 32) as u8
 }
 
 // Whether its unit opened at this element.
-pub(crate) fn is_here(w: u32) -> bool
+pub fn is_here(w: u32) -> bool
     ensures { λ r. ⌜ r ≡ strandIn w .here ⌝ }
 {
     w / 128 % 2 == 1
 }
 
 // Whether a unit gets what it delivers.
-pub(crate) fn delivers(w: u32) -> bool
+pub fn delivers(w: u32) -> bool
     ensures { λ r. ⌜ r ≡ isUnit (receives (strandIn w)) ⌝ }
 {
     (w / 256 % 2 == 1) & (w / 32 % 4 != 1)
 }
 
 // The bits of its target.
-pub(crate) fn target_of(w: u32) -> u32
+pub fn target_of(w: u32) -> u32
     ensures { λ r. ⌜ r ≡ targetIn w ⌝ }
 {
     w / 512 % 65536
@@ -58,7 +58,7 @@ fn action_number(a: Action) -> u32
 }
 
 // Inside a section strands stay.
-pub(crate) fn stay_of(w: u32) -> u32
+pub fn stay_of(w: u32) -> u32
     ensures { λ r. ⌜ r ≡ packed (stay (strandIn w)) ⌝ }
 {
     let action = action_of((w / 32 % 4) as u8);
@@ -66,7 +66,7 @@ pub(crate) fn stay_of(w: u32) -> u32
 }
 
 // The strand that a rule makes of one. A new unit has no number yet.
-pub(crate) fn made_by(w: u32, rule: Rule) -> u32
+pub fn made_by(w: u32, rule: Rule) -> u32
     requires { ⌜ rule .next < 32 ⌝ }
     ensures { λ r. ⌜ r ≡ packed (madeBy (strandIn w) rule .strand) ⌝ }
 {
@@ -80,7 +80,7 @@ pub(crate) fn made_by(w: u32, rule: Rule) -> u32
 }
 
 // A strand whose unit opens here, with the unit's number.
-pub(crate) fn aimed(w: u32, unit: usize) -> u32
+pub fn aimed(w: u32, unit: usize) -> u32
     requires { ⌜ unit < 65536 ⌝ }
     ensures { λ r. ⌜ ((r′ : HeldStrand ℕ) → w ≡ packed r′ → r′ .target ≡ none → r′ .mode < 32 → r ≡ packed (aimedAt r′ unit)) ⌝ }
 {

@@ -29,7 +29,7 @@ fn opened(a: Action) -> usize
 }
 
 // Does one keep them with the element? Where there is none, they are kept.
-pub(crate) fn keeps_class(index: &[u32; 256], mode: u8, class: u8) -> bool
+pub fn keeps_class(index: &[u32; 256], mode: u8, class: u8) -> bool
     ensures { λ r. ⌜ r ≡ keepsClass (now (index .entry)) mode class ⌝ }
 {
     let c = choose(index, mode, 1, class);
@@ -50,7 +50,7 @@ pub(crate) fn keeps_class(index: &[u32; 256], mode: u8, class: u8) -> bool
 }
 
 // How many units they open.
-pub(crate) fn units_for(index: &[u32; 256], mode: u8, class: u8) -> usize
+pub fn units_for(index: &[u32; 256], mode: u8, class: u8) -> usize
     ensures { λ r. ⌜ (r ≡ unitsFor (now (index .entry)) mode class) × (r ≤ 128) ⌝ }
 {
     let c = choose(index, mode, 1, class);

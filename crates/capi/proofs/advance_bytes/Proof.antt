@@ -1,9 +1,8 @@
 -- `capi::advance_bytes` meets its contract.
 use borrow.Author.Needs.{needs}
 use Rattle.table.specs.Table.{standard}
-use Rattle.dispatcher.specs.Sessions.{sessionAt}
-use Rattle.dispatcher.specs.Stepping.{advanceOf}
-use Rattle.dispatcher.specs.declared.Stepped.{Stepped}
+use Rattle.sessions.specs.Sessions.{sessionAt}
+use Rattle.sessions.specs.Stepping.{given, advanceOf}
 use Rattle.layout.specs.Layout.{sessionIn}
 use Rattle.layout.proofs.Lent.{parts-joined, lent-handed}
 use Rattle.layout.proofs.Told.{no-event, some-events}
@@ -58,8 +57,8 @@ returns-2 c =
     let joined = parts-joined (sessionIn (a .session .now)) (hd .result) (before .0) (before .1 .0) (hd .ensures) (ar .ensures .0) (ar .ensures .1) (ar .ensures .2) (ar .ensures .3) in
     let out′ = after .1 .1 .1 .0 in
     let gone = lent-handed (s .result) (w .result) (after .0) (after .1 .0) out′ (advanceOf standard (a .most) (a .table .now) (a .scene .now) z (a .out .now)) (w .ensures) (s .ensures .0) in
-    let r : Stepped = record { answer = w .result; session = sessionAt (s .result .head) (after .0) (after .1 .0) } in
-    no-event (a .session .now) r out′ _ (advanced (a .most) (a .table .now) (a .scene .now) (a .session .now) (a .out .now) (held .result) (held .ensures) (c .before .before .before .before .before .before .before .before .before .before .before .before .before .before .before .if1 .left) z joined r out′ gone) (c .if2 .taken)
+    let r = given (w .result) (sessionAt (s .result .head) (after .0) (after .1 .0)) out′ in
+    no-event (a .session .now) r _ (advanced (a .most) (a .table .now) (a .scene .now) (a .session .now) (a .out .now) (held .result) (held .ensures) (c .before .before .before .before .before .before .before .before .before .before .before .before .before .before .before .if1 .left) z joined r gone) (c .if2 .taken)
 
 put-session-requires : tie.Need-put-session-requires
 put-session-requires c κs = c .before .before .before .before .before .before .before .before .before .before .before .before .before .before .before .before .before .before .before .before .before .before .before .before .before .pre
@@ -84,8 +83,8 @@ returns-3 c =
     let joined = parts-joined (sessionIn (a .session .now)) (hd .result) (before .0) (before .1 .0) (hd .ensures) (ar .ensures .0) (ar .ensures .1) (ar .ensures .2) (ar .ensures .3) in
     let out′ = after .1 .1 .1 .0 in
     let gone = lent-handed (s .result) (w .result) (after .0) (after .1 .0) out′ (advanceOf standard (a .most) (a .table .now) (a .scene .now) z (a .out .now)) (w .ensures) (s .ensures .0) in
-    let r : Stepped = record { answer = w .result; session = sessionAt (s .result .head) (after .0) (after .1 .0) } in
-    some-events (a .session .now) r out′ _ (advanced (a .most) (a .table .now) (a .scene .now) (a .session .now) (a .out .now) (held .result) (held .ensures) (c .before .before .before .before .before .before .before .before .before .before .before .before .before .before .before .before .before .before .before .before .before .if1 .left) z joined r out′ gone) _ (c .before .before .before .before .before .before .if2 .left) (c .before .before .put-session .ensures)
+    let r = given (w .result) (sessionAt (s .result .head) (after .0) (after .1 .0)) out′ in
+    some-events (a .session .now) r _ (advanced (a .most) (a .table .now) (a .scene .now) (a .session .now) (a .out .now) (held .result) (held .ensures) (c .before .before .before .before .before .before .before .before .before .before .before .before .before .before .before .before .before .before .before .before .before .if1 .left) z joined r gone) _ (c .before .before .before .before .before .before .if2 .left) (c .before .before .put-session .ensures)
 
 pub advance-bytes-spec : {M : Type 1} → statement M
 advance-bytes-spec =

@@ -2,7 +2,7 @@
 use mathlib.Core.Path.{refl}
 use borrow.Author.Needs.{needs}
 use Rattle.laws.specs.Over.{overwrite}
-use Rattle.dispatcher.specs.Sessions.{freshOf}
+use Rattle.sessions.specs.Sessions.{freshOf}
 use Rattle.layout.specs.Layout.{sessionBytes}
 use Rattle.layout.proofs.Told.{short, long}
 use Rattle.capi.proofs.calcivorne_fresh.Statement.{statement}

@@ -4,7 +4,7 @@ use Prim.Native.Nat.{_+_, _-_, _*_, _≤_}
 use native.Mathlib.Omega.{arith}
 use borrow.Author.Needs.{needs}
 use lib.ListN.{length}
-use Rattle.dispatcher.proofs.Room.{step-room}
+use Rattle.dispatcher.proofs.HandedBack.{step-room}
 use Rattle.dispatch.proofs.dispatch_scene.Statement.{statement}
 use Rattle.dispatch.proofs.dispatch_scene.Tie as tie
 

@@ -1,7 +1,7 @@
 -- `run` meets its contract: a fresh session's numbers and arrays, advanced.
 use mathlib.Core.Path.{ap, _∙_}
-use Rattle.dispatcher.specs.Sessions.{headOf}
-use Rattle.dispatcher.proofs.RunTurns.{run-within}
+use Rattle.sessions.specs.Sessions.{headOf}
+use Rattle.advances.proofs.RunTurns.{run-within}
 use borrow.Author.Needs.{needs}
 use Rattle.dispatcher.proofs.run.Statement.{statement}
 use Rattle.dispatcher.proofs.run.Tie as tie

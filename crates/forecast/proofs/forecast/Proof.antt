@@ -3,7 +3,7 @@ use mathlib.Core.Path.{ap, _∙_}
 use mathlib.Core.List.{[]}
 use borrow.Author.Needs.{needs}
 use Rattle.table.specs.Index.{indexOf}
-use Rattle.dispatcher.proofs.RunTurns.{then-accepted}
+use Rattle.advances.proofs.RunTurns.{then-accepted}
 use Rattle.forecast.proofs.ForecastWays.{then-refused, then-long, then-figures}
 use Rattle.forecast.proofs.forecast.Statement.{statement}
 use Rattle.forecast.proofs.forecast.Tie as tie

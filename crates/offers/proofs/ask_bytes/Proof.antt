@@ -1,6 +1,6 @@
 -- `offers::ask_bytes` meets its contract.
 use borrow.Author.Needs.{needs}
-use Rattle.dispatcher.specs.Sessions.{sessionAt}
+use Rattle.sessions.specs.Sessions.{sessionAt}
 use Rattle.layout.specs.Layout.{sessionIn}
 use Rattle.layout.proofs.Lent.{parts-joined}
 use Rattle.offers.proofs.ByteOffers.{none-asked, then-asked}

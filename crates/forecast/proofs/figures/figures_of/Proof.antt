@@ -6,9 +6,9 @@ use native.Mathlib.Omega.{arith}
 use borrow.Author.Needs.{needs}
 use denote.Ref.{now}
 use Rattle.reader.proofs.Progress.{leftOf}
-use Rattle.dispatcher.specs.Sessions.{readerOf, headOf, sessionAt}
-use Rattle.dispatcher.specs.Stepping.{Step}
-use Rattle.dispatcher.specs.Turns.{Beside, stepIn}
+use Rattle.sessions.specs.Sessions.{readerOf, headOf, sessionAt}
+use Rattle.sessions.specs.Stepping.{Step}
+use Rattle.sessions.specs.Turns.{Beside, stepIn}
 use Rattle.forecast.specs.Forecasts.{greaterOf}
 use Rattle.forecast.proofs.Figured.{Figured}
 use Rattle.forecast.proofs.FigureTurns.{Turned, first-figured, first-beside, turn-ready, turned, turn-again}

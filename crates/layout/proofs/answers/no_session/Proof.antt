@@ -3,7 +3,7 @@ use borrow.Author.Needs.{needs}
 use lib.Dec.{ltb}
 use lib.ListN.{length}
 use Rattle.table.specs.Judge.{judged}
-use Rattle.dispatcher.specs.Stepping.{longest}
+use Rattle.sessions.specs.Stepping.{longest}
 use Rattle.layout.proofs.Unheld.{unheld-judged, unheld-long, unheld-short}
 use Rattle.layout.proofs.answers.no_session.Statement.{statement}
 use Rattle.layout.proofs.answers.no_session.Tie as tie

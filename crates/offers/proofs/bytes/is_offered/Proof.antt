@@ -6,7 +6,7 @@ use lib.Dec.{eqb}
 use Rattle.laws.proofs.Over.{part-whole}
 use Rattle.strands.specs.Levels.{levelSpaces}
 use Rattle.equality.specs.Checks.{withinArrays}
-use Rattle.dispatcher.specs.Sessions.{sessionAt}
+use Rattle.sessions.specs.Sessions.{sessionAt}
 use Rattle.layout.proofs.Lent.{parts-joined}
 use Rattle.offers.proofs.Compared.{not-version, not-session, then-compared, both-compared}
 use Rattle.offers.proofs.bytes.is_offered.Statement.{statement}

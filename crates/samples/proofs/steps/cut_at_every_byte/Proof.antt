@@ -5,7 +5,7 @@ use native.Mathlib.Omega.{arith}
 use borrow.Author.Needs.{needs}
 use lib.ListN.{length}
 use lib.Seq.{length-take-le}
-use Rattle.dispatcher.proofs.Room.{step-room, step-one}
+use Rattle.dispatcher.proofs.HandedBack.{step-room, step-one}
 use Rattle.samples.proofs.steps.cut_at_every_byte.Statement.{statement}
 use Rattle.samples.proofs.steps.cut_at_every_byte.Tie as tie
 

@@ -8,7 +8,7 @@ use lib.ListN.{length}
 use Rattle.lexer.specs.Begins.{beginAt}
 use Rattle.lexer.specs.declared.Begin.{Begin}
 use Rattle.lexer.specs.declared.Begin.the-variants as begin
-use Rattle.misc.proofs.BeginLaws.{BeginInside, begin-inside}
+use Rattle.lexer.proofs.BeginLaws.{BeginInside, begin-inside}
 use Rattle.events.proofs.walk.Walk.next.Statement.{statement}
 use Rattle.events.proofs.walk.Walk.next.Tie as tie
 

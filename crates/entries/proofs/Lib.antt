@@ -1,0 +1,4 @@
+pub mod Laying
+pub mod Taking
+pub mod UnitNumbers
+pub mod Entered

@@ -1,0 +1,65 @@
+-- `layout::storing::no_level_padding` meets its contract: the answer so far is that of the first k levels.
+use mathlib.Core.Path.{_≡_, ap}
+use Prim.Native.Nat.{ℕ, _+_, _-_, _*_, _≤_}
+use native.Mathlib.Omega.{arith}
+use borrow.Author.Needs.{needs}
+use lib.Dec.{eqb}
+use Rattle.layout.specs.Layout.{word4}
+use Rattle.layout.proofs.Tested.{asked, asked-none, asked-more, asked-all}
+use Rattle.layout.proofs.storing.no_level_padding.Statement.{statement}
+use Rattle.layout.proofs.storing.no_level_padding.Tie as tie
+
+abbrev Inv-loop : tie.InvT-loop
+Inv-loop b all₀ k₀ all k = (k ≤ 64) × (all ≡ asked (λ (i : ℕ). eqb (word4 b (1064 + 96 * i + 28)) 0) 0 k)
+
+abbrev μ-loop : tie.MeasureT-loop
+μ-loop b all₀ k₀ all k = 64 - k
+
+loop-holds : tie.Need-loop-holds Inv-loop μ-loop
+loop-holds c = (omega arith, asked-none (λ (i : ℕ). eqb (word4 (c .before .args .b .now) (1064 + 96 * i + 28)) 0))
+
+mul-word4-at : tie.Need-mul-word4-at Inv-loop μ-loop
+mul-word4-at c = search needs
+
+add-word4-at : tie.Need-add-word4-at Inv-loop μ-loop
+add-word4-at c = search needs
+
+add-word4-at-2 : tie.Need-add-word4-at-2 Inv-loop μ-loop
+add-word4-at-2 c = search needs
+
+word4-at-requires : tie.Need-word4-at-requires Inv-loop μ-loop
+word4-at-requires c κs = search needs
+
+add-k : tie.Need-add-k Inv-loop μ-loop
+add-k c = search needs
+
+loop-less : tie.Need-loop-less Inv-loop μ-loop
+loop-less c = search needs
+
+loop-again : tie.Need-loop-again Inv-loop μ-loop
+loop-again c =
+    let a = c .before .before .before .before .args in
+    let l = c .before .before .loop in
+    (omega arith, asked-more (λ (i : ℕ). eqb (word4 (a .b .now) (1064 + 96 * i + 28)) 0) (l .all) (eqb (c .word4-at .result) 0) (l .k) (l .inv .1) (ap (λ (w : ℕ). eqb w 0) (c .word4-at .ensures)))
+
+returns : tie.Need-returns Inv-loop μ-loop
+returns c =
+    let a = c .before .before .before .args in
+    let l = c .before .loop in
+    asked-all (λ (i : ℕ). eqb (word4 (a .b .now) (1064 + 96 * i + 28)) 0) (l .all) (l .k) 64 (omega arith) (l .inv .1)
+
+pub no-level-padding-spec : {M : Type 1} → statement M
+no-level-padding-spec =
+    tie.close
+    (tie.spec
+    Inv-loop
+    μ-loop
+    loop-holds
+    mul-word4-at
+    add-word4-at
+    add-word4-at-2
+    word4-at-requires
+    add-k
+    loop-less
+    loop-again
+    returns)

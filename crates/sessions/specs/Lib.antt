@@ -1,0 +1,9 @@
+pub mod Sessions
+pub mod Coherence
+pub mod Checks
+pub mod Stepping
+pub mod Asking
+pub mod Turns
+pub mod Computing
+pub mod CoherenceExamples
+pub mod StepExamples

@@ -1,0 +1,4 @@
+pub mod UnitRows
+pub mod ElementRows
+pub mod Copies
+pub mod KeptCopies

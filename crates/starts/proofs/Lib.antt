@@ -1,0 +1,11 @@
+pub mod TagMeant
+pub mod Besides
+pub mod Joined
+pub mod Sorting
+pub mod NoneForeign
+pub mod StartCounts
+pub mod DecidedStart
+pub mod DecideWays
+pub mod StartTurns
+pub mod TagReadings
+pub mod Classed

@@ -1,0 +1,4 @@
+pub mod Weighing
+pub mod StartWritten
+pub mod StartSession
+pub mod OpeningTurns
