@@ -21,7 +21,7 @@ use Rattle.sessions.specs.Sessions.{freshOf, headOf, sessionOf, sessionAt}
 use Rattle.sessions.specs.Coherence.{coherent}
 use Rattle.sessions.specs.Stepping.{planOf, planned, Step, answered, refusedStep, stepOf, advanceOf, given, runBy, runOf, ran}
 use Rattle.sessions.specs.Turns.{TurnReady, LoopReady, advancedAnswer, advancedIn}
-use Rattle.sessions.specs.declared.Session.{Session}
+use Rattle.sessions.specs.Session.{Session}
 use Rattle.sessions.specs.declared.Head.{Head}
 use Rattle.sessions.specs.declared.Advanced.{Advanced}
 use Rattle.sessions.proofs.Sound.{Sound}

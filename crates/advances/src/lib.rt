@@ -4,8 +4,10 @@ use attributes::held::put_classes;
 use reader::Scope;
 use reader::bindings::put_keys;
 use sessions::Advanced;
+use sessions::BINDINGS;
 use sessions::Head;
-use sessions::Session;
+use sessions::LONGEST;
+use sessions::STRANDS;
 use sessions::checks::coherent;
 use steps::judged_step;
 use strands::LEVELS;
@@ -33,7 +35,7 @@ fn judged_steps(
     scene: &[u8],
     from: Head,
     levels: &mut [u32; LEVELS],
-    bindings: &mut [u32; 4 * Session::BINDINGS],
+    bindings: &mut [u32; 4 * BINDINGS],
     known: &mut [u64; 2 * Scope::KNOWN],
     most: usize,
     out: &mut [u8],
@@ -49,8 +51,8 @@ fn judged_steps(
     let mut attrs: [usize; 80] = [0; 80];
     let mut own: [u32; 64] = [0; 64];
     let mut attributes: [u32; HELD] = [0; HELD];
-    let mut words: [u32; Session::STRANDS] = [0; Session::STRANDS];
-    let mut schemas: [u32; Session::STRANDS] = [0; Session::STRANDS];
+    let mut words: [u32; STRANDS] = [0; STRANDS];
+    let mut schemas: [u32; STRANDS] = [0; STRANDS];
     let mut rows: [u64; 82] = [0; 82];
     let mut head = from;
     let mut used = 0;
@@ -105,7 +107,7 @@ fn steps_from(
     scene: &[u8],
     from: Head,
     levels: &mut [u32; LEVELS],
-    bindings: &mut [u32; 4 * Session::BINDINGS],
+    bindings: &mut [u32; 4 * BINDINGS],
     most: usize,
     out: &mut [u8],
 ) -> Advanced
@@ -175,7 +177,7 @@ pub fn advance_in(
     scene: &[u8],
     head: Head,
     levels: &mut [u32; LEVELS],
-    bindings: &mut [u32; 4 * Session::BINDINGS],
+    bindings: &mut [u32; 4 * BINDINGS],
     most: usize,
     out: &mut [u8],
 ) -> Advanced
@@ -193,7 +195,7 @@ pub fn advance_in(
     if judged.number != 0 {
         return none_taken(judged.number, judged.place, head);
     }
-    if Session::LONGEST < scene.len() {
+    if LONGEST < scene.len() {
         return none_taken(7, 0, head);
     }
     steps_from(

@@ -14,7 +14,7 @@ use Rattle.sessions.specs.Coherence.{coherent}
 use Rattle.sessions.specs.Stepping.{Plan, refused, finished, event, planOf, answered, refusedStep, planned}
 use Rattle.sessions.specs.Asking.{holdsSame, planAnswer, judgedFirst, stepWhere}
 use Rattle.sessions.specs.Turns.{weighed}
-use Rattle.sessions.specs.declared.Session.{Session}
+use Rattle.sessions.specs.Session.{Session}
 use Rattle.sessions.proofs.JudgedFirst.{table-refused, scene-refused, session-refused, session-goes, goes-same}
 use Rattle.advances.proofs.RunTurns.{judged-zero, number-zero, then-accepted, judged-coherent}
 

@@ -1,1 +1,2 @@
 pub mod AskTurns
+pub mod OfferTurns

@@ -7,8 +7,10 @@ use equality::same_arrays;
 use reader::Scope;
 use reader::bindings::put_keys;
 use sessions::Advanced;
+use sessions::BINDINGS;
 use sessions::Head;
-use sessions::Session;
+use sessions::LONGEST;
+use sessions::STRANDS;
 use sessions::Turn;
 use sessions::checks::coherent;
 use steps::weighed_step;
@@ -42,7 +44,7 @@ pub fn asked_step(
     scene: &[u8],
     head: Head,
     levels: &mut [u32; LEVELS],
-    bindings: &mut [u32; 4 * Session::BINDINGS],
+    bindings: &mut [u32; 4 * BINDINGS],
 ) -> Turn
     requires { ⌜ (Accepted (now table) ≡ true) × (header ≡ headerOf (now table)) × (length (now scene) ≤ 16777215) × (coherent (tableOf (now table) header) (now scene) (sessionAt head (now levels) (now bindings)) ≡ true) ⌝ }
     ensures { λ r. ⌜ turnAnswer r ≡ weighed (planOf (decode (now (table .entry))) (now (scene .entry)) (sessionAt head (now (levels .entry)) (now (bindings .entry)))) (sessionAt head (now (levels .entry)) (now (bindings .entry))) .answer ⌝ }
@@ -55,8 +57,8 @@ pub fn asked_step(
     let mut attrs: [usize; 80] = [0; 80];
     let mut own: [u32; 64] = [0; 64];
     let mut attributes: [u32; HELD] = [0; HELD];
-    let mut words: [u32; Session::STRANDS] = [0; Session::STRANDS];
-    let mut schemas: [u32; Session::STRANDS] = [0; Session::STRANDS];
+    let mut words: [u32; STRANDS] = [0; STRANDS];
+    let mut schemas: [u32; STRANDS] = [0; STRANDS];
     weighed_step(
         table,
         &index,
@@ -91,7 +93,7 @@ pub fn ask_in(
     scene: &[u8],
     head: Head,
     levels: [u32; LEVELS],
-    bindings: [u32; 4 * Session::BINDINGS],
+    bindings: [u32; 4 * BINDINGS],
 ) -> Answer
     ensures { λ r. ⌜ r ≡ askAnswer standard (now (table .entry)) (now (scene .entry)) (sessionAt head levels bindings) ⌝ }
 {
@@ -99,7 +101,7 @@ pub fn ask_in(
     if judged.number != 0 {
         return counted(judged.number, judged.place, 0);
     }
-    if Session::LONGEST < scene.len() {
+    if LONGEST < scene.len() {
         return counted(7, 0, 0);
     }
     let header = header_of(table);
@@ -133,10 +135,10 @@ fn same_head(a: Head, b: Head) -> bool
 pub fn same_session(
     head: Head,
     levels: &[u32; LEVELS],
-    bindings: &[u32; 4 * Session::BINDINGS],
+    bindings: &[u32; 4 * BINDINGS],
     other: Head,
     other_levels: &[u32; LEVELS],
-    other_bindings: &[u32; 4 * Session::BINDINGS],
+    other_bindings: &[u32; 4 * BINDINGS],
 ) -> bool
     ensures { λ r. ⌜ r ≡ (withinArrays (head .depth) (head .bound) (levelSpaces (now (levels .entry))) && holdsSame (sessionAt head (now (levels .entry)) (now (bindings .entry))) (sessionAt other (now («other_levels» .entry)) (now («other_bindings» .entry)))) ⌝ }
 {
@@ -159,7 +161,7 @@ fn withheld(
     scene: &[u8],
     head: Head,
     levels: &[u32; LEVELS],
-    bindings: &[u32; 4 * Session::BINDINGS],
+    bindings: &[u32; 4 * BINDINGS],
 ) -> Advanced
     ensures { λ r. ⌜ ((out : List ℕ) → (
         let z = sessionAt head (now (levels .entry)) (now (bindings .entry)) in
@@ -171,7 +173,7 @@ fn withheld(
     if judged.number != 0 {
         return none_taken(judged.number, judged.place, head);
     }
-    if Session::LONGEST < scene.len() {
+    if LONGEST < scene.len() {
         return none_taken(7, 0, head);
     }
     if !coherent(table, header_of(table), scene, head, levels, bindings) {
@@ -187,7 +189,7 @@ pub fn commit_in(
     scene: &[u8],
     head: Head,
     levels: &mut [u32; LEVELS],
-    bindings: &mut [u32; 4 * Session::BINDINGS],
+    bindings: &mut [u32; 4 * BINDINGS],
     out: &mut [u8],
 ) -> Advanced
     ensures { λ r. ⌜ (

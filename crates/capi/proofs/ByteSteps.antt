@@ -10,7 +10,7 @@ use Rattle.table.specs.Table.{standard}
 use Rattle.table.specs.Judge.{judged}
 use Rattle.table.specs.declared.Answer.{Answer}
 use Rattle.sessions.specs.Stepping.{Step, longest, advanceOf}
-use Rattle.sessions.specs.declared.Session.{Session}
+use Rattle.sessions.specs.Session.{Session}
 use Rattle.sessions.proofs.Advancing.{advance-one}
 use Rattle.layout.specs.Layout.{sessionIn, holdsSession}
 use Rattle.layout.proofs.Told.{Handed}

@@ -15,7 +15,7 @@ use Rattle.table.proofs.Accepted.{accepted-answer}
 use Rattle.sessions.specs.Sessions.{freshOf}
 use Rattle.sessions.specs.Coherence.{coherent}
 use Rattle.sessions.specs.Stepping.{Step, refusedStep, planned, planOf, longest, restOf, joined, stepOf, advanceOf, runBy, runOf}
-use Rattle.sessions.specs.declared.Session.{Session}
+use Rattle.sessions.specs.Session.{Session}
 use Rattle.forecast.specs.Forecasts.{noFigures, figuresOf, forecastOf}
 use Rattle.forecast.specs.declared.figures.Forecast.{Forecast}
 use Rattle.defaults.specs.Former.{Suffices, withAny, Meets, modelList, cutList}

@@ -31,7 +31,7 @@ use Rattle.entries.proofs.Entered.{allot-modes}
 use Rattle.sessions.specs.Sessions.{freshOf, levelUri, levelIn, levelsIn, readerOf, stateOf, withPlace, withEnd, withStart}
 use Rattle.sessions.specs.Coherence.{coherent}
 use Rattle.sessions.specs.Stepping.{Plan, refused, event, ownDeclarations, startPlan, planBy, planOf, Step, restOf, joined, stepOf, advanceOf, runBy, runOf}
-use Rattle.sessions.specs.declared.Session.{Session}
+use Rattle.sessions.specs.Session.{Session}
 use Rattle.defaults.specs.Meeting.{MeetsRule, taking, MeetsAt, MeetsNext}
 use Rattle.defaults.proofs.SameTable.{some-taken}
 

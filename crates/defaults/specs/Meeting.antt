@@ -11,7 +11,7 @@ use Rattle.model.specs.Groups.{AttributeGroup, groupsOf}
 use Rattle.model.specs.Stream.{HeldStrand, heldBeforeRoot, Level, Entry, entriesAt}
 use Rattle.model.specs.Dispatch.{dispatch}
 use Rattle.sessions.specs.Sessions.{readerOf, stateOf}
-use Rattle.sessions.specs.declared.Session.{Session}
+use Rattle.sessions.specs.Session.{Session}
 
 -- a strand in this mode meets a rule at a section of this kind and class: one that names the class, or one that names any
 abbrev pub MeetsRule : List ℕ → ℕ → ℕ → ℕ → Type 0

@@ -18,7 +18,7 @@ use Rattle.model.specs.Theory.{Record}
 use Rattle.model.specs.Records.{Body}
 use Rattle.sessions.specs.Sessions.{readerOf}
 use Rattle.sessions.specs.Stepping.{Step, answered, refusedStep, stepOf, restOf, joined, advanceOf}
-use Rattle.sessions.specs.declared.Session.{Session}
+use Rattle.sessions.specs.Session.{Session}
 use Rattle.sessions.proofs.Behind.{behind}
 use Rattle.demands.proofs.Bytes.{laid, none-laid, behind-laid, laid-length, laid-on}
 use Rattle.demands.proofs.Reached.{Reached, reached-step}

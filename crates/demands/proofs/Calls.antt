@@ -20,7 +20,7 @@ use Rattle.model.specs.Records.{Body}
 use Rattle.model.specs.Dispatch.{recordBytesOf, expected}
 use Rattle.sessions.specs.Sessions.{readerOf, freshOf}
 use Rattle.sessions.specs.Stepping.{Step}
-use Rattle.sessions.specs.declared.Session.{Session}
+use Rattle.sessions.specs.Session.{Session}
 use Rattle.sessions.proofs.Advancing.{advance-one}
 use Rattle.demands.specs.Calls.{Call, BeginsWith, GrowingFrom, Growing, lastSceneFrom, lastScene, recordsOf, numberFrom, lastNumber, AnyCall, ofStep, ofAdvance, callOf, handedBack, callsFrom, eventsIn, allRecords}
 use Rattle.demands.specs.Scenes.{wholeModel}

@@ -32,7 +32,7 @@ use Rattle.reader.proofs.MoreBytes.{bytes-more, refused-more}
 use Rattle.sessions.specs.Sessions.{uriIn, readerOf}
 use Rattle.coherence.specs.Fitting.{spanInside, prefixFits}
 use Rattle.sessions.specs.Coherence.{openLevels, openBindings, depthFits, boundFits, placeInside, levelSpansInside, bindingSpansInside, namesFit, bindingsAllowed, prefixesFit, strandCountsFit, modesFit, classesFit, targetsFit, validatesAim, unitsFit, countsAddUp, awaitedFits, closedFits, coherent}
-use Rattle.sessions.specs.declared.Session.{Session}
+use Rattle.sessions.specs.Session.{Session}
 use Rattle.sessions.proofs.SoundCoherent.{total-numbers}
 
 -- ---- a list of f k, f (k + 1), ..

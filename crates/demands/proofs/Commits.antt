@@ -17,7 +17,7 @@ use Rattle.reader.specs.Events.{events}
 use Rattle.model.specs.Dispatch.{expected}
 use Rattle.sessions.specs.Sessions.{freshOf}
 use Rattle.sessions.specs.Stepping.{Step, advanceOf}
-use Rattle.sessions.specs.declared.Session.{Session}
+use Rattle.sessions.specs.Session.{Session}
 use Rattle.demands.specs.Calls.{Call, BeginsWith, Growing, lastScene, recordsOf, numberFrom, lastNumber, AnyCall, ofStep, ofAdvance, callOf, handedBack, callsFrom, eventsIn, allRecords}
 use Rattle.demands.specs.Scenes.{wholeModel}
 use Rattle.demands.specs.Offers.{OfferedCall, ofCall, ofCommit, callIn, handedOver, offeredFrom}

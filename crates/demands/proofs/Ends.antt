@@ -26,7 +26,7 @@ use Rattle.model.specs.Dispatch.{expected}
 use Rattle.model.proofs.Tables.{one}
 use Rattle.sessions.specs.Sessions.{readerOf}
 use Rattle.sessions.specs.Stepping.{eventPlace, Step, answered, refusedStep, Run, runOf}
-use Rattle.sessions.specs.declared.Session.{Session}
+use Rattle.sessions.specs.Session.{Session}
 use Rattle.demands.specs.Scenes.{modelCount}
 use Rattle.demands.specs.Limits.{passed, WithinFirst, Within, FirstLimit, firstPast, eventsWithin, readEnd, runEnd}
 use Rattle.demands.proofs.Goes.{goes-on}

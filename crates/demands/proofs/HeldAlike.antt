@@ -31,7 +31,7 @@ use Rattle.equality.proofs.Sameness.{each-self, flag-self, binding-self, level-
 use Rattle.sessions.specs.Sessions.{levelUri, strandsIn, levelIn, levelsIn, readerOf, stateOf, freshOf, sessionOf}
 use Rattle.sessions.specs.Coherence.{openLevels, openBindings, countsAddUp, coherent}
 use Rattle.sessions.specs.Asking.{heldLevels, holdsSame}
-use Rattle.sessions.specs.declared.Session.{Session}
+use Rattle.sessions.specs.Session.{Session}
 use Rattle.sessions.proofs.SoundCoherent.{total-numbers}
 use Rattle.sessions.proofs.Clauses.{clauses}
 use Rattle.sessions.proofs.HeldSame.{SameHeld, same-held}

@@ -38,7 +38,7 @@ use Rattle.model.proofs.Assigned.{modesAt}
 use Rattle.model.proofs.Tables.{one}
 use Rattle.sessions.specs.Sessions.{readerOf, stateOf, freshOf, withPlace, withEnd}
 use Rattle.sessions.specs.Stepping.{eventPlace, Plan, refused, event, startPlan, ownDeclarations, planBy, planOf, planned, Step, refusedStep, stepOf}
-use Rattle.sessions.specs.declared.Session.{Session}
+use Rattle.sessions.specs.Session.{Session}
 use Rattle.sessions.proofs.SoundCoherent.{sound-coherent}
 use Rattle.demands.specs.Scenes.{readerAfter}
 use Rattle.demands.specs.Limits.{depthAt, boundAt, strandsAt, unitsAt, passed, WithinFirst, firstPast, eventsWithin, End, readEnd}

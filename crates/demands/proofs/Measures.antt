@@ -38,7 +38,7 @@ use Rattle.model.proofs.Steps.{reached-step, levels-open}
 use Rattle.model.proofs.Assigned.{modesAt, assigned-count}
 use Rattle.model.proofs.Opened.{model-units}
 use Rattle.sessions.specs.Sessions.{levelsIn, readerOf, stateOf}
-use Rattle.sessions.specs.declared.Session.{Session}
+use Rattle.sessions.specs.Session.{Session}
 use Rattle.sessions.proofs.Sound.{LevelSound, Sound}
 use Rattle.sessions.proofs.NewStrands.{new-length}
 use Rattle.demands.specs.Scenes.{behindNext, readerAfter}

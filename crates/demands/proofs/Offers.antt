@@ -18,10 +18,8 @@ use Rattle.table.specs.Table.{decode, standard}
 use Rattle.table.specs.Judge.{judged}
 use Rattle.sessions.specs.Coherence.{coherent}
 use Rattle.sessions.specs.Stepping.{Plan, refused, finished, event, planOf, Step, answered, refusedStep, planned, longest, stepOf}
-use Rattle.sessions.specs.Asking.{holdsSame, planAnswer, judgedFirst, stepWhere}
-use Rattle.dispatcher.specs.Offers.{offerOf, askedAs, askOf, offered, commitOf}
-use Rattle.sessions.specs.declared.Session.{Session}
-use Rattle.dispatcher.specs.declared.offers.Offer.{Offer}
+use Rattle.sessions.specs.Asking.{holdsSame, planAnswer, judgedFirst, stepWhere, Offer, offerOf, askedAs, askOf, offered, commitOf}
+use Rattle.sessions.specs.Session.{Session}
 use Rattle.sessions.proofs.JudgedFirst.{step-judged-first}
 use Rattle.sessions.proofs.HeldSame.{same-self}
 use Rattle.demands.specs.Answers.{Ready}
@@ -89,7 +87,7 @@ module _ (table s : List ℕ) (z : Session) (out : List ℕ) where
     met m = both _ _ (m .0) (eq-eqb (length s) (o .length) (m .1))
 
     meets : offered o z s ≡ true → AsOffered o z s
-    meets e = (and-left (holdsSame z (o .session .held)) _ e, eqb-true (length s) (o .length) (and-right (holdsSame z (o .session .held)) _ e))
+    meets e = (and-left (holdsSame z (o .session)) _ e, eqb-true (length s) (o .length) (and-right (holdsSame z (o .session)) _ e))
 
     -- "Commit(o, x, t, s, out) = Step(t, s, x, out) .. if that step's number is 10, 11, 12, 7 or 20, or if x holds what o's session holds and |s| is o's
     -- length"

@@ -17,7 +17,7 @@ use Rattle.model.specs.Records.{Body}
 use Rattle.model.specs.Dispatch.{recordBytesOf}
 use Rattle.sessions.specs.Sessions.{readerOf}
 use Rattle.sessions.specs.Stepping.{event, planOf, Step, answered, refusedStep, stepOf}
-use Rattle.sessions.specs.declared.Session.{Session}
+use Rattle.sessions.specs.Session.{Session}
 use Rattle.sessions.proofs.Sound.{Sound}
 use Rattle.sessions.proofs.SoundCoherent.{sound-coherent}
 use Rattle.demands.specs.Answers.{Answered, bad-table, long-scene, bad-session, unread, all-read, limited, no-room, wrote}

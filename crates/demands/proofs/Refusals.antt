@@ -30,7 +30,7 @@ use Rattle.model.specs.Dispatch.{dispatch, recordBytesOf}
 use Rattle.sessions.specs.Sessions.{readerOf, stateOf}
 use Rattle.sessions.specs.Coherence.{coherent}
 use Rattle.sessions.specs.Stepping.{Plan, refused, finished, event, startPlan, ownDeclarations, planBy, planOf, Step, refusedStep, eventStep, planned, longest, stepOf}
-use Rattle.sessions.specs.declared.Session.{Session}
+use Rattle.sessions.specs.Session.{Session}
 use Rattle.demands.specs.Answers.{Ready, Deep, Full, Crowded, Spent, Limit, Starts, Answered, bad-table, long-scene, bad-session, unread, all-read, limited, no-room, wrote, Unchanged, Changed, Exactly, ExactlyAt, Unread, AllRead, NoRoom}
 use Rattle.demands.proofs.Goes.{event-goes}
 use Rattle.demands.proofs.CoherentHeld.{coherent-held}

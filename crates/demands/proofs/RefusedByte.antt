@@ -20,7 +20,7 @@ use Rattle.reader.proofs.NextStable.{next-short}
 use Rattle.sessions.specs.Sessions.{readerOf}
 use Rattle.sessions.specs.Coherence.{coherent}
 use Rattle.sessions.specs.Stepping.{Step, refusedStep, longest, stepOf}
-use Rattle.sessions.specs.declared.Session.{Session}
+use Rattle.sessions.specs.Session.{Session}
 use Rattle.demands.proofs.CoherentHeld.{coherent-held, coherent-more}
 use Rattle.demands.proofs.CompletedParts.{or-full}
 use Rattle.demands.proofs.CompletedNext.{Whole, next-completed}

@@ -23,7 +23,7 @@ use Rattle.reader.specs.Events.{Event, events}
 use Rattle.model.specs.Dispatch.{expected}
 use Rattle.sessions.specs.Sessions.{freshOf}
 use Rattle.sessions.specs.Stepping.{eventPlace, Step, stepOf}
-use Rattle.sessions.specs.declared.Session.{Session}
+use Rattle.sessions.specs.Session.{Session}
 use Rattle.demands.specs.Calls.{Call, BeginsWith, GrowingFrom, Growing, lastSceneFrom, lastScene, stepsFrom, acceptedIn, recordsOf, joinedOf, lastNumber, AnyCall, ofStep, callOf, callsFrom, eventsIn, allRecords}
 use Rattle.demands.specs.Scenes.{wholeModel}
 use Rattle.demands.specs.Limits.{passed}

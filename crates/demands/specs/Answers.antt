@@ -22,7 +22,7 @@ use Rattle.model.specs.Dispatch.{dispatch, recordBytesOf}
 use Rattle.sessions.specs.Sessions.{readerOf, stateOf}
 use Rattle.sessions.specs.Coherence.{coherent}
 use Rattle.sessions.specs.Stepping.{event, planOf, Step, answered, refusedStep, longest, stepOf}
-use Rattle.sessions.specs.declared.Session.{Session}
+use Rattle.sessions.specs.Session.{Session}
 
 -- nothing of 10, 11, 12, 7 and 20
 pub record Ready (table s : List ℕ) (z : Session) : Type 0 where

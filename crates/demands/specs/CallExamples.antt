@@ -8,7 +8,7 @@ use Rattle.table.specs.Examples.{T}
 use Rattle.model.specs.Rows.{row}
 use Rattle.sessions.specs.Sessions.{freshOf}
 use Rattle.sessions.specs.Stepping.{Step}
-use Rattle.dispatcher.specs.declared.offers.Offer.{Offer}
+use Rattle.sessions.specs.Asking.{Offer}
 use Rattle.model.specs.Dispatch.{expected}
 use Rattle.table.specs.Table.{decode}
 use Rattle.demands.specs.Calls.{Call, stepsFrom, acceptedIn, joinedOf, AnyCall, ofStep, ofAdvance, callsFrom, eventsIn, allRecords}
@@ -56,7 +56,7 @@ all-seven = refl
 
 -- an offer of the fresh session and of the first k bytes of the scene
 abbrev freshly : ℕ → Offer
-freshly k = record { session = record { held = freshOf }; length = k }
+freshly k = record { session = freshOf; length = k }
 
 -- 1 in a tag; 30, the scene has grown; the start; 30, the session is another; the text and the start of x, by a step each
 abbrev held : List OfferedCall

@@ -10,7 +10,7 @@ use Rattle.laws.specs.Lists.{keep}
 use Rattle.laws.specs.Gather.{gather, total}
 use Rattle.table.specs.Table.{standard}
 use Rattle.sessions.specs.Stepping.{Step, stepOf, advanceOf}
-use Rattle.sessions.specs.declared.Session.{Session}
+use Rattle.sessions.specs.Session.{Session}
 
 -- A call: its scene and its output
 pub record Call : Type 0 where

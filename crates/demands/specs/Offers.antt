@@ -7,11 +7,8 @@ use mathlib.Core.Logic.{_⊎_}
 use lib.ListN.{length}
 use Rattle.table.specs.Table.{standard}
 use Rattle.sessions.specs.Stepping.{Step}
-use Rattle.sessions.specs.Asking.{holdsSame}
-use Rattle.dispatcher.specs.Offers.{commitOf}
-use Rattle.sessions.specs.declared.Session.{Session}
-use Rattle.dispatcher.specs.declared.offers.Offer.{Offer}
-use Rattle.dispatcher.specs.declared.offers.Asked.{Asked}
+use Rattle.sessions.specs.Asking.{holdsSame, Offer, Asked, commitOf}
+use Rattle.sessions.specs.Session.{Session}
 use Rattle.demands.specs.Answers.{Unchanged}
 use Rattle.demands.specs.Calls.{Call, AnyCall, callOf, handedBack}
 
@@ -27,7 +24,7 @@ JudgedNumber n = ((10 ≤ n) × (n ≤ 12)) ⊎ ((n ≡ 7) ⊎ (n ≡ 20))
 
 -- "x holds what o's session holds and |s| is o's length"
 abbrev pub AsOffered : Offer → Session → List ℕ → Type 0
-AsOffered o z s = (holdsSame z (o .session .held) ≡ true) × (length s ≡ o .length)
+AsOffered o z s = (holdsSame z (o .session) ≡ true) × (length s ≡ o .length)
 
 -- ---- lists
 -- A call of step or of advance, or of commit of an offer

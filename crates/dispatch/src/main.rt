@@ -26,7 +26,7 @@ fn dispatch_scene(table: &[u8], scene: &[u8], out: &mut [u8])
         records += answer.records;
         session = stepped.session;
     }
-    print_answer(0, session.held.place, events, records);
+    print_answer(0, session.place, events, records);
 }
 
 // Both files are read before a line is printed.

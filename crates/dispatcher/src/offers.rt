@@ -6,8 +6,8 @@ use asking::commit_in;
 use asking::same_session;
 ghost use mathlib.Core.Path.{_≡_};
 ghost use Rattle.table.specs.Table.{standard};
-ghost use Rattle.dispatcher.specs.Handed.{handed};
-ghost use Rattle.dispatcher.specs.Offers.{commitOf};
+ghost use Rattle.sessions.specs.Asking.{commitOf};
+ghost use Rattle.dispatcher.specs.Handed.{held, heldOffer, handed};
 
 // A session that was asked about, and the scene's length. A caller may hand in any.
 pub struct Offer {
@@ -26,37 +26,33 @@ pub struct Asked {
 impl Offer {
     // A step on what is handed in, where the session and the scene's length are the offer's; else 30.
     pub fn commit(self, session: Session, table: &[u8], scene: &[u8], out: &mut [u8]) -> Stepped
-        ensures { λ r. ⌜ handed r (now (out .exit)) ≡ commitOf standard self (session .held) (now (table .entry)) (now (scene .entry)) (now (out .entry)) ⌝ }
+        ensures { λ r. ⌜ handed r (now (out .exit)) ≡ commitOf standard (heldOffer self) (held session) (now (table .entry)) (now (scene .entry)) (now (out .entry)) ⌝ }
     {
-        let held = session.held;
-        let mut levels = held.levels();
-        let mut bindings = held.scope.bindings;
+        let mut levels = session.levels();
+        let mut bindings = session.scope.bindings;
         let offered = self.session;
-        let asked = offered.held;
-        let asked_levels = asked.levels();
-        let asked_bindings = asked.scope.bindings;
+        let offered_levels = offered.levels();
+        let offered_bindings = offered.scope.bindings;
         let same = same_session(
-            held.head(),
+            session.head(),
             &levels,
             &bindings,
-            asked.head(),
-            &asked_levels,
-            &asked_bindings,
+            offered.head(),
+            &offered_levels,
+            &offered_bindings,
         );
         let committed = commit_in(
             same & (scene.len() == self.length),
             table,
             scene,
-            held.head(),
+            session.head(),
             &mut levels,
             &mut bindings,
             out,
         );
         Stepped {
             answer: answer_of(committed),
-            session: Session {
-                held: sessions::Session::of(committed.head, &levels, bindings),
-            },
+            session: Session::of(committed.head, &levels, bindings),
         }
     }
 }

@@ -13,7 +13,7 @@ use Rattle.reader.proofs.Progress.{leftOf}
 use Rattle.sessions.specs.Sessions.{strandCount, readerOf, freshOf, headOf, sessionAt}
 use Rattle.sessions.specs.Stepping.{planOf, Step}
 use Rattle.sessions.specs.Turns.{Beside, LoopReady, weighed}
-use Rattle.sessions.specs.declared.Session.{Session}
+use Rattle.sessions.specs.Session.{Session}
 use Rattle.sessions.specs.declared.Head.{Head}
 use Rattle.advances.proofs.RunTurns.{fresh-arrays}
 use Rattle.sessions.proofs.SoundCoherent.{sound-coherent}

@@ -28,7 +28,7 @@ use Rattle.model.proofs.Assigned.{modesAt}
 use Rattle.model.proofs.Opened.{reached-units}
 use Rattle.sessions.specs.Sessions.{strandCount, levelIn, levelsIn, readerOf, stateOf, freshOf}
 use Rattle.sessions.specs.Stepping.{event, planOf}
-use Rattle.sessions.specs.declared.Session.{Session}
+use Rattle.sessions.specs.Session.{Session}
 use Rattle.sessions.proofs.NewStrands.{new-length}
 use Rattle.sessions.proofs.SoundCoherent.{strands-counted}
 use Rattle.sessions.proofs.Behind.{Behind, behind}

@@ -24,7 +24,7 @@ use Rattle.reader.specs.Spans.{span}
 use Rattle.reader.proofs.Held.{held-fresh, numbered}
 use Rattle.reader.proofs.EventsFirst.{stateAfter, state-held, events-end}
 use Rattle.sessions.specs.Sessions.{freshOf}
-use Rattle.sessions.specs.declared.Session.{Session}
+use Rattle.sessions.specs.Session.{Session}
 use Rattle.sessions.specs.Stepping.{given, Step, answered, advanceOf, Run, runOf}
 use Rattle.advances.proofs.RunTurns.{advance-refused, advance-too-long}
 use Rattle.demands.specs.Scenes.{modelCount}

@@ -23,7 +23,7 @@ use Rattle.model.specs.Records.{Body}
 use Rattle.sessions.specs.Sessions.{readerOf}
 use Rattle.sessions.specs.Stepping.{eventPlace, Plan, refused, finished, event, planBy, planOf, Step}
 use Rattle.sessions.specs.Turns.{weighed}
-use Rattle.sessions.specs.declared.Session.{Session}
+use Rattle.sessions.specs.Session.{Session}
 use Rattle.demands.specs.Limits.{passed, firstPast, eventsWithin, readEnd, runEnd}
 use Rattle.demands.proofs.Goes.{goes-on}
 use Rattle.demands.proofs.Reached.{Reached}

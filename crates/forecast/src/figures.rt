@@ -1,7 +1,9 @@
 // The figures of an accepted table and a scene that is not too long, event by event.
 use attributes::HELD;
 use reader::Scope;
-use sessions::Session;
+use sessions::BINDINGS;
+use sessions::Head;
+use sessions::STRANDS;
 use steps::weighed_step;
 use strands::LEVELS;
 use strands::levels::count_at;
@@ -39,14 +41,14 @@ pub fn figures_of(table: &[u8], index: &[u32; 256], scene: &[u8]) -> Forecast
     ensures { λ r. ⌜ r ≡ figuresOf (decode (now (table .entry))) (now (scene .entry)) ⌝ }
 {
     let mut levels: [u32; LEVELS] = [0; LEVELS];
-    let mut bindings: [u32; 4 * Session::BINDINGS] = [0; 4 * Session::BINDINGS];
+    let mut bindings: [u32; 4 * BINDINGS] = [0; 4 * BINDINGS];
     let mut known: [u64; 2 * Scope::KNOWN] = [0; 2 * Scope::KNOWN];
     let mut attrs: [usize; 80] = [0; 80];
     let mut own: [u32; 64] = [0; 64];
     let mut attributes: [u32; HELD] = [0; HELD];
-    let mut words: [u32; Session::STRANDS] = [0; Session::STRANDS];
-    let mut schemas: [u32; Session::STRANDS] = [0; Session::STRANDS];
-    let mut head = Session::fresh().head();
+    let mut words: [u32; STRANDS] = [0; STRANDS];
+    let mut schemas: [u32; STRANDS] = [0; STRANDS];
+    let mut head = Head::fresh();
     let mut records = 0;
     let mut strands = 0;
     let mut depth = 0;

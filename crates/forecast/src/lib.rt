@@ -3,7 +3,7 @@ pub mod figures;
 
 use crate::figures::Forecast;
 use crate::figures::figures_of;
-use sessions::Session;
+use sessions::LONGEST;
 use table::index::load;
 use table::judge;
 use table::words::header_of;
@@ -33,7 +33,7 @@ pub fn forecast(table: &[u8], scene: &[u8]) -> Forecast
     if judged.number != 0 {
         return none_taken(judged.number, judged.place);
     }
-    if Session::LONGEST < scene.len() {
+    if LONGEST < scene.len() {
         return none_taken(7, 0);
     }
     let index = load(table, header_of(table));

@@ -9,7 +9,7 @@ use borrow.Author.Tests.{eqb-true}
 use lib.Dec.{eqb}
 use Rattle.laws.proofs.Holds.{holds-cond}
 use Rattle.table.specs.Table.{standard}
-use Rattle.sessions.specs.declared.Session.{Session}
+use Rattle.sessions.specs.Session.{Session}
 use Rattle.sessions.specs.Stepping.{Step, stepOf, restOf, advanceOf}
 use Rattle.demands.specs.Answers.{Answered, bad-table, long-scene, bad-session, unread, all-read, limited, no-room, wrote}
 use Rattle.demands.specs.Calls.{AnyCall, ofStep, ofAdvance, handedBack}

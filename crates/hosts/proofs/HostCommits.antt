@@ -18,11 +18,9 @@ use Rattle.table.specs.Table.{standard, decode}
 use Rattle.reader.specs.Events.{events}
 use Rattle.model.specs.Dispatch.{expected}
 use Rattle.model.proofs.Lists.{all-left}
-use Rattle.sessions.specs.declared.Session.{Session}
-use Rattle.dispatcher.specs.declared.offers.Offer.{Offer}
+use Rattle.sessions.specs.Session.{Session}
+use Rattle.sessions.specs.Asking.{holdsSame, stepWhere, Offer, offered, commitOf}
 use Rattle.sessions.specs.Sessions.{freshOf}
-use Rattle.sessions.specs.Asking.{holdsSame, stepWhere}
-use Rattle.dispatcher.specs.Offers.{offered, commitOf}
 use Rattle.demands.specs.Calls.{BeginsWith, Growing, lastScene}
 use Rattle.demands.specs.Offers.{OfferedCall, ofCall, ofCommit, callIn, handedOver, offeredFrom}
 use Rattle.demands.proofs.Commits.{commits-joined, no-later-commit-byte}
@@ -59,7 +57,7 @@ module _ (b : List ℕ) (z : Session) (h : Holding b z) (table : List ℕ) where
     where
       by : (t : Bool) → (t && offered (offerIn o) z s) ≡ offered (cond t (offerIn o) (record { session = offerIn o .session; length = suc (length s) })) z s
       by true = refl
-      by false = sym (not-right (holdsSame z (offerIn o .session .held)) _ (ne-eqb (length s) (suc (length s)) (λ e. omega arith)))
+      by false = sym (not-right (holdsSame z (offerIn o .session)) _ (ne-eqb (length s) (suc (length s)) (λ e. omega arith)))
 
   host-over : (c : HostOffered) → Roomy c → hostOver table b c ≡ telling (handedOver table z (offeredIn c)) (bytesBehind b (handedOver table z (offeredIn c)))
   unfolding hostCommit

@@ -17,7 +17,7 @@ use Rattle.laws.specs.Members.{All}
 use Rattle.laws.specs.Over.{overwrite}
 use Rattle.laws.proofs.Over.{length-over}
 use Rattle.laws.proofs.Holds.{holds-cond}
-use Rattle.sessions.specs.declared.Session.{Session}
+use Rattle.sessions.specs.Session.{Session}
 use Rattle.sessions.specs.Sessions.{freshOf}
 use Rattle.sessions.specs.Stepping.{Step}
 use Rattle.demands.specs.Calls.{stepsFrom, isAccepted, acceptedIn, recordsOf, joinedOf, AnyCall, ofStep, ofAdvance, handedBack, callsFrom, eventsIn, allRecords}

@@ -21,7 +21,7 @@ use Rattle.model.specs.Stream.{entriesAt, after, HeldStrand}
 use Rattle.model.specs.Dispatch.{dispatch}
 use Rattle.strands.specs.Packed.{strandIn, packed}
 use Rattle.strands.proofs.Packing.{Packable, packed-back, below-more}
-use Rattle.sessions.specs.declared.Session.{Session}
+use Rattle.sessions.specs.Session.{Session}
 use Rattle.sessions.specs.Sessions.{readerOf, stateOf}
 use Rattle.sessions.specs.Coherence.{coherent}
 use Rattle.reader.specs.declared.Binding.{Binding}

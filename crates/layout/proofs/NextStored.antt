@@ -27,7 +27,7 @@ use Rattle.model.specs.Stream.{entriesAt, after}
 use Rattle.model.specs.Dispatch.{dispatch}
 use Rattle.strands.specs.Packed.{packed}
 use Rattle.strands.proofs.Packing.{packed-all-small}
-use Rattle.sessions.specs.declared.Session.{Session}
+use Rattle.sessions.specs.Session.{Session}
 use Rattle.sessions.specs.Sessions.{readerOf, stateOf}
 use Rattle.sessions.specs.Coherence.{coherent}
 use Rattle.sessions.specs.Stepping.{Plan, refused, finished, event, startPlan, ownDeclarations, planBy, planOf, Step, planned, longest, stepOf, restOf, advanceOf}

@@ -6,7 +6,7 @@ use mathlib.Core.Bool.{Bool}
 use lib.Dec.{eqb}
 use lib.ListN.{getD}
 use Rattle.laws.specs.Lists.{tabulate}
-use Rattle.sessions.specs.declared.Session.{Session}
+use Rattle.sessions.specs.Session.{Session}
 use Rattle.layout.specs.Layout.{word4, word8, levelAt, bindingAt, spaceAt, strandAt, sessionIn}
 
 abbrev pub sessionOf : ℕ → ℕ → Bool → Bool → ℕ → ℕ → List ℕ → List ℕ → List ℕ → List ℕ → Session

@@ -26,7 +26,7 @@ use Rattle.laws.specs.Reading.{le-or-lt}
 use Rattle.laws.proofs.Flags.{and-left, and-right}
 use Rattle.laws.proofs.Holds.{each-at}
 use Rattle.strands.specs.Packed.{strandIn, packed}
-use Rattle.sessions.specs.declared.Session.{Session}
+use Rattle.sessions.specs.Session.{Session}
 use Rattle.sessions.specs.Sessions.{freshOf}
 use Rattle.sessions.proofs.CoherentSound.{each-tabulated}
 use Rattle.layout.specs.Layout.{word4, word8, bytes4, bytes8, flag, bindingAt, levelAt, spaceAt, strandAt, packs, sessionIn, holdsSession, sessionBytes}

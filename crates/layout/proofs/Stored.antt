@@ -16,7 +16,7 @@ use Rattle.laws.proofs.Over.{over-none, over-set, over-over, set-over}
 use Rattle.strands.specs.Levels.{levelNames, levelSpaces, levelStrands}
 use Rattle.strands.proofs.LevelNumbers.{each-long}
 use Rattle.openings.proofs.LevelArrays.{each-row}
-use Rattle.sessions.specs.declared.Session.{Session}
+use Rattle.sessions.specs.Session.{Session}
 use Rattle.layout.specs.Layout.{flag, bytes4, bytes8, sessionBytes}
 use Rattle.layout.specs.Parts.{headBytes, levelWords}
 use Rattle.layout.proofs.Filled.{tabulate-more}

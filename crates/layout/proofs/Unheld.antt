@@ -8,7 +8,7 @@ use lib.Dec.{eqb, ltb}
 use lib.ListN.{length}
 use Rattle.table.specs.declared.Answer.{Answer}
 use Rattle.sessions.specs.Stepping.{answered, refusedStep, longest}
-use Rattle.sessions.specs.declared.Session.{Session}
+use Rattle.sessions.specs.Session.{Session}
 use Rattle.layout.proofs.Told.{Handed}
 
 abbrev pub unheldAnswer : Answer → Bool → Answer

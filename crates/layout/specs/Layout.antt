@@ -14,7 +14,7 @@ use lib.Dec.{eqb, leb}
 use Rattle.laws.specs.Lists.{all, tabulate}
 use Rattle.laws.specs.Gather.{gather}
 use Rattle.strands.specs.Packed.{strandIn, packed}
-use Rattle.sessions.specs.declared.Session.{Session}
+use Rattle.sessions.specs.Session.{Session}
 
 abbrev pub sessionSize : ℕ
 sessionSize = 7208

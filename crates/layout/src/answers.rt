@@ -1,5 +1,5 @@
 // An answer told to a host, and what is answered where there is no session.
-use sessions::Session;
+use sessions::LONGEST;
 use table::Answer;
 use table::judge;
 ghost use mathlib.Core.Path.{_≡_};
@@ -45,7 +45,7 @@ pub fn no_session(table: &[u8], scene: &[u8]) -> Answer
     if judged.number != 0 {
         return refusal(judged.number, judged.place);
     }
-    if Session::LONGEST < scene.len() {
+    if LONGEST < scene.len() {
         return refusal(7, 0);
     }
     refusal(20, 0)

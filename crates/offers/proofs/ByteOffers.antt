@@ -11,11 +11,9 @@ use Rattle.table.specs.Judge.{judged}
 use Rattle.table.specs.declared.Answer.{Answer}
 use Rattle.equality.specs.Checks.{withinArrays}
 use Rattle.sessions.specs.Stepping.{Step, longest}
-use Rattle.sessions.specs.Asking.{holdsSame, askAnswer, stepWhere}
-use Rattle.dispatcher.specs.Offers.{offered}
-use Rattle.sessions.specs.declared.Session.{Session}
-use Rattle.dispatcher.specs.declared.offers.Offer.{Offer}
-use Rattle.dispatcher.proofs.OfferTurns.{where-offered}
+use Rattle.sessions.specs.Asking.{holdsSame, askAnswer, stepWhere, Offer, offered}
+use Rattle.sessions.specs.Session.{Session}
+use Rattle.asking.proofs.OfferTurns.{where-offered}
 use Rattle.layout.specs.Layout.{sessionIn, holdsSession}
 use Rattle.layout.proofs.Told.{Handed}
 use Rattle.layout.proofs.Unheld.{unheldAnswer, refusals}
@@ -24,7 +22,7 @@ use Rattle.offers.specs.Calls.{byteAsk, byteCommit}
 
 -- an offer as the code compares it: only where the session's counts fit its arrays
 abbrev pub compared : Offer → Session → List ℕ → Bool
-compared o z s = (withinArrays (z .scope .depth) (z .scope .bound) (z .spaces) && holdsSame z (o .session .held)) && eqb (length s) (o .length)
+compared o z s = (withinArrays (z .scope .depth) (z .scope .bound) (z .spaces) && holdsSame z (o .session)) && eqb (length s) (o .length)
 
 where-held : (table s : List ℕ) (z : Session) (out : List ℕ) (held : Bool) (o : Offer) → stepWhere (held && compared o z s) standard table s z out ≡ stepWhere (held && offered o z s) standard table s z out
 where-held table s z out true o = where-offered table s z out o

@@ -7,7 +7,7 @@ use borrow.Author.Tests.{eq-eqb, ne-eqb, not-true, not-false}
 use lib.ListN.{drop}
 use lib.Dec.{eqb}
 use Rattle.sessions.specs.Asking.{holdsSame}
-use Rattle.sessions.specs.declared.Session.{Session}
+use Rattle.sessions.specs.Session.{Session}
 use Rattle.layout.specs.Layout.{word8, sessionIn, holdsSession}
 use Rattle.offers.specs.Layout.{offerIn, holdsOffer}
 
@@ -31,7 +31,7 @@ module _ (b : List ℕ) (x : Bool) (n : ℕ) (e : n ≡ word8 b 0) where
 
 -- a session compared with the one in the part, where its counts fit, and a length with the one in the bytes
 pub both-compared : (b part : List ℕ) (w same : Bool) (z y : Session) (n m : ℕ) → part ≡ drop 16 b → y ≡ sessionIn part → same ≡ (w && holdsSame z y) → m ≡ word8 b 8
-    → (same && eqb n m) ≡ ((w && holdsSame z (offerIn b .session .held)) && eqb n (offerIn b .length))
+    → (same && eqb n m) ≡ ((w && holdsSame z (offerIn b .session)) && eqb n (offerIn b .length))
 unfolding offerIn
 both-compared b part w same z y n m p e q l =
     ap₂ (λ (t : Bool) (k : ℕ). t && eqb n k) (q ∙ ap (λ (k : Session). w && holdsSame z k) (e ∙ ap sessionIn p)) l

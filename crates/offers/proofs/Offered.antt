@@ -13,10 +13,8 @@ use Rattle.laws.specs.Over.{overwrite}
 use Rattle.laws.specs.Tests.{both}
 use Rattle.table.specs.Table.{standard}
 use Rattle.sessions.specs.Stepping.{stepOf}
-use Rattle.dispatcher.specs.Offers.{offerOf, offered}
-use Rattle.sessions.specs.Asking.{stepWhere}
-use Rattle.sessions.specs.declared.Session.{Session}
-use Rattle.dispatcher.specs.declared.offers.Offer.{Offer}
+use Rattle.sessions.specs.Asking.{stepWhere, Offer, offerOf, offered}
+use Rattle.sessions.specs.Session.{Session}
 use Rattle.sessions.proofs.HeldSame.{same-self}
 use Rattle.sessions.proofs.JudgedFirst.{step-judged-first}
 use Rattle.layout.specs.Layout.{sessionSize, word8, bytes8, sessionIn, holdsSession, sessionBytes}
@@ -56,8 +54,8 @@ module _ (session : List ℕ) (long : sessionSize ≤ length session) (few : All
       offer-is : offerIn o ≡ offerOf (sessionIn session) s
       unfolding offerIn
       offer-is =
-          ap (λ (z : Session). record { session = record { held = z }; length = word8 o 8 }) (ap sessionIn behind ∙ read-back (sessionIn session) rest (in-storable session few long))
-          ∙ ap (λ (n : ℕ). record { session = record { held = sessionIn session }; length = n }) length-in
+          ap (λ (z : Session). record { session = z; length = word8 o 8 }) (ap sessionIn behind ∙ read-back (sessionIn session) rest (in-storable session few long))
+          ∙ ap (λ (n : ℕ). record { session = sessionIn session; length = n }) length-in
 
 pub asked-held : (session offer s : List ℕ) → sessionSize ≤ length session → All (λ (x : ℕ). x < 256) session → length s < 2 ^ 64 → holdsSession session ≡ true
     → (holdsOffer (overwrite offer 0 (offerBytes session (length s))) ≡ true) × (offerIn (overwrite offer 0 (offerBytes session (length s))) ≡ offerOf (sessionIn session) s)

@@ -7,8 +7,7 @@ use lib.Dec.{ltb}
 use Rattle.table.specs.Table.{standard}
 use Rattle.table.specs.declared.Answer.{Answer}
 use Rattle.sessions.specs.Stepping.{Step}
-use Rattle.sessions.specs.Asking.{askAnswer, stepWhere}
-use Rattle.dispatcher.specs.Offers.{offered}
+use Rattle.sessions.specs.Asking.{askAnswer, stepWhere, offered}
 use Rattle.layout.specs.Layout.{sessionSize, sessionIn, holdsSession}
 use Rattle.layout.specs.Answers.{unheld}
 use Rattle.offers.specs.Layout.{offerSize, offerIn, holdsOffer}

@@ -8,7 +8,7 @@ use mathlib.Core.List.{List, [], _∷_, _++_}
 use mathlib.Core.Bool.{Bool, _&&_}
 use lib.ListN.{take, drop}
 use lib.Dec.{eqb}
-use Rattle.dispatcher.specs.declared.offers.Offer.{Offer}
+use Rattle.sessions.specs.Asking.{Offer}
 use Rattle.layout.specs.Layout.{sessionSize, word8, bytes8, sessionIn, holdsSession}
 
 abbrev pub offerSize : ℕ
@@ -16,7 +16,7 @@ offerSize = 7224
 
 -- the offer that bytes hold
 unfoldable pub offerIn : List ℕ → Offer
-offerIn b = record { session = record { held = sessionIn (drop 16 b) }; length = word8 b 8 }
+offerIn b = record { session = sessionIn (drop 16 b); length = word8 b 8 }
 
 -- bytes that hold an offer: the version and the zero bytes are 1, as a number of eight bytes, and the session's bytes hold a session
 unfoldable pub holdsOffer : List ℕ → Bool

@@ -52,7 +52,7 @@ pub fn is_offered(
     bindings: &[u32; 256],
 ) -> bool
     requires { ⌜ offerSize ≤ length (now offer) ⌝ }
-    ensures { λ r. ⌜ r ≡ (holdsOffer (now (offer .entry)) && ((withinArrays (head .depth) (head .bound) (levelSpaces (now (levels .entry))) && holdsSame (sessionAt head (now (levels .entry)) (now (bindings .entry))) (offerIn (now (offer .entry)) .session .held)) && eqb len (offerIn (now (offer .entry)) .length))) ⌝ }
+    ensures { λ r. ⌜ r ≡ (holdsOffer (now (offer .entry)) && ((withinArrays (head .depth) (head .bound) (levelSpaces (now (levels .entry))) && holdsSame (sessionAt head (now (levels .entry)) (now (bindings .entry))) (offerIn (now (offer .entry)) .session)) && eqb len (offerIn (now (offer .entry)) .length))) ⌝ }
 {
     if word8_at(offer, 0) != 1 {
         return false;

@@ -18,7 +18,7 @@ use Rattle.table.specs.Table.{decode, standard}
 use Rattle.table.specs.Judge.{judged, Accepted}
 use Rattle.sessions.specs.Coherence.{coherent}
 use Rattle.sessions.specs.Stepping.{Plan, refused, finished, event, planOf, planned, Step, answered, refusedStep, longest, stepOf, restOf, joined, advanceOf}
-use Rattle.sessions.specs.declared.Session.{Session}
+use Rattle.sessions.specs.Session.{Session}
 use Rattle.sessions.proofs.Sound.{Sound}
 use Rattle.sessions.proofs.CoherentSound.{coherent-held}
 use Rattle.sessions.proofs.SoundStep.{Numbered, plan-not, StepKept, step-kept}

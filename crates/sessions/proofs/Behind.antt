@@ -30,7 +30,7 @@ use Rattle.model.specs.Dispatch.{dispatch, told}
 use Rattle.strands.specs.Packed.{strandIn}
 use Rattle.sessions.specs.Sessions.{strandCount, strandsIn, levelIn, readerOf, stateOf, withStart}
 use Rattle.sessions.specs.Stepping.{eventPlace, Plan, refused, finished, event, startPlan, ownDeclarations, planBy, planOf}
-use Rattle.sessions.specs.declared.Session.{Session}
+use Rattle.sessions.specs.Session.{Session}
 use Rattle.sessions.proofs.Sound.{Fits, Sound, StrandSound}
 use Rattle.sessions.proofs.SoundCoherent.{sound-level}
 use Rattle.sessions.proofs.NewStrands.{newStrands, new-length, new-strands}

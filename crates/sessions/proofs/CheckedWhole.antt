@@ -29,7 +29,7 @@ use Rattle.sessions.specs.Sessions.{classIn, uriIn, strandCount, strands
 use Rattle.sessions.specs.Coherence.{openLevels, openBindings, coherent}
 use Rattle.sessions.specs.Checks.{headFits}
 use Rattle.sessions.specs.declared.Head.{Head}
-use Rattle.sessions.specs.declared.Session.{Session}
+use Rattle.sessions.specs.Session.{Session}
 use Rattle.sessions.proofs.SoundCoherent.{all-numbers, total-numbers}
 use Rattle.sessions.proofs.CoherentSound.{tested-at}
 use Rattle.sessions.proofs.Clauses.{Clauses, clauses, all-clauses}

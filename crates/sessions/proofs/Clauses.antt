@@ -7,7 +7,7 @@ use Rattle.laws.specs.Tests.{both}
 use Rattle.laws.proofs.Flags.{and-left, and-right}
 use Rattle.table.specs.Table.{Table}
 use Rattle.sessions.specs.Coherence.{depthFits, boundFits, placeInside, levelSpansInside, bindingSpansInside, namesFit, bindingsAllowed, prefixesFit, strandCountsFit, modesFit, classesFit, targetsFit, validatesAim, unitsFit, countsAddUp, awaitedFits, closedFits, coherent}
-use Rattle.sessions.specs.declared.Session.{Session}
+use Rattle.sessions.specs.Session.{Session}
 
 pub record Clauses (t : Table) (s : List ℕ) (z : Session) : Type 0 where
   pub depth : depthFits z ≡ true

@@ -38,7 +38,7 @@ use Rattle.strands.proofs.Packing.{Below}
 use Rattle.sessions.specs.Sessions.{classIn, uriIn, strandCount, strandsIn, levelIn, levelsIn, stateOf, readerOf}
 use Rattle.coherence.specs.Fitting.{spanInside, prefixFits, targetFits, aims}
 use Rattle.sessions.specs.Coherence.{openLevels, openBindings, coherent}
-use Rattle.sessions.specs.declared.Session.{Session}
+use Rattle.sessions.specs.Session.{Session}
 use Rattle.sessions.proofs.Sound.{Aims, StrandSound, LevelSound, Sound}
 use Rattle.sessions.proofs.SoundCoherent.{total-numbers, strands-counted}
 use Rattle.sessions.proofs.Clauses.{Clauses, clauses}

@@ -65,7 +65,7 @@ use Rattle.strands.proofs.Delivered.{events-length, events-most, texts-records,
 use Rattle.sessions.specs.Sessions.{classIn, uriIn, strandCount, strandsIn, levelIn, levelsIn, sessionOf, readerOf, stateOf, withEnd}
 use Rattle.sessions.specs.Stepping.{Plan, event, refused, planBy, planOf, Step, answered, refusedStep, eventStep}
 use Rattle.sessions.specs.Turns.{closesAt, stopTurn, stepBy, closedHead, endRow, PlannedAs}
-use Rattle.sessions.specs.declared.Session.{Session}
+use Rattle.sessions.specs.Session.{Session}
 use Rattle.sessions.specs.declared.Head.{Head}
 use Rattle.sessions.specs.declared.Planned.{Planned}
 use Rattle.sessions.specs.declared.Planned.the-variants as planned

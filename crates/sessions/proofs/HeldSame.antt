@@ -21,7 +21,7 @@ use Rattle.sessions.specs.Sessions.{headOf, strandCount}
 use Rattle.sessions.specs.Coherence.{openLevels, openBindings, coherent}
 use Rattle.sessions.specs.Checks.{sameHead}
 use Rattle.sessions.specs.Asking.{heldLevels, holdsSame}
-use Rattle.sessions.specs.declared.Session.{Session}
+use Rattle.sessions.specs.Session.{Session}
 use Rattle.sessions.proofs.Clauses.{clauses}
 use Rattle.sessions.proofs.CheckedWhole.{weaker}
 

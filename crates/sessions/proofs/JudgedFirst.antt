@@ -10,7 +10,7 @@ use Rattle.table.specs.Judge.{judged, Accepted}
 use Rattle.sessions.specs.Coherence.{coherent}
 use Rattle.sessions.specs.Stepping.{planOf, planned, refusedStep, stepOf}
 use Rattle.sessions.specs.Asking.{judgedFirst}
-use Rattle.sessions.specs.declared.Session.{Session}
+use Rattle.sessions.specs.Session.{Session}
 
 module _ {A : Type 0} (table s : List ℕ) (z : Session) (refuse : ℕ → ℕ → A) (go : A) where
   pub table-refused : (judged table .number ≡ 0 → ⊥) → refuse (judged table .number) (judged table .place) ≡ judgedFirst standard table s z refuse go

@@ -27,7 +27,7 @@ use Rattle.model.specs.Stream.{Level}
 use Rattle.model.specs.Dispatch.{dispatch, told}
 use Rattle.sessions.specs.Sessions.{uriIn, levelUri, levelIn, levelsIn, readerOf, stateOf}
 use Rattle.sessions.specs.Stepping.{Plan, refused, finished, event, startPlan, eventPlan, planBy, planOf}
-use Rattle.sessions.specs.declared.Session.{Session}
+use Rattle.sessions.specs.Session.{Session}
 use Rattle.sessions.proofs.Sound.{LevelSound, Sound}
 use Rattle.sessions.proofs.SoundCoherent.{sound-level, sound-name}
 

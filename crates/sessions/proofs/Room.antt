@@ -17,7 +17,7 @@ use Rattle.model.specs.Records.{Body, recordBytes}
 use Rattle.model.specs.Dispatch.{recordBytesOf}
 use Rattle.sessions.specs.Coherence.{coherent}
 use Rattle.sessions.specs.Stepping.{Plan, refused, finished, event, planOf, planned, Step, refusedStep, longest, stepOf}
-use Rattle.sessions.specs.declared.Session.{Session}
+use Rattle.sessions.specs.Session.{Session}
 
 pub record Roomed (out : List ℕ) (r : Step) : Type 0 where
   pub room : 16 * r .answer .records ≤ length out

@@ -15,7 +15,7 @@ use Rattle.model.specs.Stream.{Level, HeldStrand}
 use Rattle.model.specs.Dispatch.{dispatch}
 use Rattle.strands.proofs.Packing.{Below}
 use Rattle.sessions.specs.Sessions.{readerOf, stateOf}
-use Rattle.sessions.specs.declared.Session.{Session}
+use Rattle.sessions.specs.Session.{Session}
 
 pub record Fits (z : Session) : Type 0 where
   pub levels-long : length (z .scope .levels) ≡ 192

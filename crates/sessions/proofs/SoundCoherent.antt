@@ -44,7 +44,7 @@ use Rattle.strands.specs.Packed.{strandIn}
 use Rattle.sessions.specs.Sessions.{classIn, uriIn, strandCount, strandsIn, levelIn, levelsIn}
 use Rattle.coherence.specs.Fitting.{spanInside, prefixFits, targetFits, aims}
 use Rattle.sessions.specs.Coherence.{openLevels, openBindings, coherent}
-use Rattle.sessions.specs.declared.Session.{Session}
+use Rattle.sessions.specs.Session.{Session}
 use Rattle.strands.proofs.Packing.{Below}
 use Rattle.sessions.proofs.Sound.{Aims, StrandSound, LevelSound, Sound}
 

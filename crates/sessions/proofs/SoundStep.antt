@@ -27,7 +27,7 @@ use Rattle.model.specs.Dispatch.{dispatch, told}
 use Rattle.sessions.specs.Sessions.{readerOf, stateOf}
 use Rattle.reader.specs.declared.Binding.{Binding}
 use Rattle.sessions.specs.Stepping.{Plan, refused, finished, event, startPlan, planBy, planOf, Step, planned, longest, stepOf}
-use Rattle.sessions.specs.declared.Session.{Session}
+use Rattle.sessions.specs.Session.{Session}
 use Rattle.strands.proofs.Packing.{Below}
 use Rattle.sessions.proofs.Sound.{StrandSound, LevelSound, Sound}
 use Rattle.sessions.proofs.Spaces.{class-bounds, uri-held}

@@ -16,7 +16,7 @@ use Rattle.model.specs.Dispatch.{dispatch}
 use Rattle.sessions.specs.Sessions.{stateOf, withStart}
 use Rattle.sessions.specs.Stepping.{Plan, refused, event, startPlan}
 use Rattle.sessions.specs.Turns.{decidedNumber}
-use Rattle.sessions.specs.declared.Session.{Session}
+use Rattle.sessions.specs.Session.{Session}
 
 number-plan : (x y : Bool) (n at : ℕ) (p : Plan) → n ≡ cond x 23 (cond y 24 0) → (n ≡ 0 → ⊥) → cond x (refused 23 at) (cond y (refused 24 at) p) ≡ refused n at
 number-plan true y n at p e h = ap (λ (k : ℕ). refused k at) (sym e)

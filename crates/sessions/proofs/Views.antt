@@ -31,7 +31,7 @@ use Rattle.model.specs.Stream.{Level, HeldStrand}
 use Rattle.model.specs.Dispatch.{dispatch}
 use Rattle.strands.specs.Packed.{strandIn, packed}
 use Rattle.sessions.specs.Sessions.{levelUri, strandCount, strandsIn, levelIn, levelsIn, readerOf, stateOf, withPlace, withEnd, withStart}
-use Rattle.sessions.specs.declared.Session.{Session}
+use Rattle.sessions.specs.Session.{Session}
 use Rattle.sessions.proofs.Sound.{Fits}
 use Rattle.strands.proofs.Packing.{Packable, packed-all}
 use Rattle.sessions.proofs.Own.{SpanSmall, BindingSmall, opened-opens, opened-counted, opened-lengths}

@@ -1,4 +1,4 @@
--- N6, "Ask first, then commit", of what a session holds: when two sessions hold the same, what ask answers, and a step where nothing differs. Definitions.
+-- N6, "Ask first, then commit": when two sessions hold the same, what ask and commit hand back, for all arguments. Definitions.
 use Prim.Native.Nat.{ℕ}
 use mathlib.Core.List.{List}
 use mathlib.Core.Bool.{Bool, cond, not, _&&_}
@@ -11,7 +11,7 @@ use Rattle.table.specs.declared.Answer.{Answer}
 use Rattle.equality.specs.Same.{sameFlag, sameEach, sameBinding, HeldLevel, sameLevel, heldLevel}
 use Rattle.sessions.specs.Coherence.{openBindings, coherent}
 use Rattle.sessions.specs.Stepping.{Plan, refused, finished, event, planOf, Step, answered, refusedStep, planned, longest}
-use Rattle.sessions.specs.declared.Session.{Session}
+use Rattle.sessions.specs.Session.{Session}
 
 -- "Sessions differ when they hold different things: place, units opened, root closed, end awaited; the bindings in order, both spans; the levels in order,
 -- each with name span, class, URI span, count of bindings, and the strands in order". "array places past the counts" do not count, nor does "a number
@@ -50,3 +50,32 @@ abbrev pub stepWhere : Bool → Defaults → List ℕ → List ℕ → Session �
 stepWhere same d table s z out =
     judgedFirst d table s z (λ (n p : ℕ). refusedStep n p z out)
     (cond (not same) (refusedStep 30 0 z out) (planned (planOf (decodeBy d table) s z) z out))
+
+-- "an offer holding the session and the scene's length"
+pub record Offer : Type 0 where
+  pub session : Session
+  pub length : ℕ
+
+abbrev pub offerOf : Session → List ℕ → Offer
+offerOf z s = record { session = z; length = length s }
+
+-- what ask hands back
+pub record Asked : Type 0 where
+  pub number : ℕ
+  pub place : ℕ
+  pub records : ℕ
+  pub offer : Offer
+
+abbrev pub askedAs : Answer → Offer → Asked
+askedAs a o = record { number = a .number; place = a .place; records = a .records; offer = o }
+
+abbrev pub askOf : Defaults → List ℕ → List ℕ → Session → Asked
+askOf d table s z = askedAs (askAnswer d table s z) (offerOf z s)
+
+-- the session and the scene's length are the offer's
+abbrev pub offered : Offer → Session → List ℕ → Bool
+offered o z s = holdsSame z (o .session) && eqb (length s) (o .length)
+
+-- Commit
+abbrev pub commitOf : Defaults → Offer → Session → List ℕ → List ℕ → List ℕ → Step
+commitOf d o z table s out = stepWhere (offered o z s) d table s z out

@@ -16,7 +16,7 @@ use Rattle.reader.specs.Scope.{nameIn, countIn}
 use Rattle.model.specs.Stream.{HeldStrand}
 use Rattle.coherence.specs.Fitting.{spanInside, prefixFits, targetFits, aims}
 use Rattle.sessions.specs.Sessions.{classIn, uriIn, strandCount, strandsIn}
-use Rattle.sessions.specs.declared.Session.{Session}
+use Rattle.sessions.specs.Session.{Session}
 
 -- the numbers of the open levels, and the open bindings
 abbrev pub openLevels : Session → List ℕ

@@ -12,7 +12,7 @@ use Rattle.model.specs.Rows.{row}
 use Rattle.sessions.specs.Sessions.{freshOf}
 use Rattle.sessions.specs.Coherence.{depthFits, boundFits, placeInside, levelSpansInside, bindingSpansInside, namesFit, bindingsAllowed, prefixesFit, strandCountsFit, modesFit, classesFit, targetsFit, validatesAim, unitsFit, countsAddUp, awaitedFits, closedFits, coherent}
 use Rattle.sessions.specs.Stepping.{answered, refusedStep, stepOf}
-use Rattle.sessions.specs.declared.Session.{Session}
+use Rattle.sessions.specs.Session.{Session}
 use Rattle.sessions.specs.Computing.{computing}
 
 -- sample A's scene, and its session behind the first event: <r xmlns="u"> is open, with one strand, in mode 1, validate, opened here, of unit 0

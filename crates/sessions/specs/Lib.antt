@@ -1,3 +1,4 @@
+pub mod Session
 pub mod Sessions
 pub mod Coherence
 pub mod Checks

@@ -20,7 +20,7 @@ use Rattle.model.specs.Stream.{Level, State, HeldStrand}
 use Rattle.model.specs.Dispatch.{dispatch}
 use Rattle.strands.specs.Packed.{strandIn, packed}
 use Rattle.strands.specs.Levels.{levelNames, levelSpaces, levelStrands}
-use Rattle.sessions.specs.declared.Session.{Session}
+use Rattle.sessions.specs.Session.{Session}
 use Rattle.sessions.specs.declared.Head.{Head}
 
 -- the URI of a level: class 0 the empty one, 1 to N the table's, 254 xml's, 255 the bytes of its span

@@ -15,7 +15,7 @@ use Rattle.model.specs.DefaultExamples.{A5}
 use Rattle.strands.specs.Packed.{packed}
 use Rattle.sessions.specs.Sessions.{freshOf}
 use Rattle.sessions.specs.Stepping.{answered, refusedStep, stepOf, advanceOf, runOf}
-use Rattle.sessions.specs.declared.Session.{Session}
+use Rattle.sessions.specs.Session.{Session}
 use Rattle.sessions.specs.Computing.{computing}
 
 -- The first step over sample A: its two records need 32 bytes

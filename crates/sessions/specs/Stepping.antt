@@ -19,7 +19,7 @@ use Rattle.model.specs.Stream.{Entry, entriesAt, entered, written, after}
 use Rattle.model.specs.Dispatch.{dispatch, recordBytesOf}
 use Rattle.sessions.specs.Sessions.{readerOf, stateOf, freshOf, withPlace, withEnd, withStart}
 use Rattle.sessions.specs.Coherence.{coherent}
-use Rattle.sessions.specs.declared.Session.{Session}
+use Rattle.sessions.specs.Session.{Session}
 
 -- an event's place, which 25 has: "< of the tag, or first text byte"
 abbrev pub eventPlace : scene.Event → ℕ

@@ -47,7 +47,7 @@ use Rattle.sessions.specs.Sessions.{sessionOf, sessionAt, stateOf, withP
 use Rattle.sessions.specs.Coherence.{coherent}
 use Rattle.table.specs.declared.Answer.{Answer}
 use Rattle.sessions.specs.Stepping.{Plan, refused, finished, event, startPlan, planBy, Step, answered, refusedStep}
-use Rattle.sessions.specs.declared.Session.{Session}
+use Rattle.sessions.specs.Session.{Session}
 use Rattle.sessions.specs.declared.Head.{Head}
 use Rattle.sessions.specs.declared.Started.{Started}
 use Rattle.sessions.specs.declared.Reading.{Reading}

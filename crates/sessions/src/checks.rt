@@ -1,6 +1,8 @@
 // Number 20: may this session go on with this table and scene?
+use crate::BINDINGS;
+use crate::DEPTH;
 use crate::Head;
-use crate::Session;
+use crate::UNITS;
 use coherence::arrays_fit;
 use strands::LEVELS;
 use table::Header;
@@ -16,9 +18,9 @@ fn head_fits(len: usize, head: Head) -> bool
 {
     let awaited = !head.awaited | (head.depth != 0);
     let closed = !head.closed | (head.depth == 0);
-    (head.depth <= Session::DEPTH)
-        & ((head.bound <= Session::BINDINGS)
-            & ((head.place <= len) & ((head.units <= Session::UNITS) & (awaited & closed))))
+    (head.depth <= DEPTH)
+        & ((head.bound <= BINDINGS)
+            & ((head.place <= len) & ((head.units <= UNITS) & (awaited & closed))))
 }
 
 // May a session go on with this table and scene?
@@ -28,7 +30,7 @@ pub fn coherent(
     scene: &[u8],
     head: Head,
     levels: &[u32; LEVELS],
-    bindings: &[u32; 4 * Session::BINDINGS],
+    bindings: &[u32; 4 * BINDINGS],
 ) -> bool
     ensures { λ r. ⌜ r ≡ coherent (tableOf (now (table .entry)) header) (now (scene .entry)) (sessionAt head (now (levels .entry)) (now (bindings .entry))) ⌝ }
 {

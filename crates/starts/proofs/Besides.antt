@@ -43,7 +43,7 @@ use Rattle.attributes.proofs.Known.{classes-long, classes-laid, classes-kept}
 use Rattle.sessions.specs.Sessions.{stateOf, readerOf}
 use Rattle.sessions.specs.Stepping.{Plan, planBy, planOf, startPlan}
 use Rattle.sessions.specs.Turns.{Beside, sessionBy}
-use Rattle.sessions.specs.declared.Session.{Session}
+use Rattle.sessions.specs.Session.{Session}
 use Rattle.reader.proofs.Known.{keys-kept}
 use Rattle.sessions.proofs.EventTurns.{awaited-plan}
 use Rattle.sessions.proofs.Own.{opened, opened-before, opened-own, opened-long}

@@ -39,7 +39,7 @@ use Rattle.strands.specs.Levels.{levelNames, levelSpaces, levelStrands}
 use Rattle.sessions.specs.Sessions.{sessionAt, sessionOf}
 use Rattle.sessions.specs.Stepping.{Plan, refused, planBy, startPlan}
 use Rattle.sessions.specs.Turns.{TurnReady, LoopReady, Beside, Met, DecidedAs, decidedNumber, PlannedAs, startOf, readPlan, ReadMet, ReadAs, sessionBy}
-use Rattle.sessions.specs.declared.Session.{Session}
+use Rattle.sessions.specs.Session.{Session}
 use Rattle.sessions.specs.declared.Head.{Head}
 use Rattle.sessions.specs.declared.Started.{Started}
 use Rattle.sessions.specs.declared.Reading.{Reading}

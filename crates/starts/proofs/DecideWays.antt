@@ -31,7 +31,7 @@ use Rattle.entries.proofs.Entered.{SchemaSmall, EntryPackable}
 use Rattle.sessions.specs.Sessions.{sessionOf, stateOf}
 use Rattle.openings.specs.Openings.{onlyNumber}
 use Rattle.sessions.specs.Turns.{TurnReady, Beside, Met, DecidedAs, startOf}
-use Rattle.sessions.specs.declared.Session.{Session}
+use Rattle.sessions.specs.Session.{Session}
 use Rattle.sessions.specs.declared.Head.{Head}
 use Rattle.sessions.specs.declared.Started.{Started}
 use Rattle.openings.specs.declared.Decided.{Decided}

@@ -29,7 +29,7 @@ use Rattle.entries.proofs.Entered.{SchemaSmall, EntryPackable, here-count, entr
 use Rattle.sessions.specs.Sessions.{stateOf}
 use Rattle.openings.specs.Openings.{onlyNumber}
 use Rattle.sessions.specs.Turns.{Made, DecidedAs, decidedNumber}
-use Rattle.sessions.specs.declared.Session.{Session}
+use Rattle.sessions.specs.Session.{Session}
 use Rattle.openings.specs.declared.Decided.{Decided}
 use Rattle.openings.proofs.Deciding.{Entering, wordsOf, loadUnits, loadRecords, Weighed}
 use Rattle.sessions.proofs.NewStrands.{ModeIn, allot-modes}

@@ -35,7 +35,7 @@ use Rattle.strands.specs.Entries.{entriesBy, entriesFrom, stayEntry, Unnumbered
 use Rattle.entries.proofs.Entered.{before-root, take-rules-are, stay-are, SchemaSmall, EntryPackable, unnumbered-by, unnumbered-from, unnumbered-stay, schemas-by, schemas-from, schemas-stay, packable-by, packable-from, packable-stay}
 use Rattle.sessions.specs.Sessions.{levelUri, classIn, uriIn, strandsIn, levelIn, levelsIn, stateOf}
 use Rattle.sessions.specs.Coherence.{coherent}
-use Rattle.sessions.specs.declared.Session.{Session}
+use Rattle.sessions.specs.Session.{Session}
 use Rattle.sessions.proofs.Sound.{StrandSound}
 use Rattle.sessions.proofs.Clauses.{clauses}
 use Rattle.sessions.proofs.CoherentSound.{tested-at, level-sound}

@@ -45,7 +45,7 @@ use Rattle.strands.proofs.StartRecords.{tag-units-are, starts-are}
 use Rattle.strands.proofs.Counted.{tag-length, tag-records, elements-length}
 use Rattle.entries.proofs.Entered.{SchemaSmall, EntryPackable, laid-back}
 use Rattle.sessions.specs.Sessions.{stateOf}
-use Rattle.sessions.specs.declared.Session.{Session}
+use Rattle.sessions.specs.Session.{Session}
 use Rattle.openings.proofs.Deciding.{wordsOf, loadUnits, loadRecords}
 use Rattle.sessions.proofs.NewStrands.{ModeIn}
 

@@ -48,7 +48,7 @@ use Rattle.sessions.specs.Sessions.{classIn, strandCount, levelIn, sessionOf, r
 use Rattle.sessions.specs.Stepping.{refused, planBy, planOf, startPlan}
 use Rattle.openings.specs.Openings.{arrayUnits, Openable}
 use Rattle.sessions.specs.Turns.{Innermost, TurnReady, Made}
-use Rattle.sessions.specs.declared.Session.{Session}
+use Rattle.sessions.specs.Session.{Session}
 use Rattle.sessions.specs.declared.Head.{Head}
 use Rattle.openings.specs.declared.Decided.{Decided}
 use Rattle.sessions.proofs.Sound.{LevelSound}

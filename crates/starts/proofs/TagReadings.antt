@@ -51,7 +51,7 @@ use Rattle.sessions.specs.Sessions.{sessionOf}
 use Rattle.sessions.specs.Stepping as plan
 use Rattle.sessions.specs.Stepping.{planBy, startPlan}
 use Rattle.sessions.specs.Turns.{TurnReady, Beside, startOf, Told, Met, ReadAs}
-use Rattle.sessions.specs.declared.Session.{Session}
+use Rattle.sessions.specs.Session.{Session}
 use Rattle.sessions.specs.declared.Head.{Head}
 use Rattle.sessions.specs.declared.Reading.{Reading}
 use Rattle.sessions.specs.declared.Reading.the-variants as reading

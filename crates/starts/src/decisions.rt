@@ -9,8 +9,9 @@ use openings::entering::next_strands;
 use openings::weighing::only;
 use openings::weighing::weigh;
 use reader::Scope;
+use sessions::BINDINGS;
 use sessions::Head;
-use sessions::Session;
+use sessions::STRANDS;
 use sessions::Started;
 use strands::LEVELS;
 ghost use mathlib.Core.Path.{_≡_};
@@ -42,11 +43,11 @@ pub fn decide(
     attrs: &[usize; 80],
     codes: &[usize; 16],
     own: &[u32; 64],
-    outer: &[u32; 4 * Session::BINDINGS],
+    outer: &[u32; 4 * BINDINGS],
     known: &[u64; 2 * Scope::KNOWN],
     levels: &[u32; LEVELS],
-    words: &mut [u32; Session::STRANDS],
-    schemas: &mut [u32; Session::STRANDS],
+    words: &mut [u32; STRANDS],
+    schemas: &mut [u32; STRANDS],
     attributes: &mut [u32; HELD],
 ) -> Decided
     requires { ⌜ (head .depth < 64) × (head .units ≤ 65536) × (1 ≤ head .depth → getD (levelSpaces (now levels)) (4 * (head .depth - 1) + 3) 0 ≤ 16) × (head .bound ≤ 64) × All (λ (c : Coded). c .code < 82) (coded (attrsIn (now attrs) (started .tag .count)) (now codes)) × (started .plain ≡ true → all (plainAttr (now scene)) (attrsIn (now attrs) (started .tag .count)) ≡ true) ⌝ }
@@ -76,7 +77,7 @@ pub fn decide(
         words,
         schemas,
     );
-    if Session::STRANDS < count {
+    if STRANDS < count {
         return only(23);
     }
     let tag = started.tag;

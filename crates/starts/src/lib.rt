@@ -8,10 +8,12 @@ use attributes::HELD;
 use attributes::held::put_classes;
 use attributes::held::space_of;
 use reader::Scope;
+use sessions::BINDINGS;
+use sessions::DEPTH;
 use sessions::Head;
 use sessions::Planned;
 use sessions::Reading;
-use sessions::Session;
+use sessions::STRANDS;
 use sessions::Started;
 use strands::LEVELS;
 use table::words::header_of;
@@ -35,14 +37,14 @@ fn plan_element(
     started: Started,
     head: Head,
     levels: &[u32; LEVELS],
-    bindings: &[u32; 4 * Session::BINDINGS],
+    bindings: &[u32; 4 * BINDINGS],
     known: &mut [u64; 2 * Scope::KNOWN],
     attrs: &[usize; 80],
     codes: &[usize; 16],
     own: &[u32; 64],
     attributes: &mut [u32; HELD],
-    words: &mut [u32; Session::STRANDS],
-    schemas: &mut [u32; Session::STRANDS],
+    words: &mut [u32; STRANDS],
+    schemas: &mut [u32; STRANDS],
 ) -> Planned
     requires { ⌜ LoopReady (now table) (now index) (now scene) (now known) (sessionAt head (now levels) (now bindings)) × Met (now scene) (now bindings) (now own) (now attrs) (now codes) (now known) (head .bound) started ⌝ }
     ensures { λ r. ⌜ (
@@ -58,10 +60,10 @@ fn plan_element(
 {
     let at = started.at;
     let owned = started.owned;
-    if Session::DEPTH <= head.depth {
+    if DEPTH <= head.depth {
         return Planned::Refused(21, at);
     }
-    if Session::BINDINGS < head.bound + owned {
+    if BINDINGS < head.bound + owned {
         return Planned::Refused(22, at);
     }
     if owned != 0 {
@@ -107,13 +109,13 @@ pub fn plan_start(
     at: usize,
     head: Head,
     levels: &[u32; LEVELS],
-    bindings: &[u32; 4 * Session::BINDINGS],
+    bindings: &[u32; 4 * BINDINGS],
     known: &mut [u64; 2 * Scope::KNOWN],
     attrs: &mut [usize; 80],
     own: &mut [u32; 64],
     attributes: &mut [u32; HELD],
-    words: &mut [u32; Session::STRANDS],
-    schemas: &mut [u32; Session::STRANDS],
+    words: &mut [u32; STRANDS],
+    schemas: &mut [u32; STRANDS],
 ) -> Planned
     requires { ⌜ LoopReady (now table) (now index) (now scene) (now known) (sessionAt head (now levels) (now bindings)) × (at + 1 ≤ length (now scene)) ⌝ }
     ensures { λ r. ⌜ (

@@ -7,9 +7,9 @@ use namespaces::meaning;
 use reader::Meant;
 use reader::Scope;
 use reader::kinds::all_plain;
+use sessions::BINDINGS;
 use sessions::Head;
 use sessions::Reading;
-use sessions::Session;
 use sessions::Started;
 use tags::start_tag;
 ghost use mathlib.Core.Path.{_≡_};
@@ -30,7 +30,7 @@ fn read_meaning(
     at: usize,
     tag: Tag,
     head: Head,
-    bindings: &[u32; 4 * Session::BINDINGS],
+    bindings: &[u32; 4 * BINDINGS],
     known: &mut [u64; 2 * Scope::KNOWN],
     attrs: &[usize; 80],
     own: &mut [u32; 64],
@@ -78,7 +78,7 @@ pub fn read_start(
     scene: &[u8],
     at: usize,
     head: Head,
-    bindings: &[u32; 4 * Session::BINDINGS],
+    bindings: &[u32; 4 * BINDINGS],
     known: &mut [u64; 2 * Scope::KNOWN],
     attrs: &mut [usize; 80],
     own: &mut [u32; 64],

@@ -22,7 +22,7 @@ use Rattle.openings.specs.declared.Decided.{Decided}
 use Rattle.sessions.specs.Sessions.{sessionAt, readerOf}
 use Rattle.sessions.specs.Stepping.{Plan, refused, finished, event, planBy, planOf, Step, refusedStep, planned}
 use Rattle.sessions.specs.Turns.{LoopReady, Beside, Roomy, StartAs, PlannedAs, sessionBy, weighed, stopTurn, stepIn}
-use Rattle.sessions.specs.declared.Session.{Session}
+use Rattle.sessions.specs.Session.{Session}
 use Rattle.sessions.specs.declared.Head.{Head}
 use Rattle.sessions.specs.declared.Turn.{Turn}
 use Rattle.sessions.specs.declared.Started.{Started}

@@ -3,9 +3,10 @@ use attributes::HELD;
 use lexer::Begin;
 use misc::begins::begin_at;
 use reader::Scope;
+use sessions::BINDINGS;
 use sessions::Head;
 use sessions::Planned;
-use sessions::Session;
+use sessions::STRANDS;
 use sessions::Turn;
 use starts::plan_start;
 use strands::LEVELS;
@@ -35,13 +36,13 @@ fn plan_event(
     scene: &[u8],
     head: Head,
     levels: &[u32; LEVELS],
-    bindings: &[u32; 4 * Session::BINDINGS],
+    bindings: &[u32; 4 * BINDINGS],
     known: &mut [u64; 2 * Scope::KNOWN],
     attrs: &mut [usize; 80],
     own: &mut [u32; 64],
     attributes: &mut [u32; HELD],
-    words: &mut [u32; Session::STRANDS],
-    schemas: &mut [u32; Session::STRANDS],
+    words: &mut [u32; STRANDS],
+    schemas: &mut [u32; STRANDS],
 ) -> Planned
     requires { ⌜ LoopReady (now table) (now index) (now scene) (now known) (sessionAt head (now levels) (now bindings)) ⌝ }
     ensures { λ r. ⌜ (
@@ -86,13 +87,13 @@ pub fn judged_step(
     scene: &[u8],
     head: Head,
     levels: &mut [u32; LEVELS],
-    bindings: &mut [u32; 4 * Session::BINDINGS],
+    bindings: &mut [u32; 4 * BINDINGS],
     known: &mut [u64; 2 * Scope::KNOWN],
     attrs: &mut [usize; 80],
     own: &mut [u32; 64],
     attributes: &mut [u32; HELD],
-    words: &mut [u32; Session::STRANDS],
-    schemas: &mut [u32; Session::STRANDS],
+    words: &mut [u32; STRANDS],
+    schemas: &mut [u32; STRANDS],
     rows: &mut [u64; 82],
     out: &mut [u8],
 ) -> Turn
@@ -148,13 +149,13 @@ pub fn weighed_step(
     scene: &[u8],
     head: Head,
     levels: &mut [u32; LEVELS],
-    bindings: &mut [u32; 4 * Session::BINDINGS],
+    bindings: &mut [u32; 4 * BINDINGS],
     known: &mut [u64; 2 * Scope::KNOWN],
     attrs: &mut [usize; 80],
     own: &mut [u32; 64],
     attributes: &mut [u32; HELD],
-    words: &mut [u32; Session::STRANDS],
-    schemas: &mut [u32; Session::STRANDS],
+    words: &mut [u32; STRANDS],
+    schemas: &mut [u32; STRANDS],
 ) -> Turn
     requires { ⌜ LoopReady (now table) (now index) (now scene) (now known) (sessionAt head (now levels) (now bindings)) ⌝ }
     ensures { λ r. ⌜ (

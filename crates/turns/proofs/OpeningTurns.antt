@@ -37,7 +37,7 @@ use Rattle.sessions.specs.Sessions.{sessionOf, stateOf}
 use Rattle.sessions.specs.Stepping.{Plan, event, planned, Step, answered}
 use Rattle.openings.specs.Openings.{begunOf}
 use Rattle.sessions.specs.Turns.{TurnReady, Made, StartAs, startOf, stopTurn, stepBy, openedHead, weighed}
-use Rattle.sessions.specs.declared.Session.{Session}
+use Rattle.sessions.specs.Session.{Session}
 use Rattle.sessions.specs.declared.Head.{Head}
 use Rattle.sessions.specs.declared.Started.{Started}
 use Rattle.sessions.specs.declared.Turn.{Turn}

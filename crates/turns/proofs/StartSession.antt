@@ -24,7 +24,7 @@ use Rattle.attributes.specs.Attributes.{placingOf}
 use Rattle.sessions.specs.Sessions.{sessionOf, withStart}
 use Rattle.sessions.specs.Turns.{openedHead}
 use Rattle.sessions.specs.declared.Head.{Head}
-use Rattle.sessions.specs.declared.Session.{Session}
+use Rattle.sessions.specs.Session.{Session}
 
 -- the numbers of a tag's declarations are no more than what is taken of them
 own-whole : (own l : List ℕ) (n : ℕ) → take n own ≡ l → take n own ≡ take n l

@@ -36,7 +36,7 @@ use Rattle.openings.proofs.Openings.{unitRecords, strandRecords}
 use Rattle.sessions.specs.Sessions.{stateOf}
 use Rattle.openings.specs.Openings.{arrayUnits}
 use Rattle.sessions.specs.Turns.{Made}
-use Rattle.sessions.specs.declared.Session.{Session}
+use Rattle.sessions.specs.Session.{Session}
 use Rattle.openings.specs.declared.Decided.{Decided}
 use Rattle.sessions.proofs.Sound.{LevelSound}
 use Rattle.sessions.proofs.NewStrands.{ModeIn, allot-modes, entry-modes}

@@ -12,7 +12,7 @@ use Rattle.strands.specs.Writing.{eventRecords, eventCount}
 use Rattle.strands.proofs.Delivered.{events-length}
 use Rattle.sessions.specs.Stepping.{Step, answered}
 use Rattle.sessions.specs.Turns.{weighedEvent}
-use Rattle.sessions.specs.declared.Session.{Session}
+use Rattle.sessions.specs.Session.{Session}
 
 module _ (b : Body) (closes : Bool) (strands : List ℕ) (level n count : ℕ) (rs : List (Record Body ℕ)) (w : rs ≡ gather (eventRecords b closes) (wordsAt strands level count)) (e : n ≡ count) where
   pub event-weighed : (next′ : Session) (k : ℕ) → k ≡ total (eventCount closes) (wordsAt strands level n)

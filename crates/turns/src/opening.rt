@@ -6,8 +6,9 @@ use openings::Decided;
 use openings::levels::push_start;
 use openings::writing::begun_of;
 use openings::writing::write_start;
+use sessions::BINDINGS;
 use sessions::Head;
-use sessions::Session;
+use sessions::STRANDS;
 use sessions::Started;
 use sessions::Turn;
 use strands::LEVELS;
@@ -44,10 +45,10 @@ pub fn lay_level(
     placing: Placing,
     decided: Decided,
     own: &[u32; 64],
-    words: &[u32; Session::STRANDS],
+    words: &[u32; STRANDS],
     head: Head,
     levels: &mut [u32; LEVELS],
-    bindings: &mut [u32; 4 * Session::BINDINGS],
+    bindings: &mut [u32; 4 * BINDINGS],
 ) -> Turn
     requires { ⌜ Roomy head (started .owned) × (decided .strands ≤ 16) ⌝ }
     ensures { λ r. ⌜ ((table index s schemas attributes : List ℕ) (p : Plan) → (
@@ -87,12 +88,12 @@ pub fn open_level(
     placing: Placing,
     decided: Decided,
     own: &[u32; 64],
-    words: &[u32; Session::STRANDS],
-    schemas: &[u32; Session::STRANDS],
+    words: &[u32; STRANDS],
+    schemas: &[u32; STRANDS],
     attributes: &[u32; HELD],
     head: Head,
     levels: &mut [u32; LEVELS],
-    bindings: &mut [u32; 4 * Session::BINDINGS],
+    bindings: &mut [u32; 4 * BINDINGS],
     rows: &mut [u64; 82],
     out: &mut [u8],
 ) -> Turn

@@ -33,7 +33,7 @@ ghost use Rattle.lexer.specs.declared.Ended.the-variants as ended;
 ghost use Rattle.strands.specs.Levels.{levelNames, levelSpaces};
 ghost use Rattle.sessions.specs.Sessions.{sessionAt, readerOf};
 ghost use Rattle.sessions.specs.Stepping.{planBy, planOf};
-ghost use Rattle.sessions.specs.declared.Session.{Session};
+ghost use Rattle.sessions.specs.Session.{Session};
 ghost use Rattle.sessions.specs.declared.Planned.the-variants as planned;
 ghost use Rattle.sessions.specs.Turns.{Innermost, closesAt, PlannedAs};
 

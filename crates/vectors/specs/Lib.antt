@@ -1,2 +1,3 @@
 pub mod BoundExamples
 pub mod FigureExamples
+pub mod OfferExamples

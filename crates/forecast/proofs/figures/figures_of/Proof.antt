@@ -6,7 +6,7 @@ use native.Mathlib.Omega.{arith}
 use borrow.Author.Needs.{needs}
 use denote.Ref.{now}
 use Rattle.reader.proofs.Progress.{leftOf}
-use Rattle.sessions.specs.Sessions.{readerOf, headOf, sessionAt}
+use Rattle.sessions.specs.Sessions.{readerOf, sessionAt}
 use Rattle.sessions.specs.Stepping.{Step}
 use Rattle.sessions.specs.Turns.{Beside, stepIn}
 use Rattle.forecast.specs.Forecasts.{greaterOf}
@@ -26,20 +26,16 @@ abbrev μ-loop : tie.MeasureT-loop
 fresh-requires : tie.Need-fresh-requires Inv-loop μ-loop
 fresh-requires c κs = search needs
 
-head-requires : tie.Need-head-requires Inv-loop μ-loop
-head-requires c κs = search needs
-
 loop-holds : tie.Need-loop-holds Inv-loop μ-loop
 loop-holds c =
-    let a = c .before .before .before .before .args in
-    let h = c .head in
-    let e = h .ensures ∙ ap headOf (c .before .fresh .ensures) in
-    (first-figured (a .table .now) (a .scene .now) (h .result) e, first-beside (a .table .now) (a .scene .now) (h .result) e)
+    let a = c .before .before .before .args in
+    let h = c .fresh in
+    (first-figured (a .table .now) (a .scene .now) (h .result) (h .ensures), first-beside (a .table .now) (a .scene .now) (h .result) (h .ensures))
 
 weighed-step-requires : tie.Need-weighed-step-requires Inv-loop μ-loop
 weighed-step-requires c κs =
     let l = c .before .before .before .before .before .before .before .before .loop in
-    let p = c .before .before .before .before .before .before .before .before .before .before .before .before .before .pre in
+    let p = c .before .before .before .before .before .before .before .before .before .before .before .before .pre in
     turn-ready _ _ _ _ _ _ _ _ p (l .inv .0) (l .inv .1)
 
 -- the step that was handed back
@@ -47,12 +43,12 @@ abbrev stepped : tie.After-weighed-step Inv-loop μ-loop → Step
 stepped c = stepIn (c .weighed-step .result) (c .weighed-step .last .1 .1 .1 .1 .0) (c .weighed-step .last .1 .1 .1 .1 .1 .0) []
 
 turn : (c : tie.After-weighed-step Inv-loop μ-loop) → (
-    let a = c .before .before .before .before .before .before .before .before .before .before .before .before .before .before .args in
+    let a = c .before .before .before .before .before .before .before .before .before .before .before .before .before .args in
     let l = c .before .before .before .before .before .before .before .before .before .loop in
     Turned (now (a .table)) (now (a .scene)) (sessionAt (l .head) (l .levels) (l .bindings)) (l .records) (l .strands) (l .depth) (stepped c))
 turn c =
-    let a = c .before .before .before .before .before .before .before .before .before .before .before .before .before .before .args in
-    let p = c .before .before .before .before .before .before .before .before .before .before .before .before .before .before .pre in
+    let a = c .before .before .before .before .before .before .before .before .before .before .before .before .before .args in
+    let p = c .before .before .before .before .before .before .before .before .before .before .before .before .before .pre in
     let l = c .before .before .before .before .before .before .before .before .before .loop in
     turned (now (a .table)) (now (a .scene)) (p .0) (p .2) (sessionAt (l .head) (l .levels) (l .bindings)) (l .records) (l .strands) (l .depth) (l .inv .0) (stepped c) (c .weighed-step .ensures .0)
 
@@ -89,7 +85,6 @@ figures-of-spec =
     Inv-loop
     μ-loop
     fresh-requires
-    head-requires
     loop-holds
     weighed-step-requires
     returns

@@ -17,7 +17,7 @@ use Rattle.strands.specs.Levels.{levelNames, levelSpaces, levelStrands}
 use Rattle.sessions.specs.Sessions.{classIn, uriIn, sessionAt, stateOf, withEnd}
 use Rattle.sessions.specs.Stepping.{answered}
 use Rattle.sessions.specs.Turns.{stepIn}
-use Rattle.sessions.specs.declared.Session.{Session}
+use Rattle.sessions.specs.Session.{Session}
 use Rattle.sessions.specs.declared.Head.{Head}
 use Rattle.sessions.specs.declared.Turn.{Turn}
 use Rattle.sessions.proofs.EventTurns.{written-end, event-full, event-room, end-body, closed-session}

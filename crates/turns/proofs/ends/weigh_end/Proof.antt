@@ -16,7 +16,7 @@ use Rattle.model.specs.Dispatch.{dispatch}
 use Rattle.strands.specs.Levels.{levelNames, levelSpaces, levelStrands}
 use Rattle.sessions.specs.Sessions.{classIn, uriIn, sessionAt, stateOf, withEnd}
 use Rattle.sessions.specs.Stepping.{answered}
-use Rattle.sessions.specs.declared.Session.{Session}
+use Rattle.sessions.specs.Session.{Session}
 use Rattle.sessions.specs.declared.Head.{Head}
 use Rattle.sessions.proofs.EventTurns.{written-end, closed-session}
 use Rattle.turns.proofs.Weighing.{event-weighed}

@@ -4,7 +4,7 @@ use mathlib.Core.Path.{refl}
 use mathlib.Core.List.{List}
 use native.Mathlib.Omega.{arith}
 use borrow.Author.Needs.{needs}
-use Rattle.sessions.specs.declared.Session.{Session}
+use Rattle.sessions.specs.Session.{Session}
 use Rattle.sessions.specs.declared.Planned.the-variants as planned
 use Rattle.sessions.proofs.EventTurns.{text-inside, stopped-planned, text-planned}
 use Rattle.turns.proofs.planning.plan_text.Statement.{statement}

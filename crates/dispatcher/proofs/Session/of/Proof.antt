@@ -1,8 +1,8 @@
 -- `Session::of` meets its contract: its arrays are what the levels have.
 use Rattle.sessions.proofs.Parted.{parted}
 use borrow.Author.Needs.{needs}
-use Rattle.sessions.proofs.Session.of.Statement.{statement}
-use Rattle.sessions.proofs.Session.of.Tie as tie
+use Rattle.dispatcher.proofs.Session.of.Statement.{statement}
+use Rattle.dispatcher.proofs.Session.of.Tie as tie
 
 slice-aggregate-part-levels : tie.Need-slice-aggregate-part-levels
 slice-aggregate-part-levels c = search needs

@@ -15,11 +15,9 @@ use Rattle.model.specs.Rows.{row}
 use Rattle.strands.specs.Packed.{packed}
 use Rattle.sessions.specs.Sessions.{freshOf}
 use Rattle.sessions.specs.Stepping.{answered, refusedStep, stepOf, advanceOf}
-use Rattle.sessions.specs.Asking.{holdsSame}
-use Rattle.dispatcher.specs.Offers.{offerOf, askedAs, askOf, commitOf}
+use Rattle.sessions.specs.Asking.{holdsSame, Offer, offerOf, askedAs, askOf, commitOf}
 use Rattle.sessions.specs.StepExamples.{having}
-use Rattle.sessions.specs.declared.Session.{Session}
-use Rattle.dispatcher.specs.declared.offers.Offer.{Offer}
+use Rattle.sessions.specs.Session.{Session}
 use Rattle.sessions.specs.Computing.{computing}
 
 abbrev A : List ℕ
@@ -62,7 +60,7 @@ withStrands z strands =
     }
 
 abbrev offering : Session → ℕ → Offer
-offering z n = record { session = record { held = z }; length = n }
+offering z n = record { session = z; length = n }
 
 -- ---- ask
 -- "Each offer of an ask is (the session given, the scene's length)"
