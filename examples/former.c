@@ -118,7 +118,7 @@ static int write_new(const char *name, const unsigned char *bytes, size_t len)
     return 0;
 }
 
-/* Writes beside the name and renames at last, so that the name never stands for half a table. Only a plain file is written over. */
+/* Writes beside the name and renames at last, so that nobody who reads the name meanwhile meets half a table. Only a plain file is written over. */
 static int write_file(const char *name, const unsigned char *bytes, size_t len)
 {
     static const char suffix[] = ".part";

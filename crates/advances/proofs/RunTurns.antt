@@ -14,10 +14,9 @@ use Rattle.table.specs.Index.{indexOf}
 use Rattle.table.specs.declared.Answer.{Answer}
 use Rattle.table.specs.declared.Header.{Header}
 use Rattle.table.specs.Judge.{judged, Accepted}
-use Rattle.strands.specs.Levels.{levelNames, levelSpaces, levelStrands}
 use Rattle.strands.proofs.LevelNumbers.{each-long}
 use Rattle.openings.proofs.LevelArrays.{each-zero}
-use Rattle.sessions.specs.Sessions.{freshOf, headOf, sessionOf, sessionAt}
+use Rattle.sessions.specs.Sessions.{freshOf, headOf, sessionAt}
 use Rattle.sessions.specs.Coherence.{coherent}
 use Rattle.sessions.specs.Stepping.{planOf, planned, Step, answered, refusedStep, stepOf, advanceOf, given, runBy, runOf, ran}
 use Rattle.sessions.specs.Turns.{TurnReady, LoopReady, advancedAnswer, advancedIn}

@@ -1,6 +1,8 @@
 // So many steps, until one's number is not 0, of any session: what is judged first, and the loop.
 use attributes::HELD;
 use attributes::held::put_classes;
+use index::load;
+use judging::judge;
 use reader::Scope;
 use reader::bindings::put_keys;
 use sessions::Advanced;
@@ -13,8 +15,6 @@ use steps::judged_step;
 use strands::LEVELS;
 use table::Answer;
 use table::Header;
-use table::index::load;
-use table::judge;
 use table::words::header_of;
 ghost use mathlib.Core.Path.{_≡_};
 ghost use mathlib.Core.Bool.{true};

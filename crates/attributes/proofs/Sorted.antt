@@ -1,5 +1,6 @@
 -- The attributes and sections that the arrays hold are those of the model's element.
 --     class-few, givens-small         what the arrays' numbers hold
+--     uri-within, uri-held            the span that is kept of a namespace's URI lies inside the scene
 --     codes-small                     codes are small
 --     elementIn, element-is           the model's element
 --     sections-are, sections-few      its sections
@@ -81,9 +82,12 @@ module _ (table : List ℕ) (a : Accepted table ≡ true) (s : List ℕ) where
   unfolding spaceOf
   class-few n = ⊎-elim (λ l. omega (arith, header-in table a .few-namespaces)) (λ r. ⊎-elim (λ e. omega arith) (λ e. omega arith) r) (class-in table a (uriOf s n))
 
-uri-held : (t : Table) (s : List ℕ) (n : Namespace) → NamespaceHeld s n → SpanHeld s (spaceOf t s n .uri)
+pub uri-within : (t : Table) (s : List ℕ) (n : Namespace) → SpanHeld s (uriSpan n) → SpanHeld s (spaceOf t s n .uri)
 unfolding spaceOf
-uri-held t s n h = holds-cond (SpanHeld s) (eqb (classOf t (uriOf s n)) 255) (λ e. by n h) (λ e. omega arith)
+uri-within t s n h = holds-cond (SpanHeld s) (eqb (classOf t (uriOf s n)) 255) (λ e. h) (λ e. omega arith)
+
+pub uri-held : (t : Table) (s : List ℕ) (n : Namespace) → NamespaceHeld s n → SpanHeld s (spaceOf t s n .uri)
+uri-held t s n h = uri-within t s n (by n h)
   where
     by : (m : Namespace) → NamespaceHeld s m → SpanHeld s (uriSpan m)
     by nothing k = omega arith

@@ -1,6 +1,7 @@
 // The dispatcher for hosts written in C, C++, Rust or Python: include/calcivorne.h is the manual.
 use advances::advance_in;
 use advances::answer_of;
+use judging::judge;
 use layout::answers::TOO_SHORT;
 use layout::answers::no_session;
 use layout::answers::tell;
@@ -12,7 +13,6 @@ use layout::storing::put_fresh;
 use layout::storing::put_session;
 use strands::LEVELS;
 use table::Answer;
-use table::judge;
 use uris::Source;
 use uris::UriSpan;
 use uris::uri_span;

@@ -2,7 +2,7 @@
 --     goes-on, next-small              a byte that goes on with a form, and what then fits
 --     next-first, next-none, next-on   after a byte more
 --     size-last, range-small           how many code points share the bytes, and that their numbers are small
---     begins-none, begins-some         whether a set has one of them
+--     none-met, some-met               whether a set has one of them
 use Prim.Native.Nat.{ℕ, zero, suc, _+_, _-_, _*_, _≤_, _<_}
 use mathlib.Core.Path.{_≡_, refl, sym, _∙_}
 use mathlib.Core.List.{List}
@@ -13,9 +13,9 @@ use lib.Dec.{leb, ltb, eqb}
 use Rattle.laws.specs.Lists.{any}
 use Rattle.laws.proofs.Holds.{holds-cond}
 use Rattle.laws.proofs.Flags.{differ, and-left, and-right, or-left, or-right}
-use Rattle.characters.specs.declared.Range.{Range}
-use Rattle.characters.specs.declared.Form.{Form}
-use Rattle.characters.specs.Forms.{form, noForm, firstForm, nextForm, size, larger, least, most, meets, formBegins, Bounded}
+use Rattle.utf8.specs.declared.Range.{Range}
+use Rattle.utf8.specs.declared.Form.{Form}
+use Rattle.utf8.specs.Forms.{form, noForm, firstForm, nextForm, size, larger, least, most, meets, formBegins, Bounded}
 
 -- a form that the code gives: the one that is asked for, its numbers small
 abbrev Given : Form → Form → Type 0
@@ -102,10 +102,10 @@ module _ (f : Form) (s : ℕ) (e : s ≡ size (f .left)) where
   range-small h = rw e (size-some (f .left), omega (arith, h .1))
 
   module _ (ranges : List Range) (l : ℕ) (g : l ≡ larger (f .value * s) (f .floor)) where
-    pub begins-none : f .value * s + s - 1 < l → false ≡ formBegins ranges f
+    pub none-met : f .value * s + s - 1 < l → false ≡ formBegins ranges f
     unfolding formBegins least most
-    begins-none h = rw (← e, ← g, lt-leb l (f .value * s + s - 1) h)
+    none-met h = rw (← e, ← g, lt-leb l (f .value * s + s - 1) h)
 
-    pub begins-some : (r : Bool) → l ≤ f .value * s + s - 1 → r ≡ any (meets l (f .value * s + s - 1)) ranges → r ≡ formBegins ranges f
+    pub some-met : (r : Bool) → l ≤ f .value * s + s - 1 → r ≡ any (meets l (f .value * s + s - 1)) ranges → r ≡ formBegins ranges f
     unfolding formBegins least most
-    begins-some r h q = rw (← e, ← g, le-leb l (f .value * s + s - 1) h) q
+    some-met r h q = rw (← e, ← g, le-leb l (f .value * s + s - 1) h) q

@@ -1,6 +1,3 @@
-pub mod Utf8
-pub mod Sets
-pub mod Begins
-pub mod Forms
-pub mod Deciding
+pub mod CanBegin
+pub mod Rows
 pub mod RowExamples

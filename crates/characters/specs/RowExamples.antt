@@ -4,13 +4,14 @@ use mathlib.Core.Path.{_≡_, refl}
 use mathlib.Core.List.{List, [], _∷_, _++_, map}
 use mathlib.Core.Bool.{Bool, true, false, _&&_}
 use Rattle.laws.specs.Lists.{any}
-use Rattle.characters.specs.declared.Range.{Range}
-use Rattle.characters.specs.declared.Set.{Set}
-use Rattle.characters.specs.declared.Set.the-variants as set
-use Rattle.characters.specs.Utf8.{utf8}
-use Rattle.characters.specs.Sets.{member, nameStartChar, nameChar}
-use Rattle.characters.specs.Forms.{firstForm, nextForm, formFrom, formOf, least, most, formBegins}
-use Rattle.characters.specs.Deciding.{by-test, decided, begins}
+use Rattle.utf8.specs.declared.Range.{Range}
+use Rattle.utf8.specs.declared.Set.{Set}
+use Rattle.utf8.specs.declared.Set.the-variants as set
+use Rattle.utf8.specs.Utf8.{utf8}
+use Rattle.utf8.specs.Sets.{member, nameStartChar, nameChar}
+use Rattle.utf8.specs.Forms.{firstForm, nextForm, formFrom, formOf, least, most, formBegins}
+use Rattle.utf8.proofs.Deciding.{by-test, decided}
+use Rattle.characters.specs.CanBegin.{begins}
 
 -- may it begin a part; may it go on in one
 record Marks : Type 0 where

@@ -1,10 +1,10 @@
 // What the first bytes of a character say.
-use crate::Form;
-use crate::Set;
 use crate::sets::has;
+use utf8::Form;
+use utf8::Set;
 ghost use mathlib.Core.Path.{_≡_};
-ghost use Rattle.characters.specs.Sets.{rangesOf};
-ghost use Rattle.characters.specs.Forms.{fresh, noForm, firstForm, nextForm, size, larger, formBegins, Bounded};
+ghost use Rattle.utf8.specs.Sets.{rangesOf};
+ghost use Rattle.utf8.specs.Forms.{fresh, noForm, firstForm, nextForm, size, larger, formBegins, Bounded};
 
 // Before the first byte.
 pub fn fresh_form() -> Form

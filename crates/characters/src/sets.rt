@@ -1,10 +1,11 @@
 // The sets of characters, as one table.
-use crate::Range;
-use crate::Set;
+use utf8::Range;
+use utf8::Set;
 ghost use mathlib.Core.Path.{_≡_};
 ghost use Rattle.laws.specs.Lists.{any};
-ghost use Rattle.characters.specs.Sets.{rangesOf};
-ghost use Rattle.characters.specs.Forms.{meets, firstRow, endRow};
+ghost use Rattle.utf8.specs.Sets.{rangesOf};
+ghost use Rattle.utf8.specs.Forms.{meets};
+ghost use Rattle.characters.specs.Rows.{table, firstRow, endRow};
 
 // Productions 4, 4a and 2 of XML 1.0, fifth edition: their alternatives in their order, without the colon.
 const RANGES: [Range; 27] = [
@@ -118,6 +119,13 @@ const RANGES: [Range; 27] = [
     },
 ];
 
+// The table's rows: those of the definitions, in their order.
+fn rows() -> [Range; 27]
+    ensures { λ r. ⌜ r ≡ table ⌝ }
+{
+    RANGES
+}
+
 // The first row of a set: NameChar's are those of NameStartChar and then its own.
 fn first_row(set: Set) -> usize
     ensures { λ r. ⌜ r ≡ firstRow set ⌝ }
@@ -144,11 +152,11 @@ fn end_row(set: Set) -> usize
 pub fn has(set: Set, least: u32, most: u32) -> bool
     ensures { λ r. ⌜ r ≡ any (meets least most) (rangesOf set) ⌝ }
 {
-    let rows = RANGES;
+    let ranges = rows();
     let end = end_row(set);
     let mut k = first_row(set);
     while k < end {
-        let r = rows[k];
+        let r = ranges[k];
         if (r.first <= most) & (least <= r.last) {
             return true;
         }

@@ -1,28 +1,21 @@
 -- A chain of tests joined by &&, of which the code asks one after the other: v is the answer, r what a callee says of the first test t, x the tests behind it.
 use mathlib.Core.Path.{_≡_, sym, _∙_}
 use mathlib.Core.Bool.{Bool, true, false, not, _&&_}
+use Rattle.laws.specs.Tests.{untold, untold′}
 use Rattle.laws.proofs.Flags.{differ}
 
 module _ (r t x v : Bool) (e : r ≡ t) where
   module _ (inv : (t && x) ≡ v) where
     pub chain-out : not r ≡ true → false ≡ v
-    chain-out f = by t (not-so r t e f) inv
+    chain-out f = by t (untold r t e f) inv
       where
-        not-so : (r t : Bool) → r ≡ t → not r ≡ true → t ≡ false
-        not-so true t e f = absurd (differ (sym f))
-        not-so false t e f = sym e
-
         by : (t : Bool) → t ≡ false → (t && x) ≡ v → false ≡ v
         by true f g = absurd (differ f)
         by false f g = g
 
     pub chain-on : not r ≡ false → x ≡ v
-    chain-on f = by t (so r t e f) inv
+    chain-on f = by t (untold′ r t e f) inv
       where
-        so : (r t : Bool) → r ≡ t → not r ≡ false → t ≡ true
-        so true t e f = sym e
-        so false t e f = absurd (differ f)
-
         by : (t : Bool) → t ≡ true → (t && x) ≡ v → x ≡ v
         by true f g = g
         by false f g = absurd (differ (sym f))

@@ -15,11 +15,12 @@ use lib.Dec.{eqb}
 use Rattle.laws.specs.Reading.{RunNext, go, stop, follow, run, run-go, run-stop, drop-here}
 use Rattle.laws.proofs.Holds.{holds-cond}
 use Rattle.laws.proofs.Flags.{differ}
-use Rattle.characters.specs.Utf8.{isForm}
-use Rattle.characters.specs.Forms.{fresh, nextForm, formOf, formFrom, Bounded}
-use Rattle.characters.specs.Deciding.{begins}
-use Rattle.characters.specs.declared.Form.{Form}
-use Rattle.characters.proofs.Laws.{form-more, whole-left, ascii-whole, ascii-breaks, begun-left}
+use Rattle.utf8.specs.Utf8.{isForm}
+use Rattle.utf8.specs.Forms.{fresh, nextForm, formOf, formFrom, Bounded}
+use Rattle.utf8.specs.declared.Form.{Form}
+use Rattle.utf8.proofs.FormLaws.{form-more, ascii-whole, begun-left}
+use Rattle.characters.specs.CanBegin.{begins}
+use Rattle.characters.proofs.Laws.{whole-left, ascii-breaks}
 use Rattle.lexer.specs.Stops.{afterRead}
 use Rattle.lexer.specs.Characters.{withByte}
 use Rattle.lexer.specs.Names.{PartState, partState, partSet, partWhole, partStep, partEnd, nameOf, prefixedAt, nameAt}

@@ -1,5 +1,6 @@
 -- N3: "An accepted table keeps its former results once given, for each mode and kind that lacks an any rule, one with unwrap, next mode its own, if 128
 -- rules suffice." What the calls and the model give for it under the standard's defaults is what they gave for the table under the former ones.
+--     before-step, before-advance, before-run, before-forecast     of a table that says under the standard's defaults what another said under the former
 --     former-step, former-advance, former-run, former-forecast, former-list, former-cut
 --     meets-step, meets-advance, meets-run, meets-forecast, meets-list, meets-cut     where every strand meets a rule, both defaults give the same
 use Prim.Native.Nat.{ℕ, zero, suc, _*_, _+_}
@@ -19,7 +20,7 @@ use Rattle.sessions.specs.Session.{Session}
 use Rattle.forecast.specs.Forecasts.{noFigures, figuresOf, forecastOf}
 use Rattle.forecast.specs.declared.figures.Forecast.{Forecast}
 use Rattle.defaults.specs.Former.{Suffices, withAny, Meets, modelList, cutList}
-use Rattle.defaults.proofs.Judged.{judged-more}
+use Rattle.defaults.proofs.Judged.{accepted-more}
 use Rattle.defaults.proofs.SameTable.{same-table, meets-same}
 
 -- a step and a forecast, by what judge says of a table and by the table
@@ -55,28 +56,41 @@ run-same : (d d′ : Defaults) (t t′ s : List ℕ) → ((z : Session) (out : L
 unfolding runOf
 run-same d d′ t t′ s h out = ap runBy (advance-same d d′ t t′ s h (2 * length s + 2) freshOf out)
 
--- ---- the table with an any rule for each mode and kind
-module _ (t : List ℕ) (a : Accepted t ≡ true) (enough : Suffices t) where
+-- ---- a table that says now what another said before
+module _ (t u : List ℕ) (a : Accepted t ≡ true) (b : Accepted u ≡ true) (same : decodeBy standard u ≡ decodeBy former t) where
   -- both are accepted; nothing else asks for their lengths
-  as-before : {X : Type 0} (f : Answer → Table → X) → ((n m : ℕ) (u : Table) → f (said 0 n) u ≡ f (said 0 m) u)
-      → f (judged (withAny t)) (decodeBy standard (withAny t)) ≡ f (judged t) (decodeBy former t)
+  as-before : {X : Type 0} (f : Answer → Table → X) → ((n m : ℕ) (v : Table) → f (said 0 n) v ≡ f (said 0 m) v) → f (judged u) (decodeBy standard u) ≡ f (judged t) (decodeBy former t)
   as-before f e =
-      ap (λ (j : Answer). f j (decodeBy standard (withAny t))) (judged-more t a enough)
-      ∙ e (length (withAny t)) (length t) (decodeBy standard (withAny t))
-      ∙ ap (f (said 0 (length t))) (same-table t a)
+      ap (λ (j : Answer). f j (decodeBy standard u)) (accepted-answer u b)
+      ∙ e (length u) (length t) (decodeBy standard u)
+      ∙ ap (f (said 0 (length t))) same
       ∙ ap (λ (j : Answer). f j (decodeBy former t)) (sym (accepted-answer t a))
 
+  pub before-step : (s : List ℕ) (z : Session) (out : List ℕ) → stepOf standard u s z out ≡ stepOf former t s z out
+  before-step s z out = step-with standard u s z out ∙ as-before (stepWith s z out) (λ n m v. refl) ∙ sym (step-with former t s z out)
+
+  pub before-advance : (n : ℕ) (s : List ℕ) (z : Session) (out : List ℕ) → advanceOf standard n u s z out ≡ advanceOf former n t s z out
+  before-advance n s z out = advance-same standard former u t s (before-step s) n z out
+
+  pub before-run : (s out : List ℕ) → runOf standard u s out ≡ runOf former t s out
+  before-run s out = run-same standard former u t s (before-step s) out
+
+  pub before-forecast : (s : List ℕ) → forecastOf standard u s ≡ forecastOf former t s
+  before-forecast s = forecast-with standard u s ∙ as-before (forecastWith s) (λ n m v. refl) ∙ sym (forecast-with former t s)
+
+-- ---- the table with an any rule for each mode and kind
+module _ (t : List ℕ) (a : Accepted t ≡ true) (enough : Suffices t) where
   pub former-step : (s : List ℕ) (z : Session) (out : List ℕ) → stepOf standard (withAny t) s z out ≡ stepOf former t s z out
-  former-step s z out = step-with standard (withAny t) s z out ∙ as-before (stepWith s z out) (λ n m u. refl) ∙ sym (step-with former t s z out)
+  former-step = before-step t (withAny t) a (accepted-more t a enough) (same-table t a)
 
   pub former-advance : (n : ℕ) (s : List ℕ) (z : Session) (out : List ℕ) → advanceOf standard n (withAny t) s z out ≡ advanceOf former n t s z out
-  former-advance n s z out = advance-same standard former (withAny t) t s (former-step s) n z out
+  former-advance = before-advance t (withAny t) a (accepted-more t a enough) (same-table t a)
 
   pub former-run : (s out : List ℕ) → runOf standard (withAny t) s out ≡ runOf former t s out
-  former-run s out = run-same standard former (withAny t) t s (former-step s) out
+  former-run = before-run t (withAny t) a (accepted-more t a enough) (same-table t a)
 
   pub former-forecast : (s : List ℕ) → forecastOf standard (withAny t) s ≡ forecastOf former t s
-  former-forecast s = forecast-with standard (withAny t) s ∙ as-before (forecastWith s) (λ n m u. refl) ∙ sym (forecast-with former t s)
+  former-forecast = before-forecast t (withAny t) a (accepted-more t a enough) (same-table t a)
 
   pub former-list : (s : List ℕ) → modelList (decodeBy standard (withAny t)) s ≡ modelList (decodeBy former t) s
   former-list s = ap (λ (u : Table). modelList u s) (same-table t a)

@@ -3,6 +3,9 @@ pub mod Judged
 pub mod SameTable
 pub mod SameUris
 pub mod Former
+pub mod Anywhere
 pub mod Meeting
+pub mod Rejects
 pub mod SameLimits
 pub mod SameEnds
+pub mod FormerEnds

@@ -6,7 +6,7 @@ use Prim.Native.Nat.{ℕ, zero, suc, _+_, _*_, _<_}
 use mathlib.Core.Path.{_≡_, refl, sym, ap, ap₂, subst, _∙_, fun-ext}
 use mathlib.Core.List.{List, [], _∷_, _++_, map}
 use mathlib.Core.Bool.{Bool, true, false, cond, _&&_, _||_}
-use mathlib.Core.Option.{Option, none}
+use mathlib.Core.Option.{none}
 use native.Mathlib.Omega.{arith}
 use lib.ListN.{length}
 use lib.Dec.{leb, ltb, eqb}
@@ -19,24 +19,20 @@ use Rattle.table.specs.declared.Rule.{Rule}
 use Rattle.reader.specs.Events as scene
 use Rattle.reader.specs.declared.Binding.{Binding}
 use Rattle.reader.specs.declared.Span.{Span}
-use Rattle.model.specs.Theory.{Action, AttributeUnit, holds, Record}
+use Rattle.model.specs.Theory.{AttributeUnit, holds, Record}
 use Rattle.model.specs.Tree.{start, text, end}
 use Rattle.model.specs.Elements.{Attribute, Element, attributeOf, elementOf, spaceOf, sameSpace, stays}
 use Rattle.model.specs.Records.{Body, startBody, attributeBodies}
 use Rattle.model.specs.Groups.{AttributeGroup, groupsOf, unitBy, attributeUnits, isAttach, kept, startBodies}
 use Rattle.model.specs.Stream.{HeldStrand, heldBeforeRoot, stay, byRule, receiver, give, attributesFrom, opening, startRecords, Level, Entry, allot, newUnits, takeRules, entriesAt, unitsOf, written, after}
 use Rattle.model.specs.Dispatch.{dispatch}
-use Rattle.model.proofs.Lists.{all-map, all-unmap}
-use Rattle.entries.proofs.Entered.{allot-modes}
+use Rattle.model.proofs.Steps.{allot-each}
 use Rattle.sessions.specs.Sessions.{freshOf, levelUri, levelIn, levelsIn, readerOf, stateOf, withPlace, withEnd, withStart}
 use Rattle.sessions.specs.Coherence.{coherent}
 use Rattle.sessions.specs.Stepping.{Plan, refused, event, ownDeclarations, startPlan, planBy, planOf, Step, restOf, joined, stepOf, advanceOf, runBy, runOf}
 use Rattle.sessions.specs.Session.{Session}
 use Rattle.defaults.specs.Meeting.{MeetsRule, taking, MeetsAt, MeetsNext}
 use Rattle.defaults.proofs.SameTable.{some-taken}
-
-allot-each : (P : ℕ → Type 0) (u : ℕ) (es : List Entry) → All (λ (e : Entry). P (e .strand .mode)) es → All (λ (e : Entry). P (e .strand .mode)) (allot u es)
-allot-each P u es h = all-unmap P (λ (e : Entry). e .strand .mode) (allot u es) (subst (All P) (sym (allot-modes u es)) (all-map P (λ (e : Entry). e .strand .mode) es h))
 
 -- what a start writes along its strands, behind its attribute units
 abbrev alongBy : ℕ → Element → Table → List (AttributeUnit Body) → List Entry → List (Record Body ℕ)

@@ -31,11 +31,10 @@ use Rattle.model.specs.Groups.{AttributeGroup, groupsOf, unitBy, attributeUnits
 use Rattle.model.specs.Stream.{HeldStrand, heldBeforeRoot, stay, byRule, Level, State, Entry, newUnits, takeRules, entriesAt, unitsOf, entered, after, fresh}
 use Rattle.model.specs.Dispatch.{dispatch, told}
 use Rattle.model.proofs.Lists.{gather-same, gather-map}
-use Rattle.model.proofs.Assigned.{entryModes, modesAt, nextModes, take-modes}
-use Rattle.model.proofs.Steps.{new-append}
+use Rattle.model.proofs.Assigned.{modesAt, nextModes, take-modes}
+use Rattle.model.proofs.Steps.{entryModes, allot-modes, new-append}
 use Rattle.model.proofs.Tables.{one-by}
 use Rattle.strands.specs.Rules.{opened}
-use Rattle.entries.proofs.Entered.{allot-modes}
 use Rattle.demands.specs.Limits.{depthAt, boundAt, strandsAt, unitsAt, passed}
 use Rattle.demands.proofs.Measures.{streamAfter, numberBy, depth-is, strands-are, units-are}
 use Rattle.defaults.proofs.Meeting.{now, before, element-same}

@@ -1,5 +1,6 @@
 -- The URI call on a table with the rules that it lacks.
---     uri-same      it gives the same bytes
+--     same-part     two accepted tables with the same URIs: it gives the same bytes
+--     uri-same      so it does here
 --     uri-later     a listed URI stands 4 bytes further on for each rule that is added
 use Prim.Native.Nat.{ℕ, zero, suc, _+_, _*_, _-_, _≤_, _<_}
 use mathlib.Core.Path.{_≡_, refl, sym, ap, ap₂, _∙_}
@@ -11,7 +12,7 @@ use lib.ListN.{length, drop, getD, length-map}
 use lib.Dec.{eqb, leb}
 use Rattle.laws.proofs.Flags.{and-left, and-right}
 use Rattle.compare.specs.Compare.{spanOf}
-use Rattle.table.specs.Table.{headerOf}
+use Rattle.table.specs.Table.{headerOf, urisOf}
 use Rattle.table.specs.Judge.{Accepted}
 use Rattle.table.specs.Places.{placed, placesFrom, placesOf, placeOf}
 use Rattle.table.specs.declared.Header.{Header}
@@ -59,6 +60,34 @@ module _ (s : List ℕ) (class at len : ℕ) where
   unfolding uriSpanOf
   accepted-span t a = rw a
 
+-- tables with the same URIs
+module _ (u t : List ℕ) (b : Accepted u ≡ true) (a : Accepted t ≡ true) (same : urisOf u (headerOf u) ≡ urisOf t (headerOf t)) where
+  as-listed : headerOf u .namespaces ≡ headerOf t .namespaces
+  as-listed = sym (all-listed u b) ∙ ap length same ∙ all-listed t a
+
+  same-span : (class : ℕ) → 1 ≤ class → spanAt u (placeOf u (headerOf u) class) ≡ spanAt t (placeOf t (headerOf t) class)
+  same-span class some =
+      let e : class ≡ suc (class - 1) = omega (arith, some) in
+      ap (λ (c : ℕ). spanAt u (placeOf u (headerOf u) c)) e
+      ∙ span-of u (headerOf u) (class - 1)
+      ∙ ap (λ (us : List (List ℕ)). getD us (class - 1) []) same
+      ∙ sym (ap (λ (c : ℕ). spanAt t (placeOf t (headerOf t) c)) e ∙ span-of t (headerOf t) (class - 1))
+
+  pub same-part : (s : List ℕ) (class at len : ℕ) → uriPart u s class at len ≡ uriPart t s class at len
+  unfolding uriPart
+  same-part s class at len =
+      ap (part u) (accepted-span s class at len u b ∙ ap (λ (n : ℕ). spanBy (leb 1 class && leb class n) (inside s class at len) (placeOf u (headerOf u) class) at len) as-listed)
+      ∙ by (leb 1 class && leb class (headerOf t .namespaces)) (inside s class at len) refl
+      ∙ ap (part t) (sym (accepted-span s class at len t a))
+    where
+      part : List ℕ → UriSpan → List ℕ
+      part v w = spanOf (sliceOf v s (w .source)) (w .at) (w .len)
+
+      by : (l c : Bool) → (leb 1 class && leb class (headerOf t .namespaces)) ≡ l → part u (spanBy l c (placeOf u (headerOf u) class) at len) ≡ part t (spanBy l c (placeOf t (headerOf t) class) at len)
+      by true c e = same-span class (leb-true 1 class (and-left (leb 1 class) (leb class (headerOf t .namespaces)) e))
+      by false true e = refl
+      by false false e = refl
+
 module _ (t : List ℕ) (a : Accepted t ≡ true) (enough : Suffices t) where
   abbrev h : Header
   h = headerOf t
@@ -92,14 +121,6 @@ module _ (t : List ℕ) (a : Accepted t ≡ true) (enough : Suffices t) where
         rw (lt-ltb 0 class some)
         (ap (λ (qs : List Listed). getD qs (class - 1) (placed 0 0)) places-more ∙ getD-moved (moved n) (placesOf t h) (class - 1) (placed 0 0) (omega (arith, as-many, some, few)))
 
-    span-more : spanOf (withAny t) (placeOf (withAny t) g class .at) (placeOf (withAny t) g class .len) ≡ spanOf t (placeOf t h class .at) (placeOf t h class .len)
-    span-more =
-        let e : class ≡ suc (class - 1) = omega (arith, some) in
-        ap (λ (c : ℕ). spanAt (withAny t) (placeOf (withAny t) g c)) e
-        ∙ span-of (withAny t) g (class - 1)
-        ∙ ap (λ (us : List (List ℕ)). getD us (class - 1) []) (uris-more t a)
-        ∙ sym (ap (λ (c : ℕ). spanAt t (placeOf t h c)) e ∙ span-of t h (class - 1))
-
   module _ (s : List ℕ) (class at len : ℕ) where
     abbrev listed : Bool
     listed = leb 1 class && leb class (h .namespaces)
@@ -118,13 +139,4 @@ module _ (t : List ℕ) (a : Accepted t ≡ true) (enough : Suffices t) where
         by false false e = refl
 
     pub uri-same : uriPart (withAny t) s class at len ≡ uriPart t s class at len
-    unfolding uriPart
-    uri-same = ap (part (withAny t)) span-by ∙ by listed (inside s class at len) refl ∙ ap (part t) (sym (accepted-span s class at len t a))
-      where
-        part : List ℕ → UriSpan → List ℕ
-        part u w = spanOf (sliceOf u s (w .source)) (w .at) (w .len)
-
-        by : (b c : Bool) → listed ≡ b → part (withAny t) (spanBy b c (placeOf (withAny t) g class) at len) ≡ part t (spanBy b c (placeOf t h class) at len)
-        by true c e = span-more class e
-        by false true e = refl
-        by false false e = refl
+    uri-same = same-part (withAny t) t (accepted-more t a enough) a (uris-more t a) s class at len

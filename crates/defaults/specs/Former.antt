@@ -5,9 +5,9 @@ use mathlib.Core.Path.{_≡_}
 use mathlib.Core.List.{List, [], _∷_, _++_, map}
 use mathlib.Core.Bool.{cond}
 use lib.ListN.{length, take, drop}
-use Rattle.laws.specs.Lists.{any, tabulate}
+use Rattle.laws.specs.Lists.{any, keep, tabulate}
 use Rattle.laws.specs.Gather.{gather}
-use Rattle.table.specs.Table.{Table, headerOf, anyClass, namesClass, rulesOf, allRules}
+use Rattle.table.specs.Table.{Table, headerOf, urisOf, anyClass, namesClass, rulesOf, allRules}
 use Rattle.table.specs.declared.Rule.{Rule}
 use Rattle.uris.specs.Uris.{stands, sliceOf}
 use Rattle.uris.specs.declared.UriSpan.{UriSpan}
@@ -44,7 +44,7 @@ raisedCount t = headerOf t .rules + length (addedWords t)
 abbrev pub Suffices : List ℕ → Type 0
 Suffices t = raisedCount t ≤ 128
 
--- the rules stand behind the table's own, "their place among the rules is of no account"
+-- the rules stand behind the table's own
 unfoldable pub withAny : List ℕ → List ℕ
 withAny t =
     take 3 t
@@ -52,6 +52,13 @@ withAny t =
     ++ take (4 * headerOf t .rules) (drop 4 t)
     ++ gather wordBytes (addedWords t)
     ++ drop (4 + 4 * headerOf t .rules) t
+
+-- "their place among the rules is of no account": two tables with the same modes and URIs, and for each mode, kind and class the same rules, in their
+-- order, whatever stands between them
+pub record SameRules (u t : List ℕ) : Type 0 where
+  pub modes : headerOf u .modes ≡ headerOf t .modes
+  pub uris : urisOf u (headerOf u) ≡ urisOf t (headerOf t)
+  pub rules : (mode kind class : ℕ) → keep (namesClass mode kind class) (allRules u (headerOf u)) ≡ keep (namesClass mode kind class) (allRules t (headerOf t))
 
 -- "a listed URI stands 4 bytes further on for each rule added": n bytes further on in the table; a part of the scene stands where it stood
 abbrev pub later : ℕ → UriSpan → UriSpan

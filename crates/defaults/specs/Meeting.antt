@@ -6,7 +6,7 @@ use mathlib.Core.Bool.{cond}
 use Rattle.laws.specs.Members.{All}
 use Rattle.table.specs.Table.{headerOf, rulesOf, allRules, decode}
 use Rattle.reader.specs.Events as scene
-use Rattle.model.specs.Elements.{Element, elementOf, sameSpace}
+use Rattle.model.specs.Elements.{Element, elementOf}
 use Rattle.model.specs.Groups.{AttributeGroup, groupsOf}
 use Rattle.model.specs.Stream.{HeldStrand, heldBeforeRoot, Level, Entry, entriesAt}
 use Rattle.model.specs.Dispatch.{dispatch}
@@ -21,7 +21,7 @@ module _ (t : List ℕ) where
   -- the strands that take rules at an element: where it starts a section those of its parent, at the root the one before it
   abbrev pub taking : List (Level (dispatch (decode t))) → Element → List (HeldStrand ℕ)
   taking [] σ = heldBeforeRoot ∷ []
-  taking (l ∷ ls) σ = cond (sameSpace (l .at .space) (σ .space)) [] (l .strands)
+  taking (l ∷ ls) σ = cond (dispatch (decode t) .sameSection (l .at) σ) [] (l .strands)
 
   -- of an element that starts: each of these meets a rule, and of its own strands each at each of its attribute sections
   pub record MeetsAt (levels : List (Level (dispatch (decode t)))) (σ : Element) : Type 0 where

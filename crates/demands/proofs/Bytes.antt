@@ -11,7 +11,7 @@ use Rattle.laws.proofs.Gather.{gather-append, gather-none}
 use Rattle.model.specs.Theory.{Record}
 use Rattle.model.specs.Records.{Body}
 use Rattle.model.specs.Dispatch.{recordBytesOf}
-use Rattle.demands.proofs.Refusals.{records-length}
+use Rattle.sessions.proofs.Room.{records-length}
 
 -- an output with records laid over it
 abbrev pub laid : List (Record Body ℕ) → List ℕ → List ℕ

@@ -22,7 +22,7 @@ use Rattle.sessions.specs.Sessions.{readerOf, freshOf}
 use Rattle.sessions.specs.Stepping.{Step}
 use Rattle.sessions.specs.Session.{Session}
 use Rattle.sessions.proofs.Advancing.{advance-one}
-use Rattle.demands.specs.Calls.{Call, BeginsWith, GrowingFrom, Growing, lastSceneFrom, lastScene, recordsOf, numberFrom, lastNumber, AnyCall, ofStep, ofAdvance, callOf, handedBack, callsFrom, eventsIn, allRecords}
+use Rattle.demands.specs.Calls.{Call, BeginsWith, GrowingFrom, Growing, lastSceneFrom, lastScene, recordsOf, numberFrom, lastNumber, AnyCall, ofStep, ofAdvance, callOf, handedBack, callsFrom, sessionAfter, eventsIn, allRecords}
 use Rattle.demands.specs.Scenes.{wholeModel}
 use Rattle.demands.proofs.Bytes.{laid, first-bytes}
 use Rattle.demands.proofs.Expected.{expected-whole}
@@ -36,11 +36,6 @@ NotTwenty r = r .answer .number ≡ 20 → ⊥
 -- the reader has nothing more to read
 abbrev Finishes : List ℕ → Session → Type 0
 Finishes s z = (p : ℕ) × (next s (readerOf z) ≡ finished p)
-
--- the session that the last of the calls hands back
-abbrev pub sessionAfter : List ℕ → Session → List AnyCall → Session
-sessionAfter table z [] = z
-sessionAfter table z (c ∷ cs) = sessionAfter table (handedBack table z c .session) cs
 
 -- behind some calls from a session on: where the session is in the last scene, with the records that they handed out; and where the last number is 9
 pub record Called (table before : List ℕ) (z : Session) (s : List ℕ) (k : ℕ) (out : List (Record Body ℕ)) (rs : List Step) (session : Session) : Type 0 where

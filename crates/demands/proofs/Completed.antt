@@ -11,8 +11,8 @@ use borrow.Author.Tests.{eqb-true, eq-eqb, lt-ltb}
 use lib.ListN.{length, getD, length-append}
 use lib.Dec.{eqb}
 use Rattle.laws.specs.Reading.{run, le-or-lt, drop-out}
-use Rattle.characters.specs.Deciding.{begins}
-use Rattle.characters.specs.declared.Set.the-variants as set
+use Rattle.utf8.specs.declared.Set.the-variants as set
+use Rattle.characters.specs.CanBegin.{begins}
 use Rattle.lexer.specs.Computing.{computing}
 use Rattle.lexer.specs.Stops.{afterRead, afterName}
 use Rattle.lexer.specs.Names.{spacesEnd, nameAt}

@@ -91,20 +91,20 @@ module _ (s : List ℕ) (z : scene.ReaderState) (h : z .place ≤ length s) (p :
       by (tagged.Stopped Cut) f e =
           or-full (λ d. record { more = d .more; few = d .few; done = tagged-whole z (s ++ d .more) at os (tagAt (s ++ d .more) (at + 1)) (tagAt (s ++ d .more) (at + 1) .answer) (d .done) }) (λ t k r. rw r) (tag-completed s (at + 1) le f)
 
-  begun-completed : (inside : Bool) → scene.begun s z (beginAt s (z .place) inside (z .closed)) ≡ scene.refusal 1 p → Done s (λ (S : List ℕ). Whole (scene.begun S z (beginAt S (z .place) inside (z .closed)))) ⊎ Overfull s (λ (S : List ℕ) (k : ℕ). scene.begun S z (beginAt S (z .place) inside (z .closed)) ≡ scene.refusal 3 k)
+  begun-completed : (inside : Bool) → scene.readAt s z (beginAt s (z .place) inside (z .closed)) ≡ scene.refusal 1 p → Done s (λ (S : List ℕ). Whole (scene.readAt S z (beginAt S (z .place) inside (z .closed)))) ⊎ Overfull s (λ (S : List ℕ) (k : ℕ). scene.readAt S z (beginAt S (z .place) inside (z .closed)) ≡ scene.refusal 3 k)
   begun-completed inside e = by (beginAt s (z .place) inside (z .closed)) refl (begin-inside s (z .place) inside (z .closed)) e
     where
       Goal : Type 0
-      Goal = Done s (λ (S : List ℕ). Whole (scene.begun S z (beginAt S (z .place) inside (z .closed))))
+      Goal = Done s (λ (S : List ℕ). Whole (scene.readAt S z (beginAt S (z .place) inside (z .closed))))
 
       -- where b begins, and is not cut
       same : (b : Begin) → beginAt s (z .place) inside (z .closed) ≡ b → (CutBegin b → ⊥) → (t : List ℕ) → beginAt (s ++ t) (z .place) inside (z .closed) ≡ b
       same b f n t = begin-stable s t (z .place) inside (z .closed) (λ c. n (subst CutBegin f c)) ∙ f
 
-      so : (b : Begin) → beginAt s (z .place) inside (z .closed) ≡ b → (CutBegin b → ⊥) → Done s (λ (S : List ℕ). Whole (scene.begun S z b)) → Goal
+      so : (b : Begin) → beginAt s (z .place) inside (z .closed) ≡ b → (CutBegin b → ⊥) → Done s (λ (S : List ℕ). Whole (scene.readAt S z b)) → Goal
       so b f n d = record { more = d .more; few = d .few; done = rw (same b f n (d .more)) (d .done) }
 
-      by : (b : Begin) → beginAt s (z .place) inside (z .closed) ≡ b → BeginInside s (z .place) inside (z .closed) (beginAt s (z .place) inside (z .closed)) → scene.begun s z b ≡ scene.refusal 1 p → Goal ⊎ Overfull s (λ (S : List ℕ) (k : ℕ). scene.begun S z (beginAt S (z .place) inside (z .closed)) ≡ scene.refusal 3 k)
+      by : (b : Begin) → beginAt s (z .place) inside (z .closed) ≡ b → BeginInside s (z .place) inside (z .closed) (beginAt s (z .place) inside (z .closed)) → scene.readAt s z b ≡ scene.refusal 1 p → Goal ⊎ Overfull s (λ (S : List ℕ) (k : ℕ). scene.readAt S z (beginAt S (z .place) inside (z .closed)) ≡ scene.refusal 3 k)
       by (begin.Stopped (Bad j)) f i e = let y : _≡_ {A = ℕ} 2 1 = cc in absurd (omega arith)
       by (begin.Stopped (Long j)) f i e = let y : _≡_ {A = ℕ} 3 1 = cc in absurd (omega arith)
       by (begin.Stopped Cut) f i e =

@@ -16,16 +16,17 @@ use lib.Arith.{lt-of-le-ne}
 use lib.ListN.{length, drop, getD, length-append, length-drop, List·getD-append}
 use lib.Seq.{drop-at, drop-append-le, getD-append-add}
 use lib.Dec.{leb, ltb, eqb}
-use Rattle.laws.specs.Reading.{RunNext, go, stop, follow, run, peek, Stable, stable-same, stable-cond, stable-bind, drop-here, drop-out, le-or-lt}
+use Rattle.laws.specs.Reading.{RunNext, go, stop, follow, run, peek, Stable, drop-here, drop-out, le-or-lt}
 use Rattle.laws.specs.Members.{In}
 use Rattle.laws.proofs.Flags.{differ}
 use Rattle.laws.proofs.Holds.{holds-cond, Turned}
-use Rattle.characters.specs.Utf8.{utf8, isForm}
-use Rattle.characters.specs.Sets.{member, rangesOf}
-use Rattle.characters.specs.Deciding.{begins, begins-so, begins-some}
-use Rattle.characters.specs.declared.Set.{Set}
-use Rattle.characters.specs.declared.Set.the-variants as set
-use Rattle.characters.proofs.Laws.{form-whole, form-short}
+use Rattle.utf8.specs.Utf8.{utf8, isForm}
+use Rattle.utf8.specs.Sets.{member, rangesOf}
+use Rattle.utf8.specs.declared.Set.{Set}
+use Rattle.utf8.specs.declared.Set.the-variants as set
+use Rattle.utf8.proofs.FormLaws.{form-whole}
+use Rattle.characters.specs.CanBegin.{begins}
+use Rattle.characters.proofs.Laws.{begins-so, begins-some, form-short}
 use Rattle.lexer.specs.Computing.{computing}
 use Rattle.lexer.specs.Stops.{afterRead}
 use Rattle.lexer.specs.Characters.{withByte, charStep, charEnd}
@@ -40,7 +41,7 @@ use Rattle.lexer.specs.declared.Named.the-variants as named
 use Rattle.lexer.proofs.Inside.{ReadInside, PartTo, part-inside}
 use Rattle.lexer.proofs.Common.{common-none, common-few}
 use Rattle.lexer.proofs.CharacterLaws.{Within, PassedTo, char-rest}
-use Rattle.lexer.proofs.ValueLaws.{reference-inside, reference-stable, text-inside, text-stable, closes-kept}
+use Rattle.lexer.proofs.ValueLaws.{reference-inside, text-inside, closes-kept, value-agrees}
 use Rattle.lexer.proofs.Parts.{part-ends}
 use Rattle.lexer.proofs.Stable.{part-stable}
 use Rattle.demands.specs.Answers.{Overfull}
@@ -57,6 +58,7 @@ or-full f g =
       code = o .code;
       rest = o .rest;
       form = o .form;
+      past = o .past;
       long = o .long;
       refused = g (o .rest) (o .part + 64) (o .refused);
     })
@@ -412,6 +414,7 @@ module _ (s : List ℕ) (at : ℕ) where
           code = u .character;
           rest = u .rest;
           form = u .form ∙ ap (λ (l : List ℕ). l ++ u .rest) bytes;
+          past = omega (arith, place);
           long = omega (arith, length-append s (u .rest));
           refused = reads (u .rest) ∙ part-long (u .character) (u .rest) begun room (length s) (u .allowed) lt (u .form) ∙ ap (λ (p : ℕ). read.Stopped (Long p)) place;
         }
@@ -633,23 +636,6 @@ module _ (s : List ℕ) (quote at : ℕ) where
       passed z f h k (read.Stopped (Long m)) e w = tt
       passed z f h k (read.Stopped Cut) e w = record { none = eqb-true left 0 z; form = f; rest = h e; step = k }
 
-  value-agrees : (t : List ℕ) (left i : ℕ) → i < length s → Stable (stop (read.Stopped Cut)) (valueStep s at quote left (getD s i 0) i) (valueStep (s ++ t) at quote left (getD s i 0) i)
-  value-agrees t left i lt =
-      stable-cond c (eqb left 0)
-      (stable-cond c (eqb b quote) (stable-same c (stop (read.End i)))
-      (stable-cond c (eqb b 0x26) (over (referenceEnd s i) (referenceEnd (s ++ t) i) (reference-stable s t i))
-      (rw (closes-kept s t at quote b i lt) (stable-cond c (closes s at quote b i) (stable-same c (stop (read.Stopped (Bad (i - 2))))) (over (textAt s b i) (textAt (s ++ t) b i) (text-stable s t b i))))))
-      (stable-same c (go (left - 1)))
-    where
-      c : RunNext ℕ Read
-      c = stop (read.Stopped Cut)
-
-      b : ℕ
-      b = getD s i 0
-
-      over : (r r′ : Read) → Stable (read.Stopped Cut) r r′ → Stable c (passedOver i r) (passedOver i r′)
-      over = stable-bind (read.Stopped Cut) c (passedOver i) (passedOver i) refl (λ (r : Read). stable-same c (passedOver i r))
-
   Same : ℕ → ℕ → Type 0
   Same left i = (t : List ℕ) → valueEnd (s ++ t) at quote ≡ run (read.Stopped Cut) (valueStep (s ++ t) at quote) left (drop i (s ++ t)) i
 
@@ -692,5 +678,5 @@ module _ (s : List ℕ) (quote at : ℕ) where
   pub value-completed : at ≤ length s → valueEnd s at quote ≡ read.Stopped Cut → ValueDone s at quote
   unfolding valueFrom Same
   value-completed le e =
-      let r = reaches (read.Stopped Cut) (λ (l : List ℕ). valueStep l at quote) s (λ (q i : ℕ). i + q ≤ length s) StopsAt value-turn value-agrees (drop at s) 0 at refl le (omega arith) e in
+      let r = reaches (read.Stopped Cut) (λ (l : List ℕ). valueStep l at quote) s (λ (q i : ℕ). i + q ≤ length s) StopsAt value-turn (λ t left i. value-agrees s t at quote left (getD s i 0) i) (drop at s) 0 at refl le (omega arith) e in
       ⊎-elim (at-end (r .state) (r .place) (r .same) (r .kept)) (λ h. at-cut (r .state) (r .place) (r .same) (h .0) (h .1)) (r .ends)

@@ -2,10 +2,11 @@
 --     taken-within     the events that a run took pass no limit
 --     whole-within     a run that gives 9 passes no limit
 --     limited-run      one that gives 21 to 24 stopped at the first start that passes a limit, by that
+--     run-refused      a run on a refused table, and over a scene that is too long
 --     run-ends         where the output has room for the events before the first limit, number and place are those of `runEnd`
 --     run-full         where it has not: 25
 --     finished-exactly, limited-exactly, refused-exactly     where it has room for all events: which number exactly when
-use Prim.Native.Nat.{ℕ, _+_, _*_, _-_, _≤_, _<_}
+use Prim.Native.Nat.{ℕ, suc, _+_, _*_, _-_, _≤_, _<_}
 use mathlib.Core.Path.{_≡_, refl, sym, ap, subst, _∙_}
 use mathlib.Core.List.{List, _++_}
 use mathlib.Core.Bool.{true}
@@ -24,9 +25,10 @@ use Rattle.reader.proofs.Held.{held-fresh, numbered}
 use Rattle.reader.proofs.EventsFirst.{state-held, events-end}
 use Rattle.model.specs.Dispatch.{expected}
 use Rattle.model.proofs.Tables.{one}
-use Rattle.sessions.specs.Sessions.{readerOf}
-use Rattle.sessions.specs.Stepping.{eventPlace, Step, answered, refusedStep, Run, runOf}
+use Rattle.sessions.specs.Sessions.{readerOf, freshOf}
+use Rattle.sessions.specs.Stepping.{eventPlace, Step, answered, refusedStep, longest, stepOf, advanceOf, Run, runBy, runOf, ran}
 use Rattle.sessions.specs.Session.{Session}
+use Rattle.sessions.proofs.Advancing.{advance-stops}
 use Rattle.demands.specs.Scenes.{modelCount}
 use Rattle.demands.specs.Limits.{passed, WithinFirst, Within, FirstLimit, firstPast, eventsWithin, readEnd, runEnd}
 use Rattle.demands.proofs.Goes.{goes-on}
@@ -34,9 +36,25 @@ use Rattle.demands.proofs.Expected.{count-grows}
 use Rattle.demands.proofs.Limits.{passed-number, next-event, taken-passed, FirstPast, first-past, beforeBy, endBy}
 use Rattle.demands.specs.Answers as step
 use Rattle.demands.specs.Answers.{Ready, Starts, Answered, bad-table, long-scene, bad-session, unread, all-read, no-room, wrote}
-use Rattle.demands.proofs.Refusals.{answered-by, exactly-9}
+use Rattle.demands.proofs.Refusals.{judges, answered-by, exactly-table, exactly-7, exactly-9}
 use Rattle.demands.proofs.Runs.{Ended, run-ended, scenes}
 use Rattle.demands.proofs.Accepted.{few, ready, last, limited, stopped, through, reads, no-room-first}
+
+-- ---- no event is taken
+stops-at-once : (table s out : List ℕ) (number place : ℕ) → (number ≡ 0 → ⊥) → stepOf standard table s freshOf out ≡ refusedStep number place freshOf out → runOf standard table s out ≡ ran (answered number place 0 0) out
+unfolding runOf
+stops-at-once table s out number place n q = let i : 2 * length s + 2 ≡ suc (2 * length s + 1) = omega arith in ap runBy (ap (λ (k : ℕ). advanceOf standard k table s freshOf out) i ∙ advance-stops (2 * length s + 1) table s freshOf out _ q n)
+
+-- "10 .. (0); 11 .. (0); 12 .. (0)", by judge; "7 scene over 16,777,215 bytes (0)". Nothing is counted, the output is as lent
+pub run-refused : (table s out : List ℕ) →
+    ((judged table .number ≡ 0 → ⊥) → runOf standard table s out ≡ ran (answered (judged table .number) (judged table .place) 0 0) out)
+    × (judged table .number ≡ 0 → longest < length s → runOf standard table s out ≡ ran (answered 7 0 0 0) out)
+run-refused table s out = (
+  λ n.
+      let k = ⊎-elim (λ e. absurd (n e)) (λ k. k) (judges table) in
+      stops-at-once table s out (judged table .number) (judged table .place) n (exactly-table table s freshOf out (judged table .number) (k .0) (k .1) .when refl),
+  λ e l. stops-at-once table s out 7 0 (λ z. absurd (omega arith)) (exactly-7 table s freshOf out .when (e, l)),
+)
 
 -- ---- every run
 -- what the run answers is what its last step answers
@@ -107,8 +125,8 @@ limited-run table s out lo hi = by (run-ended table s out)
         let a = at-start answer (omega arith) (omega arith) in
         let ok = accepted-by table s (e .session) (a .ready) in
         let short : length s ≤ 16777215 = a .ready .short in
-        let lt = goes-on s (e .events) (readerOf (e .session)) (scene.start (a .tag)) (a .starts .behind) (e .reached .reader) (a .starts .told) .inside in
-        let is : getD (events s) (e .events) d ≡ scene.start (a .tag) = next-event t s (e .session) (e .events) (e .records) (e .reached) (scene.start (a .tag)) (a .starts .behind) (a .starts .told) d in
+        let lt = goes-on s (e .events) (readerOf (e .session)) (scene.start (a .tag)) (a .starts .behind) (e .reached .reader) (a .starts .reads) .inside in
+        let is : getD (events s) (e .events) d ≡ scene.start (a .tag) = next-event t s (e .session) (e .events) (e .records) (e .reached) (scene.start (a .tag)) (a .starts .behind) (a .starts .reads) d in
         let some-limit : passed t s (e .events) ≡ 0 → ⊥ = λ n. omega (arith, ap (λ (r : Step). r .answer .number) (stopped table s out ok short e lt n d .1)) in
         let so = limited table s out ok short e lt some-limit d in
         record {

@@ -27,7 +27,7 @@ use Rattle.lexer.specs.declared.Begin.the-variants as begin
 use Rattle.lexer.proofs.BeginLaws.{BeginInside, begin-inside}
 use Rattle.reader.specs.Spans.{bytesOf, wholeSpan}
 use Rattle.reader.specs.Namespaces.{Meaning, refused, meant, meaningOf}
-use Rattle.reader.specs.Events.{Event, start, text, end, Open, ReaderState, freshReader, bindingsOf, Next, event, refusal, finished, isNil, left, endRead, startMeant, startRead, textRead, begun, nextBy, next, eventThen, events}
+use Rattle.reader.specs.Events.{Event, start, text, end, Open, ReaderState, freshReader, bindingsOf, Next, event, refusal, finished, isNil, left, endRead, startMeant, startRead, textRead, readAt, nextBy, next, eventThen, events}
 use Rattle.reader.proofs.Progress.{history, history-next, events-are}
 use Rattle.reader.proofs.EventsFirst.{stateAfter, state-rest, event-at}
 
@@ -65,7 +65,7 @@ module _ (s : List ℕ) (z : ReaderState) where
       by (refused n) = tt
       by (meant n as′ own) = ((record { name = wholeSpan (t .name); declarations = own }, refl), c)
 
-  begun-goes : (inside : Bool) → (z .opened ≡ [] → inside ≡ false) → (b : Begin) → BeginInside s (z .place) inside (z .closed) b → Goes z (begun s z b)
+  begun-goes : (inside : Bool) → (z .opened ≡ [] → inside ≡ false) → (b : Begin) → BeginInside s (z .place) inside (z .closed) b → Goes z (readAt s z b)
   begun-goes inside o (begin.Stopped x) i = tt
   begun-goes inside o begin.Finished i = tt
   begun-goes inside o (begin.Text at) i = text-goes at (λ e. differ (sym (i .3) ∙ o e)) (textEnd s at)

@@ -53,7 +53,7 @@ counted : (z : Session) → countsAddUp z ≡ true → CountedScope (z .scope)
 counted z e = sym (total-numbers (z .scope .levels) (z .scope .depth)) ∙ eqb-true (total (countIn (z .scope)) (openLevels z)) (z .scope .bound) e
 
 -- the k-th level that a session holds, and the stream's level by it
-abbrev held : Session → ℕ → HeldLevel
+abbrev pub held : Session → ℕ → HeldLevel
 held z = heldLevel (z .scope .levels) (z .spaces) (z .strands)
 
 abbrev levelOf : (t : Table) → List ℕ → HeldLevel → Level (dispatch t)

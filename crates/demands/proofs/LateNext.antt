@@ -3,20 +3,22 @@
 --     MeaningNumber, meaning-number          what a tag means is no 2 and no 3
 --     next-stays                             a 2 or a 3 stays
 --     next-until                             a part of the scene that goes beyond the refused byte: the same, or 1
-use Prim.Native.Nat.{ℕ, _+_, _≤_, _<_}
+use Prim.Native.Nat.{ℕ, _+_, _-_, _≤_, _<_}
 use mathlib.Core.Path.{_≡_, refl, sym, ap, subst, _∙_}
 use mathlib.Core.List.{List, [], _∷_, _++_}
-use mathlib.Core.Bool.{Bool, true, false, not, _||_}
+use mathlib.Core.Bool.{Bool, true, false, not, _&&_, _||_}
 use mathlib.Core.Option.{Option, none, some}
 use mathlib.Core.Logic.{_⊎_, inl, inr, ⊎-elim}
 use native.Mathlib.Omega.{arith}
-use lib.ListN.{length, length-append}
+use lib.ListN.{length, getD, length-append}
+use lib.Dec.{eqb}
 use Rattle.laws.specs.Reading.{le-or-lt}
 use Rattle.laws.specs.Lists.{sameList, any, anyPair}
 use Rattle.laws.proofs.Flags.{differ}
 use Rattle.laws.proofs.Holds.{holds-cond}
 use Rattle.laws.proofs.Kept.{Kept}
 use Rattle.lexer.specs.Values.{textEnd}
+use Rattle.lexer.specs.Misc.{isXml}
 use Rattle.lexer.specs.Tags.{TagRead, tagAt, endTagAt}
 use Rattle.lexer.specs.Begins.{beginAt}
 use Rattle.lexer.specs.declared.Stop.{Stop}
@@ -28,11 +30,12 @@ use Rattle.lexer.specs.declared.Attr.{Attr}
 use Rattle.lexer.specs.declared.Tag.{Tag}
 use Rattle.lexer.specs.declared.Tagged.{Tagged}
 use Rattle.lexer.specs.declared.Tagged.the-variants as tagged
+use Rattle.lexer.specs.declared.EndTag.{EndTag}
 use Rattle.lexer.specs.declared.Ended.{Ended}
 use Rattle.lexer.specs.declared.Ended.the-variants as ended
 use Rattle.lexer.specs.declared.Begin.{Begin}
 use Rattle.lexer.specs.declared.Begin.the-variants as begin
-use Rattle.lexer.proofs.ValueLaws.{value-stable}
+use Rattle.lexer.proofs.ValueLaws.{value-stable, closes-behind}
 use Rattle.lexer.proofs.Stable.{CutTag, tag-stable, endTag-stable}
 use Rattle.lexer.proofs.BeginLaws.{BeginInside, begin-inside, CutBegin, begin-stable}
 use Rattle.reader.specs.Spans.{bytesOf, wholeSpan}
@@ -42,23 +45,24 @@ use Rattle.reader.specs.Held.{Held}
 use Rattle.reader.specs.declared.Binding.{Binding}
 use Rattle.reader.proofs.Held.{NextHeld, next-held}
 use Rattle.reader.proofs.NextStable.{Placed, next-placed, next-stable, refusal-stable}
-use Rattle.demands.specs.Answers.{settled}
-use Rattle.demands.proofs.Late.{Ext, ext-bind, LateStop, LateRead, LateTagged, LateEnded, LateBegin, value-ext, value-late, tag-ext, tag-late, endTag-ext, endTag-late, begin-ext, finished-on}
+use Rattle.demands.specs.Answers.{readsText, settled}
+use Rattle.demands.proofs.Late.{Targets, Closings, closes-here, Ext, ext-bind, LateStop, LateRead, LateTagged, LateEnded, LateBegin, value-ext, value-late, tag-ext, tag-late, endTag-ext, endTag-late, begin-ext, finished-on}
 
 -- ---- 2 and 3
-abbrev pub LateNext : List ℕ → ℕ → scene.Next → Type 0
-LateNext S n (scene.event e z) = Unit {0}
-LateNext S n (scene.refusal m p) = (2 ≤ m) → (m ≤ 3) → n ≤ p + settled S p
-LateNext S n (scene.finished p) = Unit {0}
+-- need: how many bytes behind a refused one settle its refusal
+abbrev pub LateNext : (ℕ → ℕ) → ℕ → scene.Next → Type 0
+LateNext need n (scene.event e z) = Unit {0}
+LateNext need n (scene.refusal m p) = (2 ≤ m) → (m ≤ 3) → n ≤ p + need p
+LateNext need n (scene.finished p) = Unit {0}
 
 -- what a tag means is no 2 and no 3
 abbrev pub MeaningNumber : Meaning → Type 0
 MeaningNumber (refused k) = 5 ≤ k
 MeaningNumber (meant x as′ own) = Unit {0}
 
-meant-late : (S : List ℕ) (n at : ℕ) (os : List scene.Open) (tag : Tag) (m : Meaning) → MeaningNumber m → LateNext S n (scene.startMeant at os tag m)
-meant-late S n at os tag (refused k) h = λ lo hi. absurd (omega arith)
-meant-late S n at os tag (meant x as′ own) h = tt
+meant-late : (need : ℕ → ℕ) (n at : ℕ) (os : List scene.Open) (tag : Tag) (m : Meaning) → MeaningNumber m → LateNext need n (scene.startMeant at os tag m)
+meant-late need n at os tag (refused k) h = λ lo hi. absurd (omega arith)
+meant-late need n at os tag (meant x as′ own) h = tt
 
 pub meaning-number : (s : List ℕ) (bs : List Binding) (n : Name) (attrs : List Attr) → MeaningNumber (meaningOf s bs n attrs)
 unfolding meaningOf
@@ -71,11 +75,34 @@ meaning-number s bs n attrs =
     by (some m) none = omega arith
     by (some m) (some as′) = holds-cond MeaningNumber (anyPair (sameName s) attrs || anyPair (sameExpanded s) as′) (λ e. omega arith) (λ e. tt)
 
-module _ (s t : List ℕ) (z : scene.ReaderState) where
-  N : scene.Next → Type 0
-  N = LateNext (s ++ t) (length s)
+-- ---- what settles the two refusals that their byte does not settle
+settled-targets : (S : List ℕ) (z : scene.ReaderState) → Targets (settled S z) S
+unfolding settled
+settled-targets S z at less question x =
+    let a : at + 2 - 2 ≡ at = omega arith in
+    let b : at + 2 - 1 ≡ at + 1 = omega arith in
+    rw (a, b, less, question, x) (omega arith)
 
-  stopped-late : (x : Stop) → LateStop (s ++ t) (length s) x → N (scene.stopped (s ++ t) x)
+settled-closings : (S : List ℕ) (z : scene.ReaderState) → readsText S z ≡ true → (at : ℕ) → Closings (settled S z) S at 0x3C
+unfolding settled
+settled-closings S z text at i e =
+    let le : at + 2 ≤ i = closes-behind S at 0x3C (getD S i 0) i e in
+    let k : i - 2 + 2 ≡ i = omega arith in
+    holds-cond (λ (n : ℕ). 2 ≤ n) (eqb (getD S (i - 2 - 2) 0) 0x3C && eqb (getD S (i - 2 - 1) 0) 0x3F && isXml S (i - 2) (i - 2 + 3))
+    (λ x. omega arith)
+    (λ x. rw (text, k, closes-here S at 0x3C (getD S i 0) i e) (omega arith))
+
+module _ (s t : List ℕ) (z : scene.ReaderState) where
+  abbrev need : ℕ → ℕ
+  need = settled (s ++ t) z
+
+  targets : Targets need (s ++ t)
+  targets = settled-targets (s ++ t) z
+
+  N : scene.Next → Type 0
+  N = LateNext need (length s)
+
+  stopped-late : (x : Stop) → LateStop need (length s) x → N (scene.stopped (s ++ t) x)
   unfolding N
   stopped-late (Bad j) h lo hi = h
   stopped-late (Long j) h lo hi = omega arith
@@ -87,87 +114,99 @@ module _ (s t : List ℕ) (z : scene.ReaderState) where
   stopped-ext (Long j) = inl refl
   stopped-ext Cut = inr (λ lo hi. absurd (omega arith))
 
-  text-late : (at : ℕ) (r : Read) → LateRead (s ++ t) (length s) r → N (scene.textRead (s ++ t) z at r)
+  text-late : (at : ℕ) (r : Read) → LateRead need (length s) r → N (scene.textRead (s ++ t) z at r)
   unfolding N
   text-late at (read.End j) h = tt
   text-late at (read.Stopped x) h = stopped-late x h
 
-  text-ext : (at : ℕ) → Ext N (scene.textRead s z at (textEnd s at)) (scene.textRead (s ++ t) z at (textEnd (s ++ t) at))
+  text-ext : (at : ℕ) → Closings need (s ++ t) at 0x3C → Ext N (scene.textRead s z at (textEnd s at)) (scene.textRead (s ++ t) z at (textEnd (s ++ t) at))
   unfolding N
-  text-ext at =
-      ext-bind (LateRead (s ++ t) (length s)) N (scene.textRead s z at) (scene.textRead (s ++ t) z at) same (text-late at) (textEnd s at) (textEnd (s ++ t) at) (value-ext s t at 0x3C)
+  text-ext at closings =
+      ext-bind (LateRead need (length s)) N (scene.textRead s z at) (scene.textRead (s ++ t) z at) same (text-late at) (textEnd s at) (textEnd (s ++ t) at) (value-ext need s t targets at 0x3C closings)
     where
       same : (r : Read) → Ext N (scene.textRead s z at r) (scene.textRead (s ++ t) z at r)
       same (read.End j) = inr tt
       same (read.Stopped x) = stopped-ext x
 
   -- 4 is no 2 and no 3
-  got-late : (at : ℕ) (o : scene.Open) (os : List scene.Open) (r : Ended) → LateEnded (s ++ t) (length s) r → N (scene.endRead (s ++ t) at (o ∷ os) r)
+  got-late : (at : ℕ) (o : scene.Open) (os : List scene.Open) (e : EndTag) → N (scene.endRead (s ++ t) at (o ∷ os) (ended.Got e))
   unfolding N
-  got-late at o os (ended.Stopped x) h = stopped-late x h
-  got-late at o os (ended.Got e) h =
+  got-late at o os e =
       holds-cond N (sameList (bytesOf (s ++ t) (wholeSpan (e .name))) (bytesOf (s ++ t) (o .name))) (λ q. tt) (λ q lo hi. absurd (omega arith))
+
+  ended-late : (at : ℕ) (o : scene.Open) (os : List scene.Open) (r : Ended) → LateEnded need (length s) r → N (scene.endRead (s ++ t) at (o ∷ os) r)
+  ended-late at o os (ended.Stopped x) h = stopped-late x h
+  ended-late at o os (ended.Got e) h = got-late at o os e
 
   end-ext : (at : ℕ) (os : List scene.Open) → Ext N (scene.endRead s at os (endTagAt s (at + 2))) (scene.endRead (s ++ t) at os (endTagAt (s ++ t) (at + 2)))
   end-ext at [] = inl refl
   end-ext at (o ∷ os) =
-      ext-bind (LateEnded (s ++ t) (length s)) N (scene.endRead s at (o ∷ os)) (scene.endRead (s ++ t) at (o ∷ os)) same (got-late at o os) (endTagAt s (at + 2)) (endTagAt (s ++ t) (at + 2)) (endTag-ext s t (at + 2))
+      ext-bind (LateEnded need (length s)) N (scene.endRead s at (o ∷ os)) (scene.endRead (s ++ t) at (o ∷ os)) same (ended-late at o os) (endTagAt s (at + 2)) (endTagAt (s ++ t) (at + 2)) (endTag-ext need s t targets (at + 2))
     where
       same : (r : Ended) → Ext N (scene.endRead s at (o ∷ os) r) (scene.endRead (s ++ t) at (o ∷ os) r)
       same (ended.Stopped x) = stopped-ext x
-      same (ended.Got e) = inr (got-late at o os (ended.Got e) tt)
+      same (ended.Got e) = inr (got-late at o os e)
 
   end-late : (at : ℕ) → length s ≤ at + 1 → (os : List scene.Open) → N (scene.endRead (s ++ t) at os (endTagAt (s ++ t) (at + 2)))
   unfolding N
   end-late at le [] = λ lo hi. omega arith
-  end-late at le (o ∷ os) = got-late at o os (endTagAt (s ++ t) (at + 2)) (endTag-late s t (at + 2) (omega arith))
+  end-late at le (o ∷ os) = ended-late at o os (endTagAt (s ++ t) (at + 2)) (endTag-late need s t targets (at + 2) (omega arith))
 
-  tagged-late : (at : ℕ) (os : List scene.Open) (r : TagRead) (a : Tagged) → LateTagged (s ++ t) (length s) a → N (scene.startRead (s ++ t) at os r a)
+  tag-got-late : (at : ℕ) (os : List scene.Open) (r : TagRead) (e : Tag) → N (scene.startRead (s ++ t) at os r (tagged.Got e))
   unfolding N
+  tag-got-late at os r e = meant-late need (length s) at os e (meaningOf (s ++ t) (scene.bindingsOf os) (e .name) (r .attrs)) (meaning-number (s ++ t) (scene.bindingsOf os) (e .name) (r .attrs))
+
+  tagged-late : (at : ℕ) (os : List scene.Open) (r : TagRead) (a : Tagged) → LateTagged need (length s) a → N (scene.startRead (s ++ t) at os r a)
   tagged-late at os r (tagged.Stopped x) h = stopped-late x h
-  tagged-late at os r (tagged.Got e) h = meant-late (s ++ t) (length s) at os e (meaningOf (s ++ t) (scene.bindingsOf os) (e .name) (r .attrs)) (meaning-number (s ++ t) (scene.bindingsOf os) (e .name) (r .attrs))
+  tagged-late at os r (tagged.Got e) h = tag-got-late at os r e
 
   start-ext : (at : ℕ) (os : List scene.Open) → Ext N (scene.startRead s at os (tagAt s (at + 1)) (tagAt s (at + 1) .answer)) (scene.startRead (s ++ t) at os (tagAt (s ++ t) (at + 1)) (tagAt (s ++ t) (at + 1) .answer))
   start-ext at os =
-      ext-bind (λ (r : TagRead). LateTagged (s ++ t) (length s) (r .answer)) N (λ (r : TagRead). scene.startRead s at os r (r .answer)) (λ (r : TagRead). scene.startRead (s ++ t) at os r (r .answer))
+      ext-bind (λ (r : TagRead). LateTagged need (length s) (r .answer)) N (λ (r : TagRead). scene.startRead s at os r (r .answer)) (λ (r : TagRead). scene.startRead (s ++ t) at os r (r .answer))
       (λ r. same r (r .answer))
       (λ r h. tagged-late at os r (r .answer) h)
       (tagAt s (at + 1))
       (tagAt (s ++ t) (at + 1))
-      (tag-ext s t (at + 1))
+      (tag-ext need s t targets (at + 1))
     where
       same : (r : TagRead) (a : Tagged) → Ext N (scene.startRead s at os r a) (scene.startRead (s ++ t) at os r a)
       same r (tagged.Stopped x) = stopped-ext x
-      same r (tagged.Got e) = inr (tagged-late at os r (tagged.Got e) tt)
+      same r (tagged.Got e) = inr (tag-got-late at os r e)
 
-  begun-ext : (inside : Bool) → Ext N (scene.begun s z (beginAt s (z .place) inside (z .closed))) (scene.begun (s ++ t) z (beginAt (s ++ t) (z .place) inside (z .closed)))
+  begun-ext : (inside : Bool) → inside ≡ not (scene.isNil (z .opened)) → Ext N (scene.readAt s z (beginAt s (z .place) inside (z .closed))) (scene.readAt (s ++ t) z (beginAt (s ++ t) (z .place) inside (z .closed)))
   unfolding N
-  begun-ext inside =
-      ext-bind (LateBegin (s ++ t) (length s)) N (scene.begun s z) (scene.begun (s ++ t) z) same late (beginAt s (z .place) inside (z .closed)) (beginAt (s ++ t) (z .place) inside (z .closed)) (begin-ext s t (z .place) inside (z .closed))
+  begun-ext inside around = by (beginAt (s ++ t) (z .place) inside (z .closed)) refl (begin-ext need s t targets (z .place) inside (z .closed))
     where
-      same : (b : Begin) → Ext N (scene.begun s z b) (scene.begun (s ++ t) z b)
-      same (begin.Stopped x) = stopped-ext x
-      same begin.Finished = inr tt
-      same (begin.Text at) = text-ext at
-      same (begin.End at) = end-ext at (z .opened)
-      same (begin.Start at) = start-ext at (z .opened)
+      closings : (at : ℕ) → beginAt (s ++ t) (z .place) inside (z .closed) ≡ begin.Text at → Closings need (s ++ t) at 0x3C
+      closings at q = settled-closings (s ++ t) z (rw (← around, q)) at
 
-      late : (b : Begin) → LateBegin (s ++ t) (length s) b → N (scene.begun (s ++ t) z b)
-      late (begin.Stopped x) h = stopped-late x h
-      late begin.Finished h = tt
-      late (begin.Text at) h = text-late at (textEnd (s ++ t) at) (value-late s t at 0x3C h)
-      late (begin.End at) h = end-late at h (z .opened)
-      late (begin.Start at) h = tagged-late at (z .opened) (tagAt (s ++ t) (at + 1)) (tagAt (s ++ t) (at + 1) .answer) (tag-late s t (at + 1) h)
+      same : (b : Begin) → beginAt (s ++ t) (z .place) inside (z .closed) ≡ b → Ext N (scene.readAt s z b) (scene.readAt (s ++ t) z b)
+      same (begin.Stopped x) q = stopped-ext x
+      same begin.Finished q = inr tt
+      same (begin.Text at) q = text-ext at (closings at q)
+      same (begin.End at) q = end-ext at (z .opened)
+      same (begin.Start at) q = start-ext at (z .opened)
 
-  -- with more bytes the reader says the same, or no 2 and no 3 more than three bytes before the scene's end
-  pub next-ext : Ext (LateNext (s ++ t) (length s)) (scene.next s z) (scene.next (s ++ t) z)
+      late : (b : Begin) → beginAt (s ++ t) (z .place) inside (z .closed) ≡ b → LateBegin need (length s) b → N (scene.readAt (s ++ t) z b)
+      late (begin.Stopped x) q h = stopped-late x h
+      late begin.Finished q h = tt
+      late (begin.Text at) q h = text-late at (textEnd (s ++ t) at) (value-late need s t targets at 0x3C (closings at q) h)
+      late (begin.End at) q h = end-late at h (z .opened)
+      late (begin.Start at) q h = tagged-late at (z .opened) (tagAt (s ++ t) (at + 1)) (tagAt (s ++ t) (at + 1) .answer) (tag-late need s t targets (at + 1) h)
+
+      by : (b : Begin) → beginAt (s ++ t) (z .place) inside (z .closed) ≡ b → Ext (LateBegin need (length s)) (beginAt s (z .place) inside (z .closed)) b → Ext N (scene.readAt s z (beginAt s (z .place) inside (z .closed))) (scene.readAt (s ++ t) z b)
+      by b q (inl e) = subst (λ (a : Begin). Ext N (scene.readAt s z a) (scene.readAt (s ++ t) z b)) e (same b q)
+      by b q (inr l) = inr (late b q l)
+
+  -- with more bytes the reader says the same, or no 2 and no 3 that is settled before the scene's end
+  pub next-ext : Ext (LateNext (settled (s ++ t) z) (length s)) (scene.next s z) (scene.next (s ++ t) z)
   unfolding scene.next N
-  next-ext = by (z .awaited) (z .opened)
+  next-ext = by (z .awaited) (z .opened) refl
     where
-      by : (a : Bool) (os : List scene.Open) → Ext N (scene.nextBy s z a os) (scene.nextBy (s ++ t) z a os)
-      by true (o ∷ os) = inr tt
-      by true [] = begun-ext false
-      by false os = begun-ext (not (scene.isNil os))
+      by : (a : Bool) (os : List scene.Open) → os ≡ z .opened → Ext N (scene.nextBy s z a os) (scene.nextBy (s ++ t) z a os)
+      by true (o ∷ os) q = inr tt
+      by true [] q = begun-ext false (ap (λ (l : List scene.Open). not (scene.isNil l)) q)
+      by false os q = begun-ext (not (scene.isNil os)) (ap (λ (l : List scene.Open). not (scene.isNil l)) q)
 
   -- ---- and a 2 or a 3 stays
   -- the answers that may change
@@ -222,12 +261,12 @@ module _ (s t : List ℕ) (z : scene.ReaderState) where
       same r (tagged.Stopped x) = stopped-stays x
       same r (tagged.Got e) = λ n. absurd (n (other e (meaningOf s (scene.bindingsOf os) (e .name) (r .attrs)) (meaning-number s (scene.bindingsOf os) (e .name) (r .attrs))))
 
-  begun-stays : (inside : Bool) → Kept Other (scene.begun s z (beginAt s (z .place) inside (z .closed))) (scene.begun (s ++ t) z (beginAt (s ++ t) (z .place) inside (z .closed)))
+  begun-stays : (inside : Bool) → Kept Other (scene.readAt s z (beginAt s (z .place) inside (z .closed))) (scene.readAt (s ++ t) z (beginAt (s ++ t) (z .place) inside (z .closed)))
   unfolding Other
   begun-stays inside =
-      through CutBegin (scene.begun s z) (scene.begun (s ++ t) z) (λ b. ⊎-elim (λ e. rw e (λ lo hi. omega arith)) (λ e. rw e tt)) same (beginAt s (z .place) inside (z .closed)) (beginAt (s ++ t) (z .place) inside (z .closed)) (begin-stable s t (z .place) inside (z .closed))
+      through CutBegin (scene.readAt s z) (scene.readAt (s ++ t) z) (λ b. ⊎-elim (λ e. rw e (λ lo hi. omega arith)) (λ e. rw e tt)) same (beginAt s (z .place) inside (z .closed)) (beginAt (s ++ t) (z .place) inside (z .closed)) (begin-stable s t (z .place) inside (z .closed))
     where
-      same : (b : Begin) → Kept Other (scene.begun s z b) (scene.begun (s ++ t) z b)
+      same : (b : Begin) → Kept Other (scene.readAt s z b) (scene.readAt (s ++ t) z b)
       same (begin.Stopped x) = stopped-stays x
       same begin.Finished = λ n. absurd (n tt)
       same (begin.Text at) = text-stays at
@@ -245,7 +284,7 @@ module _ (s t : List ℕ) (z : scene.ReaderState) where
 
 -- ---- behind a finished scene
 -- what begins behind it and is refused is refused there
-behind-finished : (s t : List ℕ) (z : scene.ReaderState) (n p : ℕ) (b : Begin) → BeginInside (s ++ t) (length s) false true b → scene.begun (s ++ t) z b ≡ scene.refusal n p → length s ≤ p
+behind-finished : (s t : List ℕ) (z : scene.ReaderState) (n p : ℕ) (b : Begin) → BeginInside (s ++ t) (length s) false true b → scene.readAt (s ++ t) z b ≡ scene.refusal n p → length s ≤ p
 behind-finished s t z n p (begin.Stopped (Bad j)) i e = let y : j ≡ p = cc in omega arith
 behind-finished s t z n p (begin.Stopped (Long j)) i e = let y : j ≡ p = cc in omega arith
 behind-finished s t z n p (begin.Stopped Cut) i e = let y : length (s ++ t) ≡ p = cc in omega (arith, length-append s t)
@@ -255,7 +294,7 @@ behind-finished s t z n p (begin.End at) i e = absurd (differ (sym (i .4)))
 behind-finished s t z n p (begin.Start at) i e = absurd (differ (sym (i .4)))
 
 -- behind the root nothing begins but the end
-finished-only : (s : List ℕ) (z : scene.ReaderState) (j : ℕ) (b : Begin) → BeginInside s (z .place) false true b → scene.begun s z b ≡ scene.finished j → b ≡ begin.Finished
+finished-only : (s : List ℕ) (z : scene.ReaderState) (j : ℕ) (b : Begin) → BeginInside s (z .place) false true b → scene.readAt s z b ≡ scene.finished j → b ≡ begin.Finished
 finished-only s z j (begin.Stopped x) i e = let y : _≡_ {A = ℕ} 0 1 = cc in absurd (omega arith)
 finished-only s z j begin.Finished i e = refl
 finished-only s z j (begin.Text at) i e = absurd (differ (sym (i .3)))
@@ -263,10 +302,10 @@ finished-only s z j (begin.End at) i e = absurd (differ (sym (i .4)))
 finished-only s z j (begin.Start at) i e = absurd (differ (sym (i .4)))
 
 module _ (s t : List ℕ) (z : scene.ReaderState) (h : Held s z) where
-  begun-late : (j n p : ℕ) (closed : Bool) → closed ≡ true → scene.begun s z (beginAt s (z .place) false closed) ≡ scene.finished j → scene.begun (s ++ t) z (beginAt (s ++ t) (z .place) false closed) ≡ scene.refusal n p → length s ≤ p
+  begun-late : (j n p : ℕ) (closed : Bool) → closed ≡ true → scene.readAt s z (beginAt s (z .place) false closed) ≡ scene.finished j → scene.readAt (s ++ t) z (beginAt (s ++ t) (z .place) false closed) ≡ scene.refusal n p → length s ≤ p
   begun-late j n p true c e q =
       let fin : beginAt s (z .place) false true ≡ begin.Finished = finished-only s z j (beginAt s (z .place) false true) (begin-inside s (z .place) false true) e in
-      behind-finished s t z n p (beginAt (s ++ t) (length s) false true) (begin-inside (s ++ t) (length s) false true) (ap (scene.begun (s ++ t) z) (sym (finished-on s (z .place) fin (h .place) t)) ∙ q)
+      behind-finished s t z n p (beginAt (s ++ t) (length s) false true) (begin-inside (s ++ t) (length s) false true) (ap (scene.readAt (s ++ t) z) (sym (finished-on s (z .place) fin (h .place) t)) ∙ q)
   begun-late j n p false c e q = absurd (differ (sym c))
 
   finished-late : (j n p : ℕ) → scene.next s z ≡ scene.finished j → scene.next (s ++ t) z ≡ scene.refusal n p → length s ≤ p

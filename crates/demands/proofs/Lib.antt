@@ -1,9 +1,10 @@
 pub mod Goes
-pub mod CoherentHeld
+pub mod CoherentMore
 pub mod HeldAlike
 pub mod Refusals
 pub mod Late
 pub mod LateNext
+pub mod Before
 pub mod CompletedParts
 pub mod CompletedForms
 pub mod MiscCompleted
@@ -20,9 +21,13 @@ pub mod Advances
 pub mod Runs
 pub mod Limits
 pub mod Calls
+pub mod RefusedInCalls
 pub mod Steps
 pub mod Accepted
 pub mod Ends
 pub mod Offers
+pub mod AskNumbers
+pub mod SameSteps
+pub mod SameAdvances
 pub mod Commits
 pub mod Samples

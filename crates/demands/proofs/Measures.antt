@@ -1,9 +1,9 @@
 -- What the limits 21 to 24 measure, by the reader's and the stream's states; the model's measures are these.
 --     inner-strands                           the strands of the innermost level
 --     WithinAt, within-more, sound-within     a state within the limits, as every sound session's is; also when more bytes come
---     depth-is, strands-are, units-are        what the model has of the k-th event
+--     depth-is, strands-are, units-are        what the model has of the k-th event; stream-on: the state behind it
 --     within-passed                           an event between two states within the limits passes none
-use Prim.Native.Nat.{ℕ, zero, suc, _+_, _≤_, _<_}
+use Prim.Native.Nat.{ℕ, zero, suc, _≤_, _<_}
 use mathlib.Core.Path.{_≡_, refl, sym, ap, subst, _∙_}
 use mathlib.Core.List.{List, [], _∷_, _++_, map, map-append}
 use mathlib.Core.Bool.{Bool, false, cond}
@@ -139,6 +139,13 @@ module _ (t : Table) (s : List ℕ) where
         ∙ sym (ap length (levels-open (dispatch t) (toldFirst t s (suc k))))
         ∙ length-map (streamAfter t s (suc k) .levels) (λ (l : Level (dispatch t)). l .at)
 
+    -- the state behind it
+    pub stream-on : (d : scene.Event) → streamAfter t s (suc k) ≡ after (dispatch t) (streamAfter t s k) (told t s (getD (events s) k d))
+    stream-on d =
+        let e = getD (events s) k d in
+        let more : toldFirst t s (suc k) ≡ toldFirst t s k ++ (told t s e ∷ []) = ap (map (told t s)) (take-suc (events s) k d lt) ∙ map-append (told t s) (take k (events s)) (e ∷ []) in
+        ap (reached (dispatch t)) more ∙ reached-step (dispatch t) (toldFirst t s k) (told t s e)
+
     pub strands-are : (d : scene.Event) → strandsAt t s k ≡ length (modesAt (dispatch t) (streamAfter t s k) (told t s (getD (events s) k d)))
     strands-are d =
         let first = toldFirst t s k in
@@ -171,10 +178,8 @@ module _ (t : Table) (s : List ℕ) where
       within-passed w w′ =
           let d : scene.Event = scene.text (span 0 0) in
           let e = getD (events s) k d in
-          let more : toldFirst t s (suc k) ≡ toldFirst t s k ++ (told t s e ∷ []) = ap (map (told t s)) (take-suc (events s) k d lt) ∙ map-append (told t s) (take k (events s)) (e ∷ []) in
-          let on : streamAfter t s (suc k) ≡ after (dispatch t) (streamAfter t s k) (told t s e) = ap (reached (dispatch t)) more ∙ reached-step (dispatch t) (toldFirst t s k) (told t s e) in
           none-passed _ _ _ _
           (le-ltb _ (depthAt t s k) (omega (arith, depth-is, w′ .levels)))
           (le-ltb _ (boundAt s k) (omega (arith, w′ .bindings)))
-          (le-ltb _ (strandsAt t s k) (omega (arith, strands-are d, few-strands e on w w′)))
+          (le-ltb _ (strandsAt t s k) (omega (arith, strands-are d, few-strands e (stream-on d) w w′)))
           (le-ltb _ (unitsAt t s k) (omega (arith, units-are, w′ .units)))

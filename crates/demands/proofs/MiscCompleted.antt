@@ -15,10 +15,11 @@ use Rattle.laws.specs.Reading.{RunNext, go, stop, follow, run}
 use Rattle.laws.specs.Text.{bytes}
 use Rattle.laws.proofs.Flags.{differ}
 use Rattle.laws.proofs.Holds.{holds-cond, Turned}
-use Rattle.characters.specs.Utf8.{isForm}
-use Rattle.characters.specs.Deciding.{begins}
-use Rattle.characters.specs.declared.Set.the-variants as set
-use Rattle.characters.proofs.Laws.{ascii-whole, ascii-breaks}
+use Rattle.utf8.specs.Utf8.{isForm}
+use Rattle.utf8.specs.declared.Set.the-variants as set
+use Rattle.utf8.proofs.FormLaws.{ascii-whole}
+use Rattle.characters.specs.CanBegin.{begins}
+use Rattle.characters.proofs.Laws.{ascii-breaks}
 use Rattle.lexer.specs.Computing.{computing}
 use Rattle.lexer.specs.Characters.{withByte}
 use Rattle.lexer.specs.Stops.{afterRead}

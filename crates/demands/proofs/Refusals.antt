@@ -9,7 +9,7 @@ use mathlib.Core.Bool.{Bool, true, false, cond, not, _||_}
 use mathlib.Core.Logic.{_⊎_, inl, inr, ⊎-elim}
 use native.Mathlib.Omega.{arith}
 use borrow.Author.Tests.{ltb-true, ltb-false, leb-true, leb-false, eqb-true, eqb-false, not-true, not-false, lt-ltb, le-ltb, le-leb, lt-leb, eq-eqb, ne-eqb}
-use lib.ListN.{length, drop, length-append}
+use lib.ListN.{length, drop}
 use lib.Dec.{leb, ltb, eqb}
 use Rattle.laws.specs.Lists.{any, all, anyPair}
 use Rattle.laws.specs.Over.{overwrite}
@@ -24,7 +24,7 @@ use Rattle.reader.proofs.Held.{NextHeld, next-held, numbered, cut-at}
 use Rattle.model.specs.Theory.{Record}
 use Rattle.model.specs.Tree.{start}
 use Rattle.model.specs.Elements.{elementOf}
-use Rattle.model.specs.Records.{Body, recordBytes}
+use Rattle.model.specs.Records.{Body}
 use Rattle.model.specs.Stream.{entriesAt, after}
 use Rattle.model.specs.Dispatch.{dispatch, recordBytesOf}
 use Rattle.sessions.specs.Sessions.{readerOf, stateOf}
@@ -33,7 +33,8 @@ use Rattle.sessions.specs.Stepping.{Plan, refused, finished, event, startPlan, 
 use Rattle.sessions.specs.Session.{Session}
 use Rattle.demands.specs.Answers.{Ready, Deep, Full, Crowded, Spent, Limit, Starts, Answered, bad-table, long-scene, bad-session, unread, all-read, limited, no-room, wrote, Unchanged, Changed, Exactly, ExactlyAt, Unread, AllRead, NoRoom}
 use Rattle.demands.proofs.Goes.{event-goes}
-use Rattle.demands.proofs.CoherentHeld.{coherent-held}
+use Rattle.sessions.proofs.CoherentSound.{coherent-held}
+use Rattle.sessions.proofs.Room.{records-length}
 
 -- judge's numbers
 abbrev pub Judges : Answer → Type 0
@@ -101,7 +102,7 @@ module _ (table s : List ℕ) (z : Session) (out : List ℕ) where
             let g = event-goes s (readerOf z) (scene.start e) z′ q in
             let same : g .0 .0 ∷ readerOf z .opened ≡ o ∷ os = sym (g .0 .1) ∙ n in
             let rest : readerOf z .opened ≡ os = cc in
-            by-start e o (z′ .place) (record { behind = z′; told = q; opens = n ∙ ap (λ (l : List scene.Open). o ∷ l) (sym rest) }) k
+            by-start e o (z′ .place) (record { behind = z′; reads = q; opens = n ∙ ap (λ (l : List scene.Open). o ∷ l) (sym rest) }) k
 
   pub answered-by : Answered table s z out (stepOf standard table s z out)
   unfolding stepOf planOf
@@ -137,7 +138,7 @@ module _ (table s : List ℕ) (z : Session) (out : List ℕ) where
       rw (lt-leb 64 (z .scope .depth) (h .0), le-ltb 64 (z .scope .bound + length (o .declarations)) (h .1), le-ltb 16 (length (entriesAt (dispatch (decode table)) (stateOf (decode table) s z .levels) (elementOf (decode table) s e))) (h .2), lt-ltb 65536 (after (dispatch (decode table)) (stateOf (decode table) s z) (start (elementOf (decode table) s e)) .units) (h .3), q)
 
   starts-plan : (e : scene.Start) (o : scene.Open) (q : Starts s z e o) → planOf (decode table) s z ≡ startPlan (decode table) s z e (o .declarations) (q .behind .place)
-  starts-plan e o q = plan-next (scene.event (scene.start e) (q .behind)) (q .told) ∙ ap (λ (os : List scene.Open). startPlan (decode table) s z e (ownDeclarations os) (q .behind .place)) (q .opens)
+  starts-plan e o q = plan-next (scene.event (scene.start e) (q .behind)) (q .reads) ∙ ap (λ (os : List scene.Open). startPlan (decode table) s z e (ownDeclarations os) (q .behind .place)) (q .opens)
 
   pub answered-so : {r : Step} → Answered table s z out r → stepOf standard table s z out ≡ r
   unfolding stepOf
@@ -151,11 +152,6 @@ module _ (table s : List ℕ) (z : Session) (out : List ℕ) where
   answered-so (wrote r p rs z″ q l) = step-planned r ∙ ap (λ (x : Plan). planned x z out) q ∙ rw (le-ltb (length out) (16 * length rs) l)
 
 -- ---- what a step changes
-pub records-length : (rs : List (Record Body ℕ)) → length (gather recordBytesOf rs) ≡ 16 * length rs
-unfolding gather recordBytes
-records-length [] = refl
-records-length (r ∷ rs) = simp length-append (omega (arith, records-length rs))
-
 module _ (table s : List ℕ) (z : Session) (out : List ℕ) where
   keeps : {r : Step} → Answered table s z out r → (r .answer .number ≡ 0 → ⊥) → Unchanged z out r
   keeps (bad-table lo hi) n = record { session = refl; output = refl; events = refl; records = refl }
@@ -300,7 +296,7 @@ module _ (table s : List ℕ) (z : Session) (out : List ℕ) where
         by (unread r i p x a b) k = absurd (omega arith)
         by (all-read r p x) k = absurd (omega arith)
         by (limited r e′ o′ q′ i l a b) k =
-            let told : scene.event (scene.start e′) (q′ .behind) ≡ scene.event (scene.start e) (q .behind) = sym (q′ .told) ∙ q .told in
+            let told : scene.event (scene.start e′) (q′ .behind) ≡ scene.event (scene.start e) (q .behind) = sym (q′ .reads) ∙ q .reads in
             let same : e′ ≡ e = cc in
             let behind : q′ .behind ≡ q .behind = cc in
             let both : o′ ∷ readerOf z .opened ≡ o ∷ readerOf z .opened = sym (q′ .opens) ∙ ap (λ (y : scene.ReaderState). y .opened) behind ∙ q .opens in

@@ -21,7 +21,8 @@ use Rattle.sessions.specs.Sessions.{readerOf}
 use Rattle.sessions.specs.Coherence.{coherent}
 use Rattle.sessions.specs.Stepping.{Step, refusedStep, longest, stepOf}
 use Rattle.sessions.specs.Session.{Session}
-use Rattle.demands.proofs.CoherentHeld.{coherent-held, coherent-more}
+use Rattle.sessions.proofs.CoherentSound.{coherent-held}
+use Rattle.demands.proofs.CoherentMore.{coherent-more}
 use Rattle.demands.proofs.CompletedParts.{or-full}
 use Rattle.demands.proofs.CompletedNext.{Whole, next-completed}
 use Rattle.demands.proofs.LateNext.{LateNext, next-ext, next-stays, next-until}
@@ -56,7 +57,7 @@ module _ (table s : List ℕ) (z : Session) (out : List ℕ) (n p : ℕ) (lo : 2
 
   -- the refused byte, and those behind it that settle it
   abbrev size : ℕ
-  size = p + 1 + settled s p
+  size = p + 1 + settled s (readerOf z) p
 
   up-to : next (take size s) (readerOf z) ≡ refusal n p
   up-to = ⊎-elim (λ e. sym e ∙ whole) (λ l. ⊎-elim short (λ lt. absurd (omega (arith, late l, length-take-le size s (omega arith)))) (le-or-lt (length s) size)) (next-ext (take size s) (drop size s) (readerOf z))
@@ -67,11 +68,11 @@ module _ (table s : List ℕ) (z : Session) (out : List ℕ) (n p : ℕ) (lo : 2
       short : length s ≤ size → next (take size s) (readerOf z) ≡ refusal n p
       short le = rw (take-all size s le) (reads .1)
 
-      late : LateNext (take size s ++ drop size s) (length (take size s)) (next (take size s ++ drop size s) (readerOf z)) → length (take size s) ≤ p + settled s p
-      late l = subst (λ (S : List ℕ). length (take size s) ≤ p + settled S p) (take-append-drop size s) (subst (LateNext (take size s ++ drop size s) (length (take size s))) whole l lo hi)
+      late : LateNext (settled (take size s ++ drop size s) (readerOf z)) (length (take size s)) (next (take size s ++ drop size s) (readerOf z)) → length (take size s) ≤ p + settled s (readerOf z) p
+      late l = subst (λ (S : List ℕ). length (take size s) ≤ p + settled S (readerOf z) p) (take-append-drop size s) (subst (LateNext (settled (take size s ++ drop size s) (readerOf z)) (length (take size s))) whole l lo hi)
 
   -- they settle it, whatever stands behind
-  pub refused-after : (rest : List ℕ) → length (take (p + 1 + settled s p) s ++ rest) ≤ longest → coherent (decode table) (take (p + 1 + settled s p) s ++ rest) z ≡ true → stepOf standard table (take (p + 1 + settled s p) s ++ rest) z out ≡ refusedStep n p z out
+  pub refused-after : (rest : List ℕ) → length (take (p + 1 + settled s (readerOf z) p) s ++ rest) ≤ longest → coherent (decode table) (take (p + 1 + settled s (readerOf z) p) s ++ rest) z ≡ true → stepOf standard table (take (p + 1 + settled s (readerOf z) p) s ++ rest) z out ≡ refusedStep n p z out
   refused-after rest l c =
       answered-so table (take size s ++ rest) z out
       (unread (record { accepted = reads .0 .accepted; short = l; fits = c }) n p (next-stays (take size s) rest (readerOf z) n p lo hi up-to) (omega arith) (omega arith))

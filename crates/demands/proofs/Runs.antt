@@ -21,10 +21,10 @@ use Rattle.model.specs.Dispatch.{recordBytesOf, expected}
 use Rattle.sessions.specs.Sessions.{readerOf, freshOf}
 use Rattle.sessions.specs.Stepping.{answered, refusedStep, stepOf, Run, runBy, runOf}
 use Rattle.sessions.specs.Session.{Session}
+use Rattle.sessions.proofs.Room.{records-length}
 use Rattle.demands.specs.Runs.{SceneRun}
 use Rattle.demands.proofs.Goes.{state-count}
 use Rattle.demands.proofs.Expected.{expected-whole}
-use Rattle.demands.proofs.Refusals.{records-length}
 use Rattle.demands.proofs.Bytes.{laid, first-bytes, behind-laid}
 use Rattle.demands.proofs.Reached.{Reached, reached-fresh, few-events, reached-expected, counted}
 use Rattle.demands.proofs.Outcomes.{Said}

@@ -24,13 +24,13 @@ use Rattle.model.specs.Dispatch.{expected}
 use Rattle.sessions.specs.Sessions.{freshOf}
 use Rattle.sessions.specs.Stepping.{eventPlace, Step, stepOf}
 use Rattle.sessions.specs.Session.{Session}
-use Rattle.demands.specs.Calls.{Call, BeginsWith, GrowingFrom, Growing, lastSceneFrom, lastScene, stepsFrom, acceptedIn, recordsOf, joinedOf, lastNumber, AnyCall, ofStep, callOf, callsFrom, eventsIn, allRecords}
+use Rattle.demands.specs.Calls.{Call, BeginsWith, GrowingFrom, Growing, lastSceneFrom, lastScene, stepsFrom, acceptedIn, recordsOf, joinedOf, lastNumber, AnyCall, ofStep, callOf, callsFrom, sessionAfter, eventsIn, allRecords}
 use Rattle.demands.specs.Scenes.{wholeModel}
 use Rattle.demands.specs.Limits.{passed}
 use Rattle.demands.proofs.Refusals.{refused-keeps, accepted-writes}
 use Rattle.demands.proofs.Reached.{Reached, reached-more}
 use Rattle.demands.proofs.Limits.{limited-answer}
-use Rattle.demands.proofs.Calls.{calls as calls-of, finished-calls, no-later-call-byte, sessionAfter, growing-from, all-called, all-reached, then-calls}
+use Rattle.demands.proofs.Calls.{calls as calls-of, finished-calls, no-later-call-byte, growing-from, all-called, all-reached, then-calls}
 
 -- ---- by calls each of which is a step
 abbrev pub asCalls : List Call → List AnyCall

@@ -1,17 +1,21 @@
 -- Demand 1: the stages of a step, in document 01's order; when a number is given; what a step changes. Definitions.
-use Prim.Native.Nat.{ℕ, _+_, _*_, _≤_, _<_}
+use Prim.Native.Nat.{ℕ, _+_, _-_, _*_, _≤_, _<_}
 use mathlib.Core.Path.{_≡_}
 use mathlib.Core.List.{List, _∷_, _++_}
-use mathlib.Core.Bool.{true, false, cond}
+use mathlib.Core.Bool.{Bool, true, false, cond, not, _&&_}
 use mathlib.Core.Logic.{_⊎_}
 use lib.ListN.{length, drop, getD}
+use lib.Dec.{eqb}
 use Rattle.laws.specs.Over.{overwrite}
 use Rattle.laws.specs.Gather.{gather}
 use Rattle.table.specs.Table.{Table, decode, standard}
 use Rattle.table.specs.Judge.{judged}
-use Rattle.characters.specs.Utf8.{utf8}
+use Rattle.utf8.specs.Utf8.{utf8}
 use Rattle.lexer.specs.Values.{closes}
 use Rattle.lexer.specs.Misc.{isXml}
+use Rattle.lexer.specs.Begins.{beginAt}
+use Rattle.lexer.specs.declared.Begin.{Begin}
+use Rattle.lexer.specs.declared.Begin.the-variants as begin
 use Rattle.reader.specs.Events as scene
 use Rattle.model.specs.Theory.{Record}
 use Rattle.model.specs.Tree.{start}
@@ -57,7 +61,7 @@ module _ (t : Table) (s : List ℕ) (z : Session) (e : scene.Start) (o : scene.O
 -- the reader reads the start e, which opens o
 pub record Starts (s : List ℕ) (z : Session) (e : scene.Start) (o : scene.Open) : Type 0 where
   pub behind : scene.ReaderState
-  pub told : scene.next s (readerOf z) ≡ scene.event (scene.start e) behind
+  pub reads : scene.next s (readerOf z) ≡ scene.event (scene.start e) behind
   pub opens : behind .opened ≡ o ∷ readerOf z .opened
 
 -- "Order: 10 short, 11 header, 10, 11, 12, 7, 20; then 2, 3 or 1 by first byte; then 4; 5, 6, 21, 22, 23, 24; 25"
@@ -116,17 +120,31 @@ NoRoom table s z out p =
     Ready table s z
     × ((rs : List (Record Body ℕ)) × (z″ : Session) × (planOf (decode table) s z ≡ event p rs z″) × (length out < 16 * length rs))
 
--- "A target xml is decided at p + 3, a ]]> at p + 2": how many bytes behind a refused one settle its refusal, at most
-unfoldable pub settled : List ℕ → ℕ → ℕ
-settled s p = cond (isXml s p (p + 3)) 3 (cond (closes s p 0x3C (getD s (p + 2) 0) (p + 2)) 2 0)
+-- what the reader reads next is a text
+abbrev pub isText : Begin → Bool
+isText (begin.Start at) = false
+isText (begin.End at) = false
+isText (begin.Text at) = true
+isText begin.Finished = false
+isText (begin.Stopped x) = false
+
+abbrev pub readsText : List ℕ → scene.ReaderState → Bool
+readsText s z = isText (beginAt s (z .place) (not (scene.isNil (z .opened))) (z .closed))
+
+-- "A target xml is decided at p + 3, a ]]> at p + 2": how many bytes behind a refused one settle its refusal, at most. A target stands behind <?, but not
+-- where an odd session's place is at its x; a ]]> is refused in text, but a ] that breaks off a reference or a character at once
+unfoldable pub settled : List ℕ → scene.ReaderState → ℕ → ℕ
+settled s z p =
+    cond (eqb (getD s (p - 2) 0) 0x3C && eqb (getD s (p - 1) 0) 0x3F && isXml s p (p + 3)) 3
+    (cond (readsText s z && closes s p 0x3C (getD s (p + 2) 0) (p + 2)) 2 0)
 
 -- an event was read to its end: 0, or a number that is said of a whole event
 abbrev pub Through : ℕ → Type 0
 Through n = (n ≡ 0) ⊎ (((4 ≤ n) × (n ≤ 6)) ⊎ ((21 ≤ n) × (n ≤ 25)))
 
 -- "A sequence cut by the scene's end is 1", also where the 64 bytes of a part cannot hold the rest of its last character: some character begins with
--- the bytes that end the scene, and with its rest behind the scene the part's 65th byte is refused, inside the character. Refused: that this is
--- so of a scene, at a place
+-- the bytes that end the scene, and with its rest behind the scene the part's 65th byte, which is not there yet, is refused, inside the character.
+-- Refused: that this is so of a scene, at a place
 pub record Overfull (s : List ℕ) (Refused : List ℕ → ℕ → Type 0) : Type 0 where
   pub part : ℕ
   pub character : ℕ
@@ -135,6 +153,7 @@ pub record Overfull (s : List ℕ) (Refused : List ℕ → ℕ → Type 0) : Typ
   pub code : ℕ
   pub rest : List ℕ
   pub form : utf8 code ≡ drop character s ++ rest
+  pub past : length s ≤ part + 64
   pub long : part + 64 < length (s ++ rest)
   pub refused : Refused (s ++ rest) (part + 64)
 

@@ -89,6 +89,11 @@ callsFrom table z (c ∷ cs) =
     let r = handedBack table z c in
     r ∷ callsFrom table (r .session) cs
 
+-- the session that the last call hands back; the one before where there is no call
+abbrev pub sessionAfter : List ℕ → Session → List AnyCall → Session
+sessionAfter table z [] = z
+sessionAfter table z (c ∷ cs) = sessionAfter table (handedBack table z c .session) cs
+
 -- "events (steps that gave 0)": of all calls
 unfoldable pub eventsIn : List Step → ℕ
 eventsIn rs = total (λ (r : Step). r .answer .events) rs

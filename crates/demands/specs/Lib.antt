@@ -9,3 +9,4 @@ pub mod Computing
 pub mod CallExamples
 pub mod LimitExamples
 pub mod MiscExamples
+pub mod ScriptExamples

@@ -1,14 +1,20 @@
 -- Worked examples of limits, by computation: T2 with v and q alternating under a u root, "the fourth v makes 16 strands, the fifth gives 23"; 25 where
--- request N3 has records.
+-- request N3 has records; "22 a 65th open binding".
 use Prim.Native.Nat.{ℕ}
 use mathlib.Core.Path.{_≡_, refl}
-use mathlib.Core.List.{List, []}
+use mathlib.Core.List.{List, [], _∷_}
+use mathlib.Core.Bool.{true, false}
+use mathlib.Core.Option.{some}
 use lib.ListN.{replicate}
 use Rattle.laws.specs.Text.{bytes}
 use Rattle.table.specs.Table.{standard, former, decode}
+use Rattle.table.specs.declared.Action.the-variants.{Validate}
 use Rattle.table.specs.declared.Answer.{Answer}
 use Rattle.table.specs.Examples.{T, T2}
-use Rattle.sessions.specs.Stepping.{answered, runOf}
+use Rattle.strands.specs.Packed.{packed}
+use Rattle.sessions.specs.Sessions.{sessionOf}
+use Rattle.sessions.specs.Stepping.{answered, refusedStep, stepOf, runOf}
+use Rattle.sessions.specs.Session.{Session}
 use Rattle.demands.specs.Limits.{passed, runEnd}
 use Rattle.demands.specs.Computing.{computing}
 
@@ -36,3 +42,17 @@ room-for-rejected = (refl, refl, refl, refl)
 room-before : runOf former T (bytes "<r/>") [] .answer ≡ answered 9 4 2 0
 unfolding computing
 room-before = refl
+
+-- <r> is open, and so many times xmlns="" with it; the next tag declares one more
+abbrev declaring : ℕ → Session
+declaring n =
+    sessionOf (record { place = 3; units = 1; closed = false; awaited = false; depth = 1; bound = n }) (1 ∷ 1 ∷ n ∷ replicate 189 0) (replicate 256 0)
+    (0 ∷ 0 ∷ 0 ∷ 1 ∷ replicate 252 0) (packed (record { mode = 0; action = Validate; target = some 0; here = true }) ∷ replicate 1023 0)
+
+sixty-fourth : stepOf standard T (bytes "<r><x xmlns=''>") (declaring 63) (replicate 16 7) .answer ≡ answered 0 15 1 1
+unfolding computing
+sixty-fourth = refl
+
+sixty-fifth : stepOf standard T (bytes "<r><x xmlns=''>") (declaring 64) (replicate 16 7) ≡ refusedStep 22 3 (declaring 64) (replicate 16 7)
+unfolding computing
+sixty-fifth = refl

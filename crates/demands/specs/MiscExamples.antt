@@ -6,12 +6,14 @@ use lib.ListN.{replicate}
 use Rattle.laws.specs.Text.{bytes}
 use Rattle.table.specs.Table.{standard}
 use Rattle.table.specs.Examples.{T}
+use Rattle.reader.specs.Events.{freshReader}
 use Rattle.model.specs.Rows.{row}
 use Rattle.sessions.specs.Sessions.{freshOf}
 use Rattle.sessions.specs.Stepping.{Step, answered, runOf}
 use Rattle.table.specs.declared.Answer.{Answer}
 use Rattle.demands.specs.Answers.{settled}
 use Rattle.demands.specs.Calls.{Call, stepsFrom}
+use Rattle.demands.specs.Scenes.{readerAfter}
 use Rattle.demands.specs.Samples.{sampleOutput, sampleRun}
 use Rattle.demands.specs.Computing.{computing}
 
@@ -28,10 +30,19 @@ space-apart : runOf standard K (bytes "<r> <!----> </r>") sampleOutput ≡ sampl
 unfolding computing
 space-apart = refl
 
--- how many bytes behind a refused one settle its refusal: of a target xml, of ]]>, of others
-settles : (settled (bytes "<r><?xml?") 5 ≡ 3) × (settled (bytes "<r>a]]>") 4 ≡ 2) × (settled (bytes "<r/x") 3 ≡ 0) × (settled (bytes "<r>]]<") 3 ≡ 0)
+-- how many bytes behind a refused one settle its refusal, behind so many events of a scene: of a target xml three, of ]]> in text two
+abbrev settledBehind : ℕ → List ℕ → ℕ → ℕ
+settledBehind k s p = settled s (readerAfter k s freshReader) p
+
+settles :
+    (settledBehind 1 (bytes "<r><?xml?") 5 ≡ 3)
+    × (settledBehind 0 (bytes " <?XmL?") 3 ≡ 3)
+    × (settledBehind 1 (bytes "<r>a]]>") 4 ≡ 2)
+    × (settledBehind 1 (bytes "<r><!---->]]>") 10 ≡ 2)
+    × (settledBehind 0 (bytes "<r/x") 3 ≡ 0)
+    × (settledBehind 1 (bytes "<r>]]<") 3 ≡ 0)
 unfolding computing
-settles = (refl, refl, refl, refl)
+settles = (refl, refl, refl, refl, refl, refl)
 
 -- the answer of a run with so much output
 abbrev run-of : List ℕ → ℕ → List ℕ → Answer
@@ -53,11 +64,31 @@ answers :
 unfolding computing
 answers = (refl, refl, refl, refl, refl, refl, refl, refl, refl, refl, refl)
 
+-- the same bytes where no target and no text is meant: the first of them is refused at once
+at-once :
+    (settledBehind 2 (bytes "<r/>xml") 4 ≡ 0)
+    × (settledBehind 1 (bytes "<r>&xml;") 4 ≡ 0)
+    × (settledBehind 0 (bytes "<!xml") 2 ≡ 0)
+    × (settledBehind 0 (bytes "<r ]]>") 3 ≡ 0)
+    × (settledBehind 2 (bytes "<r/>]]>") 4 ≡ 0)
+    × (run-of K 320 (bytes "<r/>x") ≡ answered 2 4 2 4)
+    × (run-of K 320 (bytes "<r>&x") ≡ answered 2 4 1 2)
+    × (run-of K 320 (bytes "<!x") ≡ answered 2 2 0 0)
+    × (run-of K 320 (bytes "<r ]") ≡ answered 2 3 0 0)
+    × (run-of K 320 (bytes "<r/>]") ≡ answered 2 4 2 4)
+unfolding computing
+at-once = (refl, refl, refl, refl, refl, refl, refl, refl, refl, refl)
+
+-- two at most: a reference broken off
+at-most : (settledBehind 1 (bytes "<r>&]]>") 4 ≡ 2) × (run-of K 320 (bytes "<r>&]") ≡ answered 2 4 1 2)
+unfolding computing
+at-most = (refl, refl)
+
 -- the numbers and places of steps over these scenes in turn
-abbrev numbersOf : List Step → List (ℕ × ℕ)
+abbrev pub numbersOf : List Step → List (ℕ × ℕ)
 numbersOf rs = map (λ (r : Step). (r .answer .number, r .answer .place)) rs
 
-abbrev over : List (List ℕ) → List Call
+abbrev pub over : List (List ℕ) → List Call
 over scenes = map (λ (scene : List ℕ). record { scene = scene; output = replicate 64 7 }) scenes
 
 -- N1-1: after a text the place is at the < of the misc, after a tag behind its >

@@ -1,4 +1,4 @@
--- N6: what ask and commit promise beside a step; lists of calls in which commits of any offers stand. Definitions.
+-- N6: what ask and commit promise beside a step; sessions that hold the same; lists of calls in which commits of any offers stand. Definitions.
 use Prim.Native.Nat.{ℕ, _*_, _≤_, _<_}
 use mathlib.Core.Path.{_≡_}
 use mathlib.Core.List.{List, [], _∷_}
@@ -25,6 +25,20 @@ JudgedNumber n = ((10 ≤ n) × (n ≤ 12)) ⊎ ((n ≡ 7) ⊎ (n ≡ 20))
 -- "x holds what o's session holds and |s| is o's length"
 abbrev pub AsOffered : Offer → Session → List ℕ → Type 0
 AsOffered o z s = (holdsSame z (o .session) ≡ true) × (length s ≡ o .length)
+
+-- ---- sessions that hold the same
+-- arrays as long as those of the session type
+pub record Sized (z : Session) : Type 0 where
+  pub levels : length (z .scope .levels) ≡ 192
+  pub bindings : length (z .scope .bindings) ≡ 256
+  pub spaces : length (z .spaces) ≡ 256
+  pub strands : length (z .strands) ≡ 1024
+
+-- "What no session holds does not count: array places past the counts, a number stored where there is no target": all that two sessions may differ in
+pub record HoldSame (x y : Session) : Type 0 where
+  pub one : Sized x
+  pub other : Sized y
+  pub same : holdsSame x y ≡ true
 
 -- ---- lists
 -- A call of step or of advance, or of commit of an offer

@@ -11,8 +11,8 @@ use Rattle.dispatcher.specs.declared.offers.Offer as offer
 use Rattle.dispatcher.specs.declared.offers.Asked as asked
 
 -- what a session holds
-abbrev pub held : code.Session → Session
-held z =
+abbrev pub heldBy : code.Session → Session
+heldBy z =
     record {
       place = z .place;
       units = z .units;
@@ -25,11 +25,11 @@ held z =
 
 -- what a step, an advance or a commit hands back
 abbrev pub handed : Stepped → List ℕ → Step
-handed r out = given (r .answer) (held (r .session)) out
+handed r out = given (r .answer) (heldBy (r .session)) out
 
 -- what an offer holds, and what an ask hands back
 abbrev pub heldOffer : offer.Offer → Offer
-heldOffer o = record { session = held (o .session); length = o .length }
+heldOffer o = record { session = heldBy (o .session); length = o .length }
 
 abbrev pub handedAsk : asked.Asked → Asked
 handedAsk r = record { number = r .number; place = r .place; records = r .records; offer = heldOffer (r .offer) }

@@ -20,7 +20,7 @@ ghost use Rattle.strands.specs.Levels.{levelNames, levelSpaces, levelStrands};
 ghost use Rattle.sessions.specs.Sessions.{freshOf, headOf, sessionAt};
 ghost use Rattle.sessions.specs.Stepping.{stepOf, advanceOf, runOf, ran};
 ghost use Rattle.sessions.specs.Asking.{askOf};
-ghost use Rattle.dispatcher.specs.Handed.{held, handed, handedAsk};
+ghost use Rattle.dispatcher.specs.Handed.{heldBy, handed, handedAsk};
 
 // Where a run over a scene is. A caller may hand in any: number 20 judges it.
 pub struct Session {
@@ -59,7 +59,7 @@ impl Session {
 
     // Nothing read, nothing open.
     pub fn fresh() -> Session
-        ensures { λ r. ⌜ held r ≡ freshOf ⌝ }
+        ensures { λ r. ⌜ heldBy r ≡ freshOf ⌝ }
     {
         Session {
             place: 0,
@@ -86,7 +86,7 @@ impl Session {
 
     // Its numbers.
     pub(crate) fn head(self) -> Head
-        ensures { λ r. ⌜ r ≡ headOf (held self) ⌝ }
+        ensures { λ r. ⌜ r ≡ headOf (heldBy self) ⌝ }
     {
         Head {
             place: self.place,
@@ -104,7 +104,7 @@ impl Session {
         all: &[u32; LEVELS],
         bindings: [u32; 4 * Session::BINDINGS],
     ) -> Session
-        ensures { λ r. ⌜ held r ≡ sessionAt head (now (all .entry)) bindings ⌝ }
+        ensures { λ r. ⌜ heldBy r ≡ sessionAt head (now (all .entry)) bindings ⌝ }
     {
         let mut levels: [u32; 3 * Session::DEPTH] = [0; 3 * Session::DEPTH];
         let mut spaces: [u32; 4 * Session::DEPTH] = [0; 4 * Session::DEPTH];
@@ -131,14 +131,14 @@ impl Session {
 
     // One event: its records from the output's first byte on, and the session behind it.
     pub fn step(self, table: &[u8], scene: &[u8], out: &mut [u8]) -> Stepped
-        ensures { λ r. ⌜ handed r (now (out .exit)) ≡ stepOf standard (now (table .entry)) (now (scene .entry)) (held self) (now (out .entry)) ⌝ }
+        ensures { λ r. ⌜ handed r (now (out .exit)) ≡ stepOf standard (now (table .entry)) (now (scene .entry)) (heldBy self) (now (out .entry)) ⌝ }
     {
         self.advance(table, scene, 1, out)
     }
 
     // At most so many steps, records joined, until a step's number is not 0. With none nothing is judged.
     pub fn advance(self, table: &[u8], scene: &[u8], most: usize, out: &mut [u8]) -> Stepped
-        ensures { λ r. ⌜ handed r (now (out .exit)) ≡ advanceOf standard most (now (table .entry)) (now (scene .entry)) (held self) (now (out .entry)) ⌝ }
+        ensures { λ r. ⌜ handed r (now (out .exit)) ≡ advanceOf standard most (now (table .entry)) (now (scene .entry)) (heldBy self) (now (out .entry)) ⌝ }
     {
         let mut levels = self.levels();
         let mut bindings = self.scope.bindings;
@@ -159,7 +159,7 @@ impl Session {
 
     // What a step would answer with an output that suffices, and an offer of it. Nothing is written.
     pub fn ask(self, table: &[u8], scene: &[u8]) -> Asked
-        ensures { λ r. ⌜ handedAsk r ≡ askOf standard (now (table .entry)) (now (scene .entry)) (held self) ⌝ }
+        ensures { λ r. ⌜ handedAsk r ≡ askOf standard (now (table .entry)) (now (scene .entry)) (heldBy self) ⌝ }
     {
         let levels = self.levels();
         let bindings = self.scope.bindings;

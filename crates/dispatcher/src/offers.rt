@@ -7,7 +7,7 @@ use asking::same_session;
 ghost use mathlib.Core.Path.{_≡_};
 ghost use Rattle.table.specs.Table.{standard};
 ghost use Rattle.sessions.specs.Asking.{commitOf};
-ghost use Rattle.dispatcher.specs.Handed.{held, heldOffer, handed};
+ghost use Rattle.dispatcher.specs.Handed.{heldBy, heldOffer, handed};
 
 // A session that was asked about, and the scene's length. A caller may hand in any.
 pub struct Offer {
@@ -26,7 +26,7 @@ pub struct Asked {
 impl Offer {
     // A step on what is handed in, where the session and the scene's length are the offer's; else 30.
     pub fn commit(self, session: Session, table: &[u8], scene: &[u8], out: &mut [u8]) -> Stepped
-        ensures { λ r. ⌜ handed r (now (out .exit)) ≡ commitOf standard (heldOffer self) (held session) (now (table .entry)) (now (scene .entry)) (now (out .entry)) ⌝ }
+        ensures { λ r. ⌜ handed r (now (out .exit)) ≡ commitOf standard (heldOffer self) (heldBy session) (now (table .entry)) (now (scene .entry)) (now (out .entry)) ⌝ }
     {
         let mut levels = session.levels();
         let mut bindings = session.scope.bindings;

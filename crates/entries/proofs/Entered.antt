@@ -35,7 +35,8 @@ use Rattle.model.specs.Dispatch.{dispatch}
 use Rattle.strands.specs.Packed.{strandIn, packed}
 use Rattle.strands.specs.Rules.{rulesIn}
 use Rattle.strands.specs.Entries.{madeBy, entriesBy, entriesFrom, stayEntry, strandWord, schemaWord, entryIn, entriesIn, aimedAt, hereCount, Unnumbered}
-use Rattle.strands.proofs.Packing.{Below, Packable, packed-back}
+use Rattle.model.proofs.Steps.{Below}
+use Rattle.strands.proofs.Packing.{Packable, packed-back}
 use Rattle.strands.proofs.StartRecords.{taken-in}
 use Rattle.entries.proofs.UnitNumbers.{here-back, allot-yes, allot-no}
 
@@ -207,9 +208,6 @@ laid-back f es l =
 abbrev aimed : ℕ → Entry → Entry
 aimed u e = record { strand = aimedAt (e .strand) u; schema = e .schema }
 
-abbrev pub modes : List Entry → List ℕ
-modes es = map (λ (e : Entry). e .strand .mode) es
-
 -- what a number does not change
 module _ (f : Entry → ℕ) (same : (u : ℕ) (e : Entry) → f (aimed u e) ≡ f e) where
   allot-map : (u : ℕ) (es : List Entry) → map f (allot u es) ≡ map f es
@@ -220,14 +218,8 @@ module _ (f : Entry → ℕ) (same : (u : ℕ) (e : Entry) → f (aimed u e) ≡
       by true h ih = ap (map f) (allot-yes u e es h) ∙ ap₂ _∷_ (same u e) (ih (u + 1))
       by false h ih = ap (map f) (allot-no u e es h) ∙ ap (λ (l : List ℕ). f e ∷ l) (ih u)
 
-pub allot-modes : (u : ℕ) (es : List Entry) → modes (allot u es) ≡ modes es
-allot-modes u es = allot-map (λ (e : Entry). e .strand .mode) (λ v e. refl) u es
-
 pub allot-schemas : (u : ℕ) (es : List Entry) → map schemaWord (allot u es) ≡ map schemaWord es
 allot-schemas u es = allot-map schemaWord (λ v e. refl) u es
-
-pub allot-length : (u : ℕ) (es : List Entry) → length (allot u es) ≡ length es
-allot-length u es = sym (length-map (allot u es) schemaWord) ∙ ap length (allot-schemas u es) ∙ length-map es schemaWord
 
 pub allot-packable : (u : ℕ) (es : List Entry) → All EntryPackable es → u + newUnits es ≤ 65536 → All EntryPackable (allot u es)
 unfolding total

@@ -1,4 +1,6 @@
 // The strands of an element that starts: those of its parent, or what their rules make at a new section.
+use index::choose;
+use index::next_rule;
 use strands::LEVELS;
 use strands::levels::strand_at;
 use strands::packed::aimed;
@@ -8,8 +10,6 @@ use strands::packed::mode_of;
 use strands::packed::stay_of;
 use table::Action;
 use table::Rule;
-use table::index::choose;
-use table::index::next_rule;
 use table::words::rule_of;
 ghost use mathlib.Core.Path.{_≡_};
 ghost use mathlib.Core.List.{List, [], _∷_, map};

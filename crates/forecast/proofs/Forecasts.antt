@@ -4,7 +4,7 @@
 --     forecast-number     the number is neither 0 nor 20 nor 25
 --     forecast-units      with an output that suffices the session behind a run's steps has opened as many units
 --     forecast-limits     at most 65,536 units, 16 strands at an open level, 64 levels
-use Prim.Native.Nat.{ℕ, zero, suc, _+_, _*_, _≤_, _<_}
+use Prim.Native.Nat.{ℕ, _+_, _*_, _≤_, _<_}
 use mathlib.Core.Path.{_≡_, refl, sym, ap, subst, _∙_}
 use mathlib.Core.List.{List, []}
 use mathlib.Core.Bool.{Bool, true, false}
@@ -38,9 +38,9 @@ use Rattle.demands.proofs.Limits.{passed-number, passed-none, FirstPast, first-
 use Rattle.demands.proofs.Advances.{advanced}
 use Rattle.demands.proofs.Runs.{scenes}
 use Rattle.demands.proofs.Ends.{run-ends, run-full}
-use Rattle.forecast.specs.Forecasts.{greatest, unitCount, noFigures, figuresOf, forecastOf}
+use Rattle.forecast.specs.Forecasts.{unitCount, noFigures, figuresOf, forecastOf}
 use Rattle.forecast.specs.declared.figures.Forecast.{Forecast}
-use Rattle.forecast.proofs.Greatest.{greater-least}
+use Rattle.forecast.proofs.Greatest.{greatest-few}
 use Rattle.forecast.proofs.Figured.{units-counted}
 use Rattle.forecast.proofs.ForecastWays.{of-refused, of-long, of-accepted}
 
@@ -50,9 +50,9 @@ pub record NoneTaken (table s : List ℕ) (number place : ℕ) : Type 0 where
   pub is : forecastOf standard table s ≡ noFigures number place
   pub not-0 : number ≡ 0 → ⊥
   pub few : number ≤ 12
-  pub run : (out : List ℕ) → advanceOf standard (2 * length s + 2) table s freshOf out ≡ given (answered number place 0 0) freshOf out
+  pub run : (n : ℕ) → 0 < n → (out : List ℕ) → advanceOf standard n table s freshOf out ≡ given (answered number place 0 0) freshOf out
 
-abbrev Way : List ℕ → List ℕ → Type 0
+abbrev pub Way : List ℕ → List ℕ → Type 0
 Way table s = ((number : ℕ) × (place : ℕ) × NoneTaken table s number place) ⊎ ((Accepted table ≡ true) × (length s ≤ 16777215))
 
 judged-few : {table s out : List ℕ} {z : Session} {r : Step} → Answered table s z out r → judged table .number ≤ 12
@@ -65,7 +65,7 @@ judged-few (step.limited r e o q n l a b) = omega (arith, r .accepted)
 judged-few (step.no-room r p rs z″ q l) = omega (arith, r .accepted)
 judged-few (step.wrote r p rs z″ q l) = omega (arith, r .accepted)
 
-way : (table s : List ℕ) → Way table s
+pub way : (table s : List ℕ) → Way table s
 way table s = by (eqb (judged table .number) 0) refl
   where
     refused : (judged table .number ≡ 0 → ⊥) → NoneTaken table s (judged table .number) (judged table .place)
@@ -74,7 +74,7 @@ way table s = by (eqb (judged table .number) 0) refl
           is = of-refused table s n;
           not-0 = n;
           few = judged-few (answered-by table s freshOf []);
-          run = λ out. sym (advance-refused table s (judged table) refl (2 * length s + 2) (omega arith) freshOf out _ n refl);
+          run = λ k l out. sym (advance-refused table s (judged table) refl k l freshOf out _ n refl);
         }
 
     long : judged table .number ≡ 0 → 16777215 < length s → NoneTaken table s 7 0
@@ -83,7 +83,7 @@ way table s = by (eqb (judged table .number) 0) refl
           is = of-long table s e h;
           not-0 = λ q. absurd (omega arith);
           few = omega arith;
-          run = λ out. sym (advance-too-long table s (judged table) refl (2 * length s + 2) (omega arith) freshOf out _ e h refl);
+          run = λ k l out. sym (advance-too-long table s (judged table) refl k l freshOf out _ e h refl);
         }
 
     by : (b : Bool) → eqb (judged table .number) 0 ≡ b → Way table s
@@ -92,7 +92,7 @@ way table s = by (eqb (judged table .number) 0) refl
 
 none-run : (table s : List ℕ) (number place : ℕ) → NoneTaken table s number place → (out : List ℕ) → runOf standard table s out .answer ≡ answered number place 0 0
 unfolding runOf
-none-run table s number place w out = ap (λ (r : Step). r .answer) (w .run out)
+none-run table s number place w out = ap (λ (r : Step). r .answer) (w .run (2 * length s + 2) (omega arith) out)
 
 -- ---- the run
 abbrev SameIn : Answer → Forecast → Type 0
@@ -179,7 +179,7 @@ unfolding figuresOf
 forecast-units table s out = ⊎-elim (λ w. none-taken (w .0) (w .1) (w .2)) (λ w. taken (w .0) (w .1)) (way table s)
   where
     none-taken : (number place : ℕ) → NoneTaken table s number place → 16 * forecastOf standard table s .records ≤ length out → advanceOf standard (2 * length s + 2) table s freshOf out .session .units ≡ forecastOf standard table s .units
-    none-taken number place w room = ap (λ (r : Step). r .session .units) (w .run out) ∙ sym (ap (λ (f : Forecast). f .units) (w .is))
+    none-taken number place w room = ap (λ (r : Step). r .session .units) (w .run (2 * length s + 2) (omega arith) out) ∙ sym (ap (λ (f : Forecast). f .units) (w .is))
 
     taken : Accepted table ≡ true → length s ≤ 16777215 → 16 * forecastOf standard table s .records ≤ length out → advanceOf standard (2 * length s + 2) table s freshOf out .session .units ≡ forecastOf standard table s .units
     taken ok short room =
@@ -187,11 +187,6 @@ forecast-units table s out = ⊎-elim (λ w. none-taken (w .0) (w .1) (w .2)) (�
         behind-units table s out ok short (subst (λ (x : Forecast). 16 * x .records ≤ length out) f room) .0 ∙ sym (ap (λ (x : Forecast). x .units) f)
 
 -- ---- limits
-greatest-few : (f : ℕ → ℕ) (n most : ℕ) → ((k : ℕ) → k < n → f k ≤ most) → greatest f n ≤ most
-unfolding greatest
-greatest-few f zero most h = omega arith
-greatest-few f (suc n) most h = greater-least (greatest f n) (f n) most (greatest-few f n most (λ k l. h k (omega arith))) (h n (omega arith))
-
 abbrev Few : Forecast → Type 0
 Few f = (f .units ≤ 65536) × (f .strands ≤ 16) × (f .depth ≤ 64)
 

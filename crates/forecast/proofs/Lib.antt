@@ -7,3 +7,4 @@ pub mod FigureTurns
 pub mod ForecastWays
 pub mod Forecasts
 pub mod Bounds
+pub mod RunFigures

@@ -1,2 +1,3 @@
 pub mod Forecasts
 pub mod Bounds
+pub mod RunFigures

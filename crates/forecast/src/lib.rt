@@ -3,9 +3,9 @@ pub mod figures;
 
 use crate::figures::Forecast;
 use crate::figures::figures_of;
+use index::load;
+use judging::judge;
 use sessions::LONGEST;
-use table::index::load;
-use table::judge;
 use table::words::header_of;
 ghost use mathlib.Core.Path.{_≡_};
 ghost use Rattle.table.specs.Table.{standard};

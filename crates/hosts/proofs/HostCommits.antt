@@ -2,7 +2,7 @@
 -- bytes, joined, are the model's of the last scene's first events, as many as were counted, from the bytes that calcivorne_fresh writes.
 --     host-commits               one claim about the whole list
 --     no-later-host-commit-byte  further calls never change, withdraw or precede a record already handed out
---     host-commit-of-ask         a commit of what was asked is the step
+--     host-commit-of-ask         a commit of what was asked is the step, on all bytes that hold what was asked about
 use Prim.Native.Nat.{ℕ, suc, _^_, _≤_, _<_}
 use mathlib.Core.Path.{_≡_, refl, sym, ap, _∙_}
 use mathlib.Core.List.{List, [], _∷_, _++_, map, map-append}
@@ -27,7 +27,7 @@ use Rattle.demands.proofs.Commits.{commits-joined, no-later-commit-byte}
 use Rattle.layout.specs.Layout.{sessionSize}
 use Rattle.layout.specs.Answers.{bytesBehind, tooShort}
 use Rattle.offers.specs.Layout.{offerSize, offerIn, holdsOffer, offerBytes}
-use Rattle.offers.specs.Calls.{byteCommit}
+use Rattle.offers.specs.Calls.{byteCommit, BytesHoldSame}
 use Rattle.offers.proofs.Offered.{byte-commit-of-ask}
 use Rattle.capi.specs.Calls.{byteStep}
 use Rattle.hosts.specs.Calls.{HostStep, hostFresh, hostStep, eventsBy, allRecordsBy}
@@ -100,9 +100,16 @@ room-kept : (offer session : List ℕ) (n : ℕ) → offerSize ≤ length offer 
 unfolding offerBytes
 room-kept offer session n room = rw (length-over offer 0 (offerBytes session n) (omega (arith, length-take sessionSize session))) room
 
--- of the same table, scene and session's bytes, whether or not they hold a session; `before` comes in as ask's answer, `answer` as commit's
-pub host-commit-of-ask : (table s b out offer before answer : List ℕ) → sessionSize ≤ length b → offerSize ≤ length offer → All (λ (x : ℕ). x < 256) b → length s < 2 ^ 64 →
-    hostCommit (hostAsk table s b offer before .offer) table s b out answer ≡ hostStep table s b out answer
+-- of the same table and scene, on the bytes b asked about or any c that hold the same, whether or not a session; `before` comes in as ask's answer, `answer` as
+-- commit's
+pub host-commit-of-ask : (table s b c out offer before answer : List ℕ) → sessionSize ≤ length b → sessionSize ≤ length c → offerSize ≤ length offer → All (λ (x : ℕ). x < 256) b → length s < 2 ^ 64 → BytesHoldSame c b →
+    hostCommit (hostAsk table s b offer before .offer) table s c out answer ≡ hostStep table s c out answer
 unfolding hostAsk hostCommit hostStep byteStep
-host-commit-of-ask table s b out offer before answer long room few short =
-    rw (le-ltb (length b) sessionSize long, le-ltb (length offer) offerSize room, le-ltb _ offerSize (room-kept offer b (length s) room), byte-commit-of-ask b offer table s out long few short)
+host-commit-of-ask table s b c out offer before answer long long′ room few short same =
+    rw (
+      le-ltb (length b) sessionSize long,
+      le-ltb (length c) sessionSize long′,
+      le-ltb (length offer) offerSize room,
+      le-ltb _ offerSize (room-kept offer b (length s) room),
+      byte-commit-of-ask b c offer table s out long few short same,
+    )

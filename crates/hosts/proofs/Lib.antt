@@ -4,4 +4,5 @@ pub mod Told
 pub mod HostCalls
 pub mod HostSteps
 pub mod HostCommits
+pub mod HostAsks
 pub mod HostExamples

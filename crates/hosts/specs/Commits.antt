@@ -1,9 +1,10 @@
--- 'For demand 3', for hosts, with N6: what calcivorne_ask and calcivorne_commit hand back, by their contracts; lists of calls in which commits of any offers in
--- bytes stand. Definitions.
-use Prim.Native.Nat.{ℕ, _≤_}
+-- 'For demand 3', for hosts, with N6: what calcivorne_ask and calcivorne_commit hand back, by their contracts, and what an ask says; lists of calls in which
+-- commits of any offers in bytes stand. Definitions.
+use Prim.Native.Nat.{ℕ, _*_, _≤_, _<_}
+use mathlib.Core.Path.{_≡_}
 use mathlib.Core.List.{List, [], _∷_}
 use mathlib.Core.Bool.{cond}
-use lib.ListN.{length}
+use lib.ListN.{length, getD}
 use Rattle.laws.specs.Over.{overwrite}
 use Rattle.demands.specs.Calls.{Call, callOf}
 use Rattle.layout.specs.Answers.{answerNumbers, bytesBehind, tooShort}
@@ -35,6 +36,12 @@ hostCommit offer table scene session out answer =
       output = cond (lacksRoom session offer) out (byteCommit offer session table scene out .output);
       session = cond (lacksRoom session offer) session (bytesBehind session (byteCommit offer session table scene out));
     }
+
+-- what an ask says of a step from these bytes, as `Foretold` has it; the answer's second number is the place, its fourth counts the records
+pub record HostForetold (a : HostAsked) (session out : List ℕ) (r : HostStep) : Type 0 where
+  pub short : a .number ≡ 0 → length out < 16 * getD (a .answer) 3 0 → (r .number ≡ 25) × (r .output ≡ out) × (r .session ≡ session)
+  pub enough : (a .number ≡ 0 → 16 * getD (a .answer) 3 0 ≤ length out)
+      → (r .number ≡ a .number) × (getD (r .answer) 1 0 ≡ getD (a .answer) 1 0) × (getD (r .answer) 3 0 ≡ getD (a .answer) 3 0)
 
 -- A host's call of calcivorne_step or calcivorne_advance, or of calcivorne_commit of an offer in bytes
 pub data HostOffered : Type 0 where

@@ -1,17 +1,20 @@
 -- More on what holds of each element of a list.
 --     each-map, each-append, each-gather, each-any     from list to list
+--     each-tabulated, tested-at, tabulated-all         a list of f i, f (i + 1), ..
 --     any-none, all-each, pair-append                  tests of all, by what holds of each
 --     any-same, anyPair-same, gather-same              functions that agree at each element
-use Prim.Native.Nat.{ℕ}
-use mathlib.Core.Path.{_≡_, refl, ap₂, _∙_}
+use Prim.Native.Nat.{ℕ, zero, suc, _+_, _≤_, _<_}
+use mathlib.Core.Path.{_≡_, refl, sym, ap, ap₂, _∙_}
 use mathlib.Core.List.{List, [], _∷_, _++_}
 use mathlib.Core.Bool.{Bool, true, false, _||_}
+use mathlib.Core.Logic.{⊎-elim}
 use native.Mathlib.Omega.{arith}
-use Rattle.laws.specs.Lists.{any, all, anyPair}
+use Rattle.laws.specs.Lists.{any, all, anyPair, tabulate}
 use Rattle.laws.specs.Gather.{gather}
 use Rattle.laws.specs.Members.{All}
+use Rattle.laws.specs.Reading.{le-or-lt}
 use Rattle.laws.specs.Tests.{both, neither}
-use Rattle.laws.proofs.Flags.{or-left, or-right}
+use Rattle.laws.proofs.Flags.{and-left, and-right, or-left, or-right}
 use Rattle.laws.proofs.Lists.{any-append}
 
 pub each-map : {A : Type 0} (P Q : A → Type 0) → ((x : A) → P x → Q x) → (l : List A) → All P l → All Q l
@@ -40,6 +43,25 @@ each-any P p (x ∷ l) h e = ((h .0, first (p x) e), each-any P p l (h .1) (seco
     second : (t : Bool) → (t || any p l) ≡ false → any p l ≡ false
     second true q = absurd (let z : _≡_ {A = ℕ} 0 1 = cc in omega arith)
     second false q = q
+
+-- a list of f i, f (i + 1), ..
+pub each-tabulated : {A : Type 0} (P : A → Type 0) (f : ℕ → A) (i n : ℕ) → ((k : ℕ) → i ≤ k → k < i + n → P (f k)) → All P (tabulate f i n)
+unfolding tabulate
+each-tabulated P f i zero h = tt
+each-tabulated P f i (suc n) h = (h i (omega arith) (omega arith), each-tabulated P f (suc i) n (λ k lo hi. h k (omega arith) (omega arith)))
+
+pub tested-at : {A : Type 0} (p : A → Bool) (f : ℕ → A) (i n : ℕ) → all p (tabulate f i n) ≡ true → (k : ℕ) → i ≤ k → k < i + n → p (f k) ≡ true
+unfolding all tabulate
+tested-at p f i zero e k lo hi = absurd (omega arith)
+tested-at p f i (suc n) e k lo hi =
+    ⊎-elim (λ le. let here : i ≡ k = omega arith in ap (λ (j : ℕ). p (f j)) (sym here) ∙ and-left (p (f i)) (all p (tabulate f (suc i) n)) e)
+    (λ lt. tested-at p f (suc i) n (and-right (p (f i)) (all p (tabulate f (suc i) n)) e) k (omega arith) (omega arith)) (le-or-lt k i)
+
+pub tabulated-all : {A : Type 0} (p : A → Bool) (f : ℕ → A) (i n : ℕ) → ((k : ℕ) → i ≤ k → k < i + n → p (f k) ≡ true) → all p (tabulate f i n) ≡ true
+unfolding all tabulate
+tabulated-all p f i zero h = refl
+tabulated-all p f i (suc n) h =
+    both (p (f i)) (all p (tabulate f (suc i) n)) (h i (omega arith) (omega arith)) (tabulated-all p f (suc i) n (λ k lo hi. h k (omega arith) (omega arith)))
 
 -- tests of all, by what holds of each
 module _ {A : Type 0} where

@@ -1,10 +1,9 @@
 -- Laws of `gather` and `total`: one more element, and a length. Assumes nothing.
-use mathlib.Core.Path.{_≡_, refl, sym, ap, _∙_, subst}
+use mathlib.Core.Path.{_≡_, refl, sym, ap, _∙_}
 use mathlib.Core.List.{List, [], _∷_, _++_, append-assoc, append-nil}
-use Prim.Native.Nat.{ℕ, zero, suc, _+_, _-_, _*_, _≤_, _<_}
+use Prim.Native.Nat.{ℕ, _+_, _-_, _*_, _<_}
 use native.Mathlib.Nat.{add-zero, zero-add, add-assoc, mul-add, mul-zero}
 use native.Mathlib.Numerals.{add-one}
-use native.Mathlib.Omega.{arith}
 use lib.ListN.{length, getD, take, length-append}
 use lib.Seq.{take-suc}
 use Rattle.laws.specs.Gather.{gather, total}
@@ -51,6 +50,13 @@ module _ {ℓ} {A : Type ℓ} (f : A → ℕ) where
       ∙ ap (total f) (take-suc xs i d h)
       ∙ total-append (take i xs) (getD xs i d ∷ [])
       ∙ ap (λ (k : ℕ). total f (take i xs) + k) (total-one (getD xs i d))
+
+-- the sum of what is gathered, element by element
+module _ {A B : Type 0} where
+  pub total-gathered : (g : B → ℕ) (f : A → List B) (h : A → ℕ) → ((x : A) → total g (f x) ≡ h x) → (xs : List A) → total g (gather f xs) ≡ total h xs
+  unfolding gather total
+  total-gathered g f h e [] = refl
+  total-gathered g f h e (x ∷ xs) = total-append g (f x) (gather f xs) ∙ rw (e x, total-gathered g f h e xs)
 
 -- pieces of one size: the length of what is gathered is that many times the count
 module _ {ℓ κ} {A : Type ℓ} {B : Type κ} (f : A → List B) (g : A → ℕ) (k : ℕ) (each : (x : A) → length (f x) ≡ k * g x) where

@@ -68,6 +68,15 @@ module _ {ℓ} {A : Type ℓ} where
       ∙ ap (λ (k : ℕ). set (overwrite xs i []) k v) (sym (add-zero i))
       ∙ over-set xs i [] v (omega arith)
 
+  -- four stores
+  pub four-set : (xs : List A) (i : ℕ) (a b c d : A) → i + 4 ≤ length xs
+      → set (set (set (set xs i a) (i + 1) b) (i + 2) c) (i + 3) d ≡ overwrite xs i (a ∷ b ∷ c ∷ d ∷ [])
+  four-set xs i a b c d h =
+      ap (λ (r : List A). set (set (set r (i + 1) b) (i + 2) c) (i + 3) d) (set-over xs i a (omega arith))
+      ∙ ap (λ (r : List A). set (set r (i + 2) c) (i + 3) d) (over-set xs i (a ∷ []) b (omega arith))
+      ∙ ap (λ (r : List A). set r (i + 3) d) (over-set xs i (a ∷ b ∷ []) c (omega arith))
+      ∙ over-set xs i (a ∷ b ∷ c ∷ []) d (omega arith)
+
   -- a turn of a loop that copies s over xs from i on
   pub over-copy : (xs : List A) (i : ℕ) (s : List A) (j : ℕ) (d : A) → j < length s → i + j < length xs
       → set (overwrite xs i (take j s)) (i + j) (getD s j d) ≡ overwrite xs i (take (j + 1) s)

@@ -3,7 +3,6 @@ pub mod Tested
 pub mod Stored
 pub mod Packs
 pub mod Holding
-pub mod ReadBytes
 pub mod Within
 pub mod RoundTrip
 pub mod Taken

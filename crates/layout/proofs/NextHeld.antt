@@ -20,7 +20,8 @@ use Rattle.model.specs.Elements.{elementOf}
 use Rattle.model.specs.Stream.{entriesAt, after, HeldStrand}
 use Rattle.model.specs.Dispatch.{dispatch}
 use Rattle.strands.specs.Packed.{strandIn, packed}
-use Rattle.strands.proofs.Packing.{Packable, packed-back, below-more}
+use Rattle.model.proofs.Steps.{below-more}
+use Rattle.strands.proofs.Packing.{Packable, packed-back}
 use Rattle.sessions.specs.Session.{Session}
 use Rattle.sessions.specs.Sessions.{readerOf, stateOf}
 use Rattle.sessions.specs.Coherence.{coherent}

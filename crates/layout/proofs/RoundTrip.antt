@@ -13,7 +13,6 @@ use mathlib.Core.Bool.{Bool, true, false}
 use native.Mathlib.Nat.{zero-add}
 use native.Mathlib.Omega.{arith}
 use native.Mathlib.Numerals.{add-one}
-use mathlib.Core.Logic.{⊎-elim}
 use borrow.Author.Tests.{eq-eqb, eqb-true, leb-true}
 use lib.Dec.{eqb, leb}
 use lib.ListN.{length, getD, take, drop, replicate, length-append, length-drop, length-replicate}
@@ -22,18 +21,16 @@ use Rattle.laws.specs.Lists.{all, tabulate}
 use Rattle.laws.specs.Gather.{gather}
 use Rattle.laws.specs.Members.{All}
 use Rattle.laws.proofs.Lists.{length-tabulate, getD-tabulate}
-use Rattle.laws.specs.Reading.{le-or-lt}
+use Rattle.laws.proofs.Elementwise.{each-tabulated, tested-at, tabulated-all}
 use Rattle.laws.proofs.Flags.{and-left, and-right}
 use Rattle.laws.proofs.Holds.{each-at}
 use Rattle.strands.specs.Packed.{strandIn, packed}
 use Rattle.sessions.specs.Session.{Session}
 use Rattle.sessions.specs.Sessions.{freshOf}
-use Rattle.sessions.proofs.CoherentSound.{each-tabulated}
 use Rattle.layout.specs.Layout.{word4, word8, bytes4, bytes8, flag, bindingAt, levelAt, spaceAt, strandAt, packs, sessionIn, holdsSession, sessionBytes}
 use Rattle.layout.specs.Parts.{headBytes, levelWords}
 use Rattle.layout.proofs.Stored.{words-length, head-length, levels-length, part-length, each-level, gather-upto}
 use Rattle.layout.proofs.Taken.{part, part-join, part-four, same-four, word-few, word-part, long-part, words-part, cut-table}
-use Rattle.layout.proofs.ReadBytes.{sessionOf, session-read}
 use Rattle.layout.proofs.Holding.{padding, levelPadding, packing, last-test}
 use Rattle.layout.proofs.Within.{Has, has-left, has-right, has-at, has-word, has-long, has-words, has-upto}
 
@@ -97,11 +94,6 @@ array-is f words n l h = ext-getD 0 words (tabulate f 0 n) (l ∙ sym (length-ta
   where
     each : (i : ℕ) → i < length words → getD words i 0 ≡ getD (tabulate f 0 n) i 0
     each i k = sym (getD-tabulate f 0 n i 0 (omega arith) ∙ ap f (zero-add i) ∙ h i (omega arith))
-
-all-upto : (p : ℕ → Bool) (k n : ℕ) → ((i : ℕ) → k ≤ i → i < k + n → p i ≡ true) → all p (tabulate (λ (i : ℕ). i) k n) ≡ true
-unfolding all tabulate
-all-upto p k zero h = refl
-all-upto p k (suc n) h = rw (h k (omega arith) (omega arith)) (all-upto p (suc k) n (λ i l m. h i (omega arith) (omega arith)))
 
 zeros-in : (closed awaited : Bool) (b rest : List ℕ) → b ≡ (1 ∷ flag closed ∷ flag awaited ∷ 0 ∷ 0 ∷ 0 ∷ 0 ∷ 0 ∷ []) ++ rest → padding b ≡ true
 unfolding all tabulate
@@ -213,19 +205,20 @@ module _ (z : Session) (ok : Storable z) (b : List ℕ) (h : Has b 0 (head z ++ 
   awaited-is = ap (λ (l : List ℕ). getD l 2 0) (in-first .1)
 
   session-is : sessionIn b ≡ z
+  unfolding sessionIn
   session-is =
-      sym
-      (ap (λ (t : Bool). sessionOf (z .place) (z .units) t (z .awaited) (z .scope .depth) (z .scope .bound) (z .scope .levels) (z .scope .bindings) (z .spaces) (z .strands)) (sym (ap (λ (n : ℕ). eqb n 1) closed-is ∙ flag-back (z .closed)))
-      ∙ ap (λ (t : Bool). sessionOf (z .place) (z .units) (eqb (getD b 1 0) 1) t (z .scope .depth) (z .scope .bound) (z .scope .levels) (z .scope .bindings) (z .spaces) (z .strands)) (sym (ap (λ (n : ℕ). eqb n 1) awaited-is ∙ flag-back (z .awaited)))
-      ∙ session-read b (z .place) (z .units) (z .scope .depth) (z .scope .bound) (z .scope .levels) (z .scope .bindings) (z .spaces) (z .strands)
-      (sym (has-long b 8 (z .place) (ok .place-few) in-place))
-      (sym (has-long b 16 (z .units) (ok .units-few) in-units))
-      (sym (has-long b 24 (z .scope .depth) (ok .depth-few) in-depth))
-      (sym (has-long b 32 (z .scope .bound) (ok .bound-few) in-bound))
-      (array-is (λ (i : ℕ). word4 b (levelAt i)) (z .scope .levels) 192 (ok .levels-many) level-at)
-      (array-is (λ (i : ℕ). word4 b (bindingAt i)) (z .scope .bindings) 256 (ok .bindings-many) binding-at)
-      (array-is (λ (i : ℕ). word4 b (spaceAt i)) (z .spaces) 256 (ok .spaces-many) space-at)
-      (array-is (λ (i : ℕ). word4 b (strandAt i)) (z .strands) 1024 (ok .strands-many) strand-at))
+      rw (
+        has-long b 8 (z .place) (ok .place-few) in-place,
+        has-long b 16 (z .units) (ok .units-few) in-units,
+        ap (λ (n : ℕ). eqb n 1) closed-is ∙ flag-back (z .closed),
+        ap (λ (n : ℕ). eqb n 1) awaited-is ∙ flag-back (z .awaited),
+        has-long b 24 (z .scope .depth) (ok .depth-few) in-depth,
+        has-long b 32 (z .scope .bound) (ok .bound-few) in-bound,
+        ← array-is (λ (i : ℕ). word4 b (levelAt i)) (z .scope .levels) 192 (ok .levels-many) level-at,
+        ← array-is (λ (i : ℕ). word4 b (bindingAt i)) (z .scope .bindings) 256 (ok .bindings-many) binding-at,
+        ← array-is (λ (i : ℕ). word4 b (spaceAt i)) (z .spaces) 256 (ok .spaces-many) space-at,
+        ← array-is (λ (i : ℕ). word4 b (strandAt i)) (z .strands) 1024 (ok .strands-many) strand-at,
+      )
 
   held : AllPack z → holdsSession b ≡ true
   held pack = sym
@@ -233,9 +226,9 @@ module _ (z : Session) (ok : Storable z) (b : List ℕ) (h : Has b 0 (head z ++ 
       (subst (λ (n : ℕ). n ≤ 1) (sym closed-is) (flag-small (z .closed)))
       (subst (λ (n : ℕ). n ≤ 1) (sym awaited-is) (flag-small (z .awaited)))
       zeros
-      (all-upto (λ (k : ℕ). eqb (word4 b (1064 + 96 * k + 28)) 0) 0 64 pad)
+      (tabulated-all (λ (k : ℕ). eqb (word4 b (1064 + 96 * k + 28)) 0) (λ (k : ℕ). k) 0 64 pad)
       true
-      (sym (all-upto (λ (i : ℕ). packs (word4 b (strandAt i))) 0 1024 packed-at)))
+      (sym (tabulated-all (λ (i : ℕ). packs (word4 b (strandAt i))) (λ (i : ℕ). i) 0 1024 packed-at)))
     where
       version : getD b 0 0 ≡ 1
       version = ap (λ (l : List ℕ). getD l 0 0) (in-first .1)
@@ -261,15 +254,6 @@ pub held-back : (z : Session) (rest : List ℕ) → Storable z → AllPack z →
 held-back z rest ok pack = held z ok (sessionBytes z ++ rest) (whole z rest) pack
 
 -- ---- bytes that hold a session
-all-of : (p : ℕ → Bool) (k n i : ℕ) → all p (tabulate (λ (j : ℕ). j) k n) ≡ true → k ≤ i → i < k + n → p i ≡ true
-unfolding all tabulate
-all-of p k zero i e l h = absurd (omega arith)
-all-of p k (suc n) i e l h =
-    ⊎-elim
-    (λ (q : i ≤ k). let f : k ≡ i = omega arith in ap p (sym f) ∙ and-left (p k) (all p (tabulate (λ (j : ℕ). j) (suc k) n)) e)
-    (λ (q : k < i). all-of p (suc k) n i (and-right (p k) (all p (tabulate (λ (j : ℕ). j) (suc k) n)) e) (omega arith) (omega arith))
-    (le-or-lt i k)
-
 flag-of : (x : ℕ) → x ≤ 1 → flag (eqb x 1) ≡ x
 flag-of zero l = refl
 flag-of (suc zero) l = refl
@@ -300,9 +284,9 @@ holds b e =
       version = eqb-true (getD b 0 0) 1 (and-left (eqb (getD b 0 0) 1) _ e);
       closed = leb-true (getD b 1 0) 1 (and-left (leb (getD b 1 0) 1) _ e₁);
       awaited = leb-true (getD b 2 0) 1 (and-left (leb (getD b 2 0) 1) _ e₂);
-      zeros = λ i l h. eqb-true (getD b i 0) 0 (all-of (λ (j : ℕ). eqb (getD b j 0) 0) 3 5 i (and-left (padding b) _ e₃) l (omega arith));
-      zero-words = λ k h. eqb-true (word4 b (1064 + 96 * k + 28)) 0 (all-of (λ (j : ℕ). eqb (word4 b (1064 + 96 * j + 28)) 0) 0 64 k (and-left (levelPadding b) (packing b) e₄) (omega arith) (omega arith));
-      packing = λ i h. all-of (λ (j : ℕ). packs (word4 b (strandAt j))) 0 1024 i e₅ (omega arith) (omega arith);
+      zeros = λ i l h. eqb-true (getD b i 0) 0 (tested-at (λ (j : ℕ). eqb (getD b j 0) 0) (λ (j : ℕ). j) 3 5 (and-left (padding b) _ e₃) i l (omega arith));
+      zero-words = λ k h. eqb-true (word4 b (1064 + 96 * k + 28)) 0 (tested-at (λ (j : ℕ). eqb (word4 b (1064 + 96 * j + 28)) 0) (λ (j : ℕ). j) 0 64 (and-left (levelPadding b) (packing b) e₄) k (omega arith) (omega arith));
+      packing = λ i h. tested-at (λ (j : ℕ). packs (word4 b (strandAt j))) (λ (j : ℕ). j) 0 1024 e₅ i (omega arith) (omega arith);
     }
 
 module _ (b : List ℕ) (few : All (λ (x : ℕ). x < 256) b) (long : 7208 ≤ length b) (h : Held b) where

@@ -6,13 +6,13 @@ use mathlib.Core.Bool.{Bool, true, false}
 use native.Mathlib.Nat.{add-zero}
 use native.Mathlib.Numerals.{add-one}
 use native.Mathlib.Omega.{arith}
-use lib.ListN.{length, getD, set, take, drop, length-append, length-drop}
+use lib.ListN.{length, getD, take, drop, length-append, length-drop}
 use lib.Seq.{getD-drop, length-take-le, take-all}
 use Rattle.laws.specs.Lists.{tabulate}
 use Rattle.laws.specs.Gather.{gather}
 use Rattle.laws.specs.Over.{overwrite}
 use Rattle.laws.proofs.Gather.{gather-none, gather-more, gather-append}
-use Rattle.laws.proofs.Over.{over-none, over-set, over-over, set-over}
+use Rattle.laws.proofs.Over.{over-none, over-over}
 use Rattle.strands.specs.Levels.{levelNames, levelSpaces, levelStrands}
 use Rattle.strands.proofs.LevelNumbers.{each-long}
 use Rattle.openings.proofs.LevelArrays.{each-row}
@@ -20,13 +20,6 @@ use Rattle.sessions.specs.Session.{Session}
 use Rattle.layout.specs.Layout.{flag, bytes4, bytes8, sessionBytes}
 use Rattle.layout.specs.Parts.{headBytes, levelWords}
 use Rattle.layout.proofs.Filled.{tabulate-more}
-
-pub four : (b : List ℕ) (at x y z w : ℕ) → at + 4 ≤ length b → set (set (set (set b at x) (at + 1) y) (at + 2) z) (at + 3) w ≡ overwrite b at (x ∷ y ∷ z ∷ w ∷ [])
-four b at x y z w h =
-    ap (λ (l : List ℕ). set (set (set l (at + 1) y) (at + 2) z) (at + 3) w) (set-over b at x (omega arith))
-    ∙ ap (λ (l : List ℕ). set (set l (at + 2) z) (at + 3) w) (over-set b at (x ∷ []) y (omega arith))
-    ∙ ap (λ (l : List ℕ). set l (at + 3) w) (over-set b at (x ∷ y ∷ []) z (omega arith))
-    ∙ over-set b at (x ∷ y ∷ z ∷ []) w (omega arith)
 
 -- a part right behind another
 pub over-chain : (b c d : List ℕ) (i j : ℕ) (ys zs : List ℕ) → i ≤ length b → j ≡ i + length ys → c ≡ overwrite b i ys → d ≡ overwrite c j zs → d ≡ overwrite b i (ys ++ zs)

@@ -8,7 +8,7 @@
 --             then sixteen strands; four bytes each
 use Prim.Native.Nat.{ℕ, _+_, _*_, _/_, _%_, _^_}
 use mathlib.Core.List.{List, [], _∷_, _++_}
-use mathlib.Core.Bool.{Bool, true, false, cond, _&&_}
+use mathlib.Core.Bool.{Bool, true, false, _&&_}
 use lib.ListN.{getD, take, drop}
 use lib.Dec.{eqb, leb}
 use Rattle.laws.specs.Lists.{all, tabulate}

@@ -1,7 +1,7 @@
 // An answer told to a host, and what is answered where there is no session.
+use judging::judge;
 use sessions::LONGEST;
 use table::Answer;
-use table::judge;
 ghost use mathlib.Core.Path.{_≡_};
 ghost use mathlib.Core.Bool.{cond, not};
 ghost use lib.ListN.{length};

@@ -14,16 +14,18 @@ use borrow.Author.Tests.{eq-eqb, ne-eqb, eqb-false, not-true, not-false}
 use native.Mathlib.Omega.{arith}
 use lib.ListN.{length, drop, getD, length-append}
 use lib.Dec.{eqb}
-use Rattle.laws.specs.Reading.{go, stop, run, run-out, run-stop, run-go, drop-here}
+use Rattle.laws.specs.Reading.{run, run-out, run-stop, run-go, drop-here}
 use Rattle.laws.proofs.Flags.{differ, and-left, and-right}
-use Rattle.characters.specs.Utf8.{utf8, isForm}
-use Rattle.characters.specs.Sets.{rangesOf}
-use Rattle.characters.specs.Forms.{fresh, nextForm, formFrom, formOf, formBegins, Bounded}
-use Rattle.characters.specs.Deciding.{begins, begins-form, begins-so, ranged}
-use Rattle.characters.specs.declared.Form.{Form}
-use Rattle.characters.specs.declared.Set.{Set}
-use Rattle.characters.specs.declared.Set.the-variants as set
-use Rattle.characters.proofs.Laws.{form-more, whole-left}
+use Rattle.utf8.specs.Utf8.{utf8, isForm}
+use Rattle.utf8.specs.Sets.{rangesOf}
+use Rattle.utf8.specs.Forms.{fresh, nextForm, formFrom, formOf, formBegins, Bounded}
+use Rattle.utf8.specs.declared.Form.{Form}
+use Rattle.utf8.specs.declared.Set.{Set}
+use Rattle.utf8.specs.declared.Set.the-variants as set
+use Rattle.utf8.proofs.Deciding.{ranged}
+use Rattle.utf8.proofs.FormLaws.{form-more}
+use Rattle.characters.specs.CanBegin.{begins}
+use Rattle.characters.proofs.Laws.{begins-form, begins-so, whole-left}
 use Rattle.lexer.specs.Shortcuts.{isChar}
 use Rattle.lexer.specs.Characters.{charStep, charEnd}
 use Rattle.lexer.specs.Values.{textAt}

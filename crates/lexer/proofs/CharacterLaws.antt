@@ -6,25 +6,25 @@
 --     Inner, char-through            a machine whose state holds the bytes of a character
 --     char-rest                      the bytes with which a character that was begun is whole
 --     char-found                     the character that was read
-use Prim.Native.Nat.{ℕ, zero, suc, _+_, _-_, _≤_, _<_}
+use Prim.Native.Nat.{ℕ, _+_, _-_, _≤_, _<_}
 use mathlib.Core.Path.{_≡_, refl, sym, ap, subst, _∙_}
 use mathlib.Core.List.{List, [], _∷_, _++_, append-assoc}
 use mathlib.Core.Bool.{Bool, true, false, cond}
-use mathlib.Core.Logic.{_⊎_, inl, inr}
 use native.Mathlib.Omega.{arith}
 use borrow.Author.Tests.{eqb-true}
 use lib.ListN.{length, drop, getD, length-drop, length-append}
-use Rattle.laws.specs.Reading.{RunNext, go, stop, follow, run, run-stable, Stable, drop-here, drop-out}
+use Rattle.laws.specs.Reading.{RunNext, go, stop, follow, run, run-stable, Stable, drop-here}
 use Rattle.laws.proofs.Holds.{holds-cond, Turned, run-held}
-use Rattle.characters.specs.Utf8.{utf8, isForm}
-use Rattle.characters.specs.Sets.{member, rangesOf}
-use Rattle.characters.specs.Begins.{Begins}
-use Rattle.characters.specs.Forms.{nextForm, formOf}
-use Rattle.characters.specs.Deciding.{begins, begins-so, begins-some, ranged}
-use Rattle.characters.specs.declared.Set.{Set}
-use Rattle.characters.proofs.Laws.{whole-left, form-whole, form-short, ascii-begins, ascii-whole}
+use Rattle.utf8.specs.Utf8.{utf8, isForm}
+use Rattle.utf8.specs.Sets.{member, rangesOf}
+use Rattle.utf8.specs.Forms.{nextForm, formOf}
+use Rattle.utf8.specs.declared.Set.{Set}
+use Rattle.utf8.proofs.Deciding.{ranged}
+use Rattle.utf8.proofs.FormLaws.{form-whole, ascii-whole}
+use Rattle.characters.specs.CanBegin.{begins}
+use Rattle.characters.proofs.Laws.{begins-so, begins-some, whole-left, form-short, ascii-begins}
 use Rattle.lexer.specs.Stops.{afterRead}
-use Rattle.lexer.specs.Characters.{withByte, charStep, charEnd}
+use Rattle.lexer.specs.Characters.{charStep, charEnd}
 use Rattle.lexer.specs.declared.Stop.the-variants.{Bad, Long, Cut}
 use Rattle.lexer.specs.declared.Read.{Read}
 use Rattle.lexer.specs.declared.Read.the-variants as read

@@ -13,8 +13,8 @@ use Rattle.laws.specs.Reading.{le-or-lt}
 use Rattle.laws.proofs.Flags.{and-right}
 use Rattle.laws.proofs.Holds.{holds-cond, holds-peek, Turned, run-held, each-more}
 use Rattle.lexer.specs.Stops.{afterRead, afterName}
-use Rattle.characters.specs.Deciding.{begins}
-use Rattle.characters.specs.declared.Set.the-variants as set
+use Rattle.utf8.specs.declared.Set.the-variants as set
+use Rattle.characters.specs.CanBegin.{begins}
 use Rattle.lexer.specs.Names.{isSpace, spaceStep, spacesEnd, PartState, partState, partSet, partWhole, partStep, partEnd, nameOf, prefixedAt, nameAt}
 use Rattle.lexer.specs.Values.{valueEnd}
 use Rattle.lexer.specs.Tags.{wanted, equalsEnd, quotedAt, attributeAt, slashAt, turnBehind, turnAt, TagRead, tagStopped, tagClosed, fullTurn, attrThen, turnThen, attrsFrom, tagAt, endTagAt}

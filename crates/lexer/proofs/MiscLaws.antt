@@ -19,8 +19,8 @@ use Rattle.laws.specs.Reading.{RunNext, Stable, stable-same, stable-cond, stabl
 use Rattle.laws.specs.Text.{bytes}
 use Rattle.laws.proofs.Flags.{and-left}
 use Rattle.laws.proofs.Holds.{holds-cond, holds-peek, Turned, run-held}
-use Rattle.characters.specs.Deciding.{begins}
-use Rattle.characters.specs.declared.Set.the-variants as set
+use Rattle.utf8.specs.declared.Set.the-variants as set
+use Rattle.characters.specs.CanBegin.{begins}
 use Rattle.lexer.specs.Stops.{stopPlace, afterRead}
 use Rattle.lexer.specs.Names.{isSpace, spacesEnd, partEnd}
 use Rattle.lexer.specs.Tags.{wanted, equalsEnd, slashAt}

@@ -18,10 +18,10 @@ use Rattle.laws.specs.Reading.{le-or-lt}
 use Rattle.laws.proofs.Flags.{differ}
 use Rattle.laws.proofs.Lists.{getD-tabulate, length-tabulate}
 use Rattle.laws.proofs.Members.{in-at, all-in}
-use Rattle.characters.specs.Sets.{member, rangesOf}
-use Rattle.characters.specs.Deciding.{begins}
-use Rattle.characters.specs.declared.Set.{Set}
-use Rattle.characters.specs.declared.Set.the-variants as set
+use Rattle.utf8.specs.Sets.{member, rangesOf}
+use Rattle.utf8.specs.declared.Set.{Set}
+use Rattle.utf8.specs.declared.Set.the-variants as set
+use Rattle.characters.specs.CanBegin.{begins}
 use Rattle.characters.proofs.Laws.{ascii-begins}
 use Rattle.lexer.specs.Shortcuts.{isStart, isName, isChar}
 

@@ -18,8 +18,8 @@ use Rattle.laws.specs.Reading.{go, run, run-stop, run-go, drop-here}
 use Rattle.laws.specs.Tests.{untold, tests}
 use Rattle.laws.proofs.Flags.{and-left, and-right, or-left, or-right}
 use Rattle.lanes.specs.Plain.{isPlain, plainBytes}
-use Rattle.characters.specs.declared.Set.{Set}
-use Rattle.characters.specs.declared.Set.the-variants as set
+use Rattle.utf8.specs.declared.Set.{Set}
+use Rattle.utf8.specs.declared.Set.the-variants as set
 use Rattle.lexer.specs.Shortcuts.{isChar}
 use Rattle.lexer.specs.Characters.{charEnd}
 use Rattle.lexer.specs.Values.{referenceEnd, textAt, passedOver, closes, valueStep, valueFrom, textEnd}

@@ -1,18 +1,18 @@
 -- What a reading definition answers stays when more bytes come behind, unless the slice ended; and the bytes before the place where reading stops do
 -- not settle the answer.
-use Prim.Native.Nat.{ℕ, zero, suc, _+_, _<_}
+use Prim.Native.Nat.{ℕ, zero, suc, _+_}
 use mathlib.Core.Path.{_≡_, refl, sym, subst}
 use mathlib.Core.List.{List, [], _∷_, _++_}
 use mathlib.Core.Bool.{true, false, cond, _||_}
 use mathlib.Core.Logic.{_⊎_, inl, inr}
 use native.Mathlib.Omega.{arith}
-use lib.ListN.{length, take}
+use lib.ListN.{take}
 use lib.Seq.{take-length}
 use lib.Dec.{eqb}
 use Rattle.laws.specs.Reading.{Stable, stable-same, stable-cond, stable-peek, run-stable}
 use Rattle.laws.proofs.Kept.{Kept, kept-bind, cut-short}
-use Rattle.characters.specs.Deciding.{begins}
-use Rattle.characters.specs.declared.Set.the-variants as set
+use Rattle.utf8.specs.declared.Set.the-variants as set
+use Rattle.characters.specs.CanBegin.{begins}
 use Rattle.lexer.specs.Stops.{stopPlace, afterRead, afterName}
 use Rattle.lexer.specs.Names.{spaceStep, spacesEnd, partState, partStep, partEnd, nameOf, prefixedAt, nameAt}
 use Rattle.lexer.specs.Values.{valueEnd}

@@ -2,9 +2,9 @@
 --     reference-inside, value-inside        which places an answer names
 --     reference-stable, value-stable        more bytes
 use Prim.Native.Nat.{ℕ, _+_, _-_, _≤_, _<_}
-use mathlib.Core.Path.{_≡_, refl, sym, ap, subst, _∙_}
+use mathlib.Core.Path.{_≡_, refl, sym, ap, _∙_}
 use mathlib.Core.List.{List, [], _∷_, _++_, append-assoc}
-use mathlib.Core.Bool.{true, cond, _&&_}
+use mathlib.Core.Bool.{true, _&&_}
 use mathlib.Core.Logic.{⊎-elim}
 use native.Mathlib.Omega.{arith}
 use borrow.Author.Tests.{eqb-true, leb-true, leb-false, ltb-true, ltb-false, lt-leb}
@@ -19,7 +19,7 @@ use Rattle.lexer.specs.Values.{references, common, wholeOf, furthest, no
 use Rattle.lexer.specs.declared.Stop.the-variants.{Bad, Long, Cut}
 use Rattle.lexer.specs.declared.Read.{Read}
 use Rattle.lexer.specs.declared.Read.the-variants.{End, Stopped}
-use Rattle.characters.specs.declared.Set.the-variants as set
+use Rattle.utf8.specs.declared.Set.the-variants as set
 use Rattle.lexer.proofs.CharacterLaws.{Within, PassedTo, char-inside, char-stable}
 use Rattle.lexer.proofs.Common.{common-none, common-all, common-kept}
 use Rattle.lexer.proofs.References.{found-in, none-cut}
@@ -131,7 +131,7 @@ stands-kept w s t at o e =
     stands w (s ++ t) (drop (length w) (drop at s) ++ t) at o (a ∙ b ∙ append-assoc w (drop (length w) (drop at s)) t)
 
 -- none goes as far as the scene: more bytes change nothing
-furthest-least : (l w : List ℕ) (words : List (List ℕ)) → (common l w ≤ furthest l (w ∷ words)) × (furthest l words ≤ furthest l (w ∷ words))
+pub furthest-least : (l w : List ℕ) (words : List (List ℕ)) → (common l w ≤ furthest l (w ∷ words)) × (furthest l words ≤ furthest l (w ∷ words))
 unfolding furthest
 furthest-least l w words =
     holds-cond (λ (k : ℕ). (common l w ≤ k) × (furthest l words ≤ k)) (ltb (furthest l words) (common l w))
@@ -184,20 +184,20 @@ pub closes-kept : (s t : List ℕ) (at quote b i : ℕ) → i < length s → clo
 unfolding closes
 closes-kept s t at quote b i h = rw (List·getD-append s t 0 (i - 1) (omega arith), List·getD-append s t 0 (i - 2) (omega arith))
 
+pub value-agrees : (s t : List ℕ) (at quote left b i : ℕ) → i < length s → Stable (stop (Stopped Cut)) (valueStep s at quote left b i) (valueStep (s ++ t) at quote left b i)
+value-agrees s t at quote left b i h =
+    stable-cond c (eqb left 0)
+    (stable-cond c (eqb b quote) (stable-same c (stop (End i)))
+    (stable-cond c (eqb b 0x26) (over (referenceEnd s i) (referenceEnd (s ++ t) i) (reference-stable s t i))
+    (rw (closes-kept s t at quote b i h) (stable-cond c (closes s at quote b i) (stable-same c (stop (Stopped (Bad (i - 2))))) (over (textAt s b i) (textAt (s ++ t) b i) (text-stable s t b i))))))
+    (stable-same c (go (left - 1)))
+  where
+    c : RunNext ℕ Read
+    c = stop (Stopped Cut)
+
+    over : (r r′ : Read) → Stable (Stopped Cut) r r′ → Stable c (passedOver i r) (passedOver i r′)
+    over = stable-bind (Stopped Cut) c (passedOver i) (passedOver i) refl (λ (r : Read). stable-same c (passedOver i r))
+
 pub value-stable : (s t : List ℕ) (at quote : ℕ) → (valueEnd s at quote ≡ Stopped Cut → ⊥) → valueEnd (s ++ t) at quote ≡ valueEnd s at quote
 unfolding valueFrom
-value-stable s t at quote = run-agree-at cut (valueStep s at quote) (valueStep (s ++ t) at quote) 0 s t at agree
-  where
-    cut : Read
-    cut = Stopped Cut
-
-    over : (j : ℕ) (r r′ : Read) → Stable cut r r′ → Stable (stop cut) (passedOver j r) (passedOver j r′)
-    over j = stable-bind cut (stop cut) (passedOver j) (passedOver j) refl (λ (r : Read). stable-same (stop cut) (passedOver j r))
-
-    agree : (left b j : ℕ) → at ≤ j → j < length s → Stable (stop cut) (valueStep s at quote left b j) (valueStep (s ++ t) at quote left b j)
-    agree left b j lo hi =
-        stable-cond (stop cut) (eqb left 0)
-        (stable-cond (stop cut) (eqb b quote) (stable-same (stop cut) (stop (End j)))
-        (stable-cond (stop cut) (eqb b 0x26) (over j (referenceEnd s j) (referenceEnd (s ++ t) j) (reference-stable s t j))
-        (rw (closes-kept s t at quote b j hi) (stable-cond (stop cut) (closes s at quote b j) (stable-same (stop cut) (stop (Stopped (Bad (j - 2))))) (over j (textAt s b j) (textAt (s ++ t) b j) (text-stable s t b j))))))
-        (stable-same (stop cut) (go (left - 1)))
+value-stable s t at quote = run-agree-at (Stopped Cut) (valueStep s at quote) (valueStep (s ++ t) at quote) 0 s t at (λ left b i lo hi. value-agrees s t at quote left b i hi)

@@ -12,11 +12,11 @@ use native.Mathlib.Nat.{add-assoc, add-zero, zero-add}
 use borrow.Author.Tests.{eq-eqb, lt-ltb, eqb-true}
 use lib.ListN.{length, take, drop, getD, length-append, length-drop, List·getD-append}
 use lib.Seq.{length-take-le, getD-take, getD-drop, getD-at}
-use lib.Dec.{eqb, ltb}
+use lib.Dec.{eqb}
 use Rattle.laws.specs.Reading.{go, run, run-go, run-stop}
 use Rattle.laws.proofs.Holds.{holds-cond, Turned, run-held}
-use Rattle.characters.specs.Deciding.{begins}
-use Rattle.characters.specs.declared.Set.the-variants as set
+use Rattle.utf8.specs.declared.Set.the-variants as set
+use Rattle.characters.specs.CanBegin.{begins}
 use Rattle.lexer.specs.Characters.{withByte}
 use Rattle.lexer.specs.Names.{spaceStep, spacesEnd, PartState, partState, partSet, partWhole, partStep, partEnd, prefixedAt, nameAt}
 use Rattle.lexer.specs.Tags.{wanted, endTagAt}

@@ -6,7 +6,6 @@ use lib.ListN.{length, getD, drop}
 use lib.Dec.{leb}
 use Rattle.laws.specs.Lists.{tabulate}
 use Rattle.laws.specs.Gather.{gather}
-use Rattle.lexer.specs.declared.Name.{Name}
 use Rattle.lexer.specs.declared.Attr.{Attr}
 
 abbrev pub attrNumbers : Attr → List ℕ

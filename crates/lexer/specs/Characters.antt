@@ -3,9 +3,9 @@ use Prim.Native.Nat.{ℕ, _+_}
 use mathlib.Core.List.{List, [], _∷_, _++_}
 use mathlib.Core.Bool.{cond}
 use lib.ListN.{drop}
-use Rattle.characters.specs.Utf8.{isForm}
-use Rattle.characters.specs.Deciding.{begins}
-use Rattle.characters.specs.declared.Set.{Set}
+use Rattle.utf8.specs.Utf8.{isForm}
+use Rattle.utf8.specs.declared.Set.{Set}
+use Rattle.characters.specs.CanBegin.{begins}
 use Rattle.laws.specs.Reading.{RunNext, go, stop, run}
 use Rattle.lexer.specs.declared.Stop.the-variants.{Bad, Cut}
 use Rattle.lexer.specs.declared.Read.{Read}

@@ -1,16 +1,18 @@
--- Worked examples, by computation: vectors of request N1 on comments, instructions, the declaration, where an event begins behind them, and ]]> in text.
+-- Worked examples, by computation: vectors of request N1 on comments, instructions, the declaration, where an event begins behind them, and ]]> in text; values and end tags.
 use mathlib.Core.Path.{_≡_, refl}
 use mathlib.Core.List.{[], _∷_, _++_}
 use mathlib.Core.Bool.{true, false}
 use lib.ListN.{replicate}
 use Rattle.laws.specs.Text.{bytes}
 use Rattle.lexer.specs.Values.{valueEnd, textEnd}
+use Rattle.lexer.specs.Tags.{endTagAt}
 use Rattle.lexer.specs.Misc.{miscEnd}
 use Rattle.lexer.specs.Begins.{beginAt}
 use Rattle.lexer.specs.Computing.{computing}
 use Rattle.lexer.specs.declared.Stop.the-variants.{Bad, Long, Cut}
 use Rattle.lexer.specs.declared.Read.the-variants as read
 use Rattle.lexer.specs.declared.Begin.the-variants as begin
+use Rattle.lexer.specs.declared.Ended.the-variants as ended
 
 -- [15], N1-8, N1-12, N1-13
 comments :
@@ -137,3 +139,46 @@ bytes-and-places :
     × (textEnd (bytes "<r>]]></r>") 4 ≡ read.End 6)
 unfolding computing
 bytes-and-places = (refl, refl, refl, refl, refl, refl, refl, refl, refl, refl)
+
+-- [25], [26], [32], [81], N1-20: a declaration with every field and each space, every digit and none beside them, an EncName of every kind of byte, yes
+declaration-whole :
+    (miscEnd (bytes "<?xml" ++ (0x09 ∷ bytes "version") ++ (0x0A ∷ bytes "=") ++ (0x0D ∷ bytes "\"1.15\" encoding = 'x-1._' standalone=\"yes\" ?>")) 0 ≡ read.End 61)
+    × (miscEnd (bytes "<?xml version='1.19' encoding='AZaz09'?>") 0 ≡ read.End 40)
+    × (miscEnd (bytes "<?xml  version='1.0123456789'?>") 0 ≡ read.End 31)
+    × (miscEnd (bytes "<?xml version='1.0/'?>") 0 ≡ read.Stopped (Bad 18))
+    × (miscEnd (bytes "<?xml version='1.0:'?>") 0 ≡ read.Stopped (Bad 18))
+    × (miscEnd (bytes "<?xml version='1.0' standalone='yep'?>") 0 ≡ read.Stopped (Bad 34))
+unfolding computing
+declaration-whole = (refl, refl, refl, refl, refl, refl)
+
+-- [15], N1-12: hyphens that are not neighbours; N1-15: the scene's end behind the ? of ?>; N1-16: xml in mixed case, and as a beginning
+misc-more :
+    (miscEnd (bytes "<!-- - - -->") 0 ≡ read.End 12)
+    × (miscEnd (bytes "<!--->-->") 0 ≡ read.End 9)
+    × (miscEnd (bytes "<!--a-" ++ (0x00 ∷ [])) 0 ≡ read.Stopped (Bad 6))
+    × (miscEnd (bytes "<?p?") 0 ≡ read.Stopped Cut)
+    × (miscEnd (bytes "<r><?XmL a?>") 3 ≡ read.Stopped (Bad 5))
+    × (miscEnd (bytes "<r><?xMl?>") 3 ≡ read.Stopped (Bad 5))
+    × (miscEnd (bytes "<r><?xm?>") 3 ≡ read.End 9)
+    × (miscEnd (bytes "<?XMLa?>") 0 ≡ read.End 8)
+unfolding computing
+misc-more = (refl, refl, refl, refl, refl, refl, refl, refl)
+
+-- "Text and values hold .., without <"; "& starts only &lt; &gt; &amp; &quot; or &apos;": each with its ; . "An end tag is </, name, optional space, >"
+values-and-ends :
+    (valueEnd (bytes "<r a='<'/>") 6 0x27 ≡ read.Stopped (Bad 6))
+    × (valueEnd (bytes "<r a=\"b<\"/>") 6 0x22 ≡ read.Stopped (Bad 7))
+    × (valueEnd (bytes "<r a='" ++ (0x0B ∷ bytes "'/>")) 6 0x27 ≡ read.Stopped (Bad 6))
+    × (valueEnd (bytes "<r a='&ltx'/>") 6 0x27 ≡ read.Stopped (Bad 9))
+    × (textEnd (bytes "<r>&ltx") 3 ≡ read.Stopped (Bad 6))
+    × (textEnd (bytes "<r>&gtx") 3 ≡ read.Stopped (Bad 6))
+    × (textEnd (bytes "<r>&quotx") 3 ≡ read.Stopped (Bad 8))
+    × (textEnd (bytes "<r>&aposx") 3 ≡ read.Stopped (Bad 8))
+    × (endTagAt (bytes "<r></r!") 5 ≡ ended.Stopped (Bad 6))
+    × (endTagAt (bytes "<r></r/>") 5 ≡ ended.Stopped (Bad 6))
+    × (endTagAt (bytes "<r></r a>") 5 ≡ ended.Stopped (Bad 7))
+    × (endTagAt (bytes "<r></r") 5 ≡ ended.Stopped Cut)
+    × (endTagAt (bytes "<r></r ") 5 ≡ ended.Stopped Cut)
+    × (endTagAt (bytes "<r></r  >") 5 ≡ ended.Got (record { name = record { at = 5; part = 5; end = 6 }; next = 9 }))
+unfolding computing
+values-and-ends = (refl, refl, refl, refl, refl, refl, refl, refl, refl, refl, refl, refl, refl, refl)

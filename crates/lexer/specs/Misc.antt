@@ -9,8 +9,8 @@ use Rattle.laws.specs.Reading.{RunNext, go, stop, run, peek}
 use Rattle.laws.specs.Text.{bytes}
 use Rattle.lexer.specs.Stops.{afterRead}
 use Rattle.lexer.specs.Names.{isSpace, partEnd}
-use Rattle.characters.specs.Deciding.{begins}
-use Rattle.characters.specs.declared.Set.the-variants as set
+use Rattle.utf8.specs.declared.Set.the-variants as set
+use Rattle.characters.specs.CanBegin.{begins}
 use Rattle.lexer.specs.Characters.{withByte}
 use Rattle.lexer.specs.Tags.{wanted}
 use Rattle.lexer.specs.Declaration.{wordEnd, declarationEnd}

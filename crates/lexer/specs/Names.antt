@@ -5,9 +5,9 @@ use mathlib.Core.Bool.{Bool, cond, not, _&&_, _||_}
 use lib.ListN.{length, drop}
 use lib.Dec.{leb, eqb}
 use Rattle.laws.specs.Reading.{RunNext, go, stop, run, peek}
-use Rattle.characters.specs.Deciding.{begins}
-use Rattle.characters.specs.declared.Set.{Set}
-use Rattle.characters.specs.declared.Set.the-variants as set
+use Rattle.utf8.specs.declared.Set.{Set}
+use Rattle.utf8.specs.declared.Set.the-variants as set
+use Rattle.characters.specs.CanBegin.{begins}
 use Rattle.lexer.specs.Stops.{afterRead}
 use Rattle.lexer.specs.Characters.{withByte}
 use Rattle.lexer.specs.declared.Stop.the-variants.{Bad, Long, Cut}

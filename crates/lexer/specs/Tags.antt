@@ -6,8 +6,8 @@ use lib.ListN.{length}
 use lib.Dec.{eqb}
 use Rattle.laws.specs.Reading.{peek}
 use Rattle.lexer.specs.Stops.{afterRead, afterName}
-use Rattle.characters.specs.Deciding.{begins}
-use Rattle.characters.specs.declared.Set.the-variants as set
+use Rattle.utf8.specs.declared.Set.the-variants as set
+use Rattle.characters.specs.CanBegin.{begins}
 use Rattle.lexer.specs.Names.{spacesEnd, nameAt}
 use Rattle.lexer.specs.Values.{valueEnd}
 use Rattle.lexer.specs.declared.Stop.{Stop}
@@ -20,10 +20,8 @@ use Rattle.lexer.specs.declared.Attributed.{Attributed}
 use Rattle.lexer.specs.declared.Attributed.the-variants as attributed
 use Rattle.lexer.specs.declared.Turn.{Turn}
 use Rattle.lexer.specs.declared.Turn.the-variants as turn
-use Rattle.lexer.specs.declared.Tag.{Tag}
 use Rattle.lexer.specs.declared.Tagged.{Tagged}
 use Rattle.lexer.specs.declared.Tagged.the-variants as tagged
-use Rattle.lexer.specs.declared.EndTag.{EndTag}
 use Rattle.lexer.specs.declared.Ended.{Ended}
 use Rattle.lexer.specs.declared.Ended.the-variants as ended
 

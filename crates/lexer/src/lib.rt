@@ -1,7 +1,7 @@
 // Bytes to tags and texts: names, references, values, attributes, tags. Prefixes are looked up by the layer above.
+pub mod chars;
 pub mod names;
 pub mod stops;
-pub mod utf8;
 
 // Why reading stops.
 pub enum Stop {

@@ -3,19 +3,17 @@
 --     comment-stops, comment-passed       another character of a comment
 --     content-stops, content-passed       a character of an instruction
 use Prim.Native.Nat.{ℕ, _+_, _<_}
-use mathlib.Core.Path.{_≡_, refl, sym, ap, _∙_}
+use mathlib.Core.Path.{_≡_, refl, sym, _∙_}
 use mathlib.Core.List.{List, [], _∷_, _++_}
 use mathlib.Core.Bool.{Bool, true, false, cond, _&&_}
-use mathlib.Core.Logic.{⊎-elim}
 use native.Mathlib.Omega.{arith}
-use borrow.Author.Tests.{eq-eqb, ne-eqb, eqb-true, eqb-false}
+use borrow.Author.Tests.{ne-eqb, eqb-true}
 use lib.ListN.{length, drop, getD}
 use lib.Dec.{eqb}
-use Rattle.laws.specs.Reading.{RunNext, go, stop, run, run-go, le-or-lt}
-use Rattle.laws.proofs.Flags.{differ}
-use Rattle.characters.specs.Utf8.{isForm}
-use Rattle.characters.specs.Deciding.{begins}
-use Rattle.characters.specs.declared.Set.the-variants as set
+use Rattle.laws.specs.Reading.{RunNext, go, stop, run, run-go}
+use Rattle.utf8.specs.Utf8.{isForm}
+use Rattle.utf8.specs.declared.Set.the-variants as set
+use Rattle.characters.specs.CanBegin.{begins}
 use Rattle.characters.proofs.Laws.{ascii-breaks}
 use Rattle.lexer.specs.Computing.{computing}
 use Rattle.lexer.specs.Stops.{afterRead}

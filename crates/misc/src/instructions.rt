@@ -1,14 +1,14 @@
 // Comments and processing instructions.
 use crate::declaration::declaration_end;
 use crate::declaration::word_end;
-use characters::Set;
 use lexer::Read;
 use lexer::Stop;
+use lexer::chars::char_end;
+use lexer::chars::is_char;
 use lexer::names::is_space;
 use lexer::names::part_end;
-use lexer::utf8::char_end;
-use lexer::utf8::is_char;
 use tags::want;
+use utf8::Set;
 ghost use mathlib.Core.Path.{_≡_};
 ghost use Rattle.lexer.specs.Misc.{commentRest, commentEnd, contentEnd, behindTarget, isXml, isDeclared, instructionEnd, miscEnd};
 

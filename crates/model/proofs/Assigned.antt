@@ -12,12 +12,13 @@ use Rattle.model.specs.Theory.{Action, Attach, Unwrap, Validate, Rule, A
 use Rattle.model.specs.Tree.{TreeEvent, start, text, end, Items, Tree, eventsThen, treeEvents, stillOpen, completed, treeOf}
 use Rattle.model.specs.Sections.{Tags, Content, empty, ownText, ownElement, slot, attributeSections, size, divideTree}
 use Rattle.model.specs.Stream as stream
-use Rattle.model.specs.Stream.{Level, State, Entry, allot, takeRules, after, fresh, reached, byRule, stay}
+use Rattle.model.specs.Stream.{Level, State, Entry, takeRules, after, fresh, reached, byRule, stay}
 use Rattle.model.specs.Model.{WholeUnit, marked, attributeUnitsFrom, attributePieces, Strand, Assigned, assignedAt, beforeRoot, along, enter, attributesOf, assign, assignedOf}
 use Rattle.model.proofs.Lists.{gather-same, map-gather, gather-map}
 use Rattle.model.proofs.Events.{unitPieces}
 use Rattle.model.proofs.Filling.{Agree}
 use Rattle.model.proofs.Divide.{erase, erase-divide, Divided, divided}
+use Rattle.model.proofs.Steps.{entryModes, allot-modes}
 use Rattle.model.proofs.Cut.{IsPrefix, eventsOf, addedEnds, tree-events, completed-prefix}
 
 -- An open element, and the modes of its strands.
@@ -35,9 +36,6 @@ modesOf = map (λ s. s .mode)
 
 abbrev piecesOf : {B : Type 0} → List (WholeUnit B) → List (List (Piece B))
 piecesOf = map (λ u. map (λ p. p .piece) (u .pieces))
-
-abbrev pub entryModes : List Entry → List ℕ
-entryModes = map (λ e. e .strand .mode)
 
 module _ (Θ : Theory) where
   -- The stream's strands of an event's element: at a start those that it enters with, else those of the innermost element.
@@ -116,15 +114,6 @@ module _ (Θ : Theory) where
       go : (b : Bool) → entryModes (cond b (map (λ s. record { strand = stay s; schema = 0 }) (l .strands)) (takeRules Θ σ (l .strands))) ≡ cond b (map (λ s. s .mode) (l .strands)) (nextModes σ (map (λ s. s .mode) (l .strands)))
       go true = map-map (λ (e : Entry). e .strand .mode) (λ s. record { strand = stay s; schema = 0 }) (l .strands)
       go false = take-modes σ (l .strands)
-
-  allot-modes : (u : ℕ) (es : List Entry) → entryModes (allot u es) ≡ entryModes es
-  allot-modes u [] = refl
-  allot-modes u (e ∷ es) = go (e .strand .mode) (e .strand .action) (e .strand .target) (e .strand .here) (e .schema) (λ v. allot-modes v es)
-    where
-      go : (m : ℕ) (a : Action) (t : Option ℕ) (b : Bool) (n : ℕ) → ((v : ℕ) → entryModes (allot v es) ≡ entryModes es)
-          → entryModes (allot u (record { strand = record { mode = m; action = a; target = t; here = b }; schema = n } ∷ es)) ≡ m ∷ entryModes es
-      go m a t false n ih = ap (λ x. m ∷ x) (ih u)
-      go m a t true n ih = ap (λ x. m ∷ x) (ih (suc u))
 
   after-modes : (z : State Θ) (e : TreeEvent Θ) → map moded ((after Θ z e) .levels) ≡ behind (map moded (z .levels)) e
   unfolding after

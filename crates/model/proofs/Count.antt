@@ -7,7 +7,7 @@ use Prim.Native.Nat.{ℕ, suc, _+_}
 use native.Mathlib.Omega.{arith}
 use lib.ListN.{length, length-append, length-map}
 use Rattle.laws.specs.Gather.{gather, total}
-use Rattle.laws.proofs.Gather.{total-append}
+use Rattle.laws.proofs.Gather.{total-gathered}
 use Rattle.model.specs.Theory.{AttributeUnit, Piece, opens, holds, Record, Theory}
 use Rattle.model.specs.Tree.{TreeEvent, start, text, end}
 use Rattle.model.specs.Stream.{Level, State, Entry, entriesAt, unitsOf, entered, newUnits, startRecords, textRecords, endRecords, written, after, HeldStrand, receiver, give, attributesFrom, opening, closing}
@@ -37,11 +37,6 @@ module _ {A B : Type 0} where
   length-gathered f g h [] = refl
   length-gathered f g h (x ∷ xs) = length-append (f x) (gather f xs) ∙ rw (h x, length-gathered f g h xs)
 
-  total-gathered : (g : B → ℕ) (f : A → List B) (xs : List A) → total g (gather f xs) ≡ total (λ x. total g (f x)) xs
-  unfolding gather total
-  total-gathered g f [] = refl
-  total-gathered g f (x ∷ xs) = total-append g (f x) (gather f xs) ∙ rw (total-gathered g f xs)
-
 module _ {B U : Type 0} where
   pub length-give : (t : Option U) (ps : List (Piece B)) → length (give t ps) ≡ elim t [ none ↦ 0 | some u ↦ length ps ]
   length-give none ps = refl
@@ -63,7 +58,7 @@ module _ (Θ : Theory) where
   count-of-records z (start σ) =
       let es = entriesAt Θ (z .levels) σ in
       let attributes : length (attributesFrom (λ n. n) (z .units) (unitsOf Θ σ es)) ≡ total (λ e. total attributeCount (Θ .attributeUnits (e .strand .mode) σ)) es =
-      length-attributes (λ n. n) (z .units) (unitsOf Θ σ es) ∙ total-gathered attributeCount (λ (e : Entry). Θ .attributeUnits (e .strand .mode) σ) es in
+      length-attributes (λ n. n) (z .units) (unitsOf Θ σ es) ∙ total-gathered attributeCount (λ (e : Entry). Θ .attributeUnits (e .strand .mode) σ) (λ (e : Entry). total attributeCount (Θ .attributeUnits (e .strand .mode) σ)) (λ e. refl) es in
       let starts = length-gathered (startRecords Θ σ) (λ e. delivered (e .strand) (cond (e .strand .here) 1 0 + length (Θ .startBodies (e .strand .mode) σ)))
       (λ e. one (receiver (e .strand .action) (e .strand .target)) (e .strand .here) (e .schema) (Θ .startBodies (e .strand .mode) σ)) (entered Θ z σ) in
       sym (length-append (attributesFrom (λ n. n) (z .units) (unitsOf Θ σ es)) (gather (startRecords Θ σ) (entered Θ z σ)) ∙ ap₂ (λ m n. m + n) attributes starts)

@@ -1,18 +1,18 @@
 -- The state after some events: one event more; its levels are the open elements; every state reached is coherent.
-use mathlib.Core.Path.{_≡_, refl, ap, _∙_}
+use mathlib.Core.Path.{_≡_, refl, sym, ap, subst, _∙_}
 use mathlib.Core.Bool.{Bool, true, false, cond}
 use mathlib.Core.List.{List, [], _∷_, _++_, map, tail, foldl, foldl-append}
 use mathlib.Core.Option.{Option, none, some}
 use Prim.Native.Nat.{ℕ, suc, _+_, _≤_, _<_}
 use native.Mathlib.Nat.{add-zero}
 use native.Mathlib.Omega.{arith}
-use lib.ListN.{length}
+use lib.ListN.{length, length-map}
 use Rattle.laws.specs.Gather.{gather, total}
 use Rattle.laws.proofs.Gather.{total-append}
 use Rattle.model.specs.Theory.{Action, Attach, Unwrap, Validate, Rule, Theory}
 use Rattle.model.specs.Tree.{TreeEvent, start, text, end, stillOpen}
 use Rattle.model.specs.Stream.{Level, State, Entry, allot, newUnits, takeRules, entriesAt, unitsOf, textRecords, endRecords, written, after, fresh, reached, streamFrom, streamOf, HeldStrand, heldBeforeRoot, stay, byRule}
-use Rattle.model.proofs.Lists.{All, all-append, all-weaken}
+use Rattle.model.proofs.Lists.{All, all-append, all-weaken, all-map, all-unmap}
 use Rattle.model.proofs.Cut.{Follows, IsPrefix}
 
 module _ (Θ : Theory) where
@@ -106,7 +106,7 @@ HasTarget Validate (some u) = Unit {0}
 abbrev pub StrandOk : ℕ → HeldStrand ℕ → Type 0
 StrandOk u s = Below u (s .target) × HasTarget (s .action) (s .target)
 
-below-more : (u v : ℕ) (t : Option ℕ) → u ≤ v → Below u t → Below v t
+pub below-more : (u v : ℕ) (t : Option ℕ) → u ≤ v → Below u t → Below v t
 below-more u v none h b = tt
 below-more u v (some t) h b = omega arith
 
@@ -133,6 +133,24 @@ allot-ok u v w (e ∷ es) h k a = go (e .strand .mode) (e .strand .action) (e .s
         → All (StrandOk w) (map (λ e. e .strand) (allot v (entry m c t b n ∷ es)))
     go m c t false n k o ih = ((below-more u w t (omega arith) (o .0), o .1), ih v h (omega arith))
     go m c t true n k o ih = ((omega arith, rw o tt), ih (suc v) (omega arith) (omega arith))
+
+-- Allotting gives units to entries, and changes no mode.
+abbrev pub entryModes : List Entry → List ℕ
+entryModes = map (λ e. e .strand .mode)
+
+pub allot-modes : (u : ℕ) (es : List Entry) → entryModes (allot u es) ≡ entryModes es
+allot-modes u [] = refl
+allot-modes u (e ∷ es) = go (e .strand .mode) (e .strand .action) (e .strand .target) (e .strand .here) (e .schema) (λ v. allot-modes v es)
+  where
+    go : (m : ℕ) (a : Action) (t : Option ℕ) (b : Bool) (n : ℕ) → ((v : ℕ) → entryModes (allot v es) ≡ entryModes es) → entryModes (allot u (entry m a t b n ∷ es)) ≡ m ∷ entryModes es
+    go m a t false n ih = ap (λ x. m ∷ x) (ih u)
+    go m a t true n ih = ap (λ x. m ∷ x) (ih (suc u))
+
+pub allot-length : (u : ℕ) (es : List Entry) → length (allot u es) ≡ length es
+allot-length u es = sym (length-map (allot u es) (λ e. e .strand .mode)) ∙ ap length (allot-modes u es) ∙ length-map es (λ e. e .strand .mode)
+
+pub allot-each : (P : ℕ → Type 0) (u : ℕ) (es : List Entry) → All (λ e. P (e .strand .mode)) es → All (λ e. P (e .strand .mode)) (allot u es)
+allot-each P u es h = all-unmap P (λ e. e .strand .mode) (allot u es) (subst (All P) (sym (allot-modes u es)) (all-map P (λ e. e .strand .mode) es h))
 
 -- Part after part, for a loop that extends a list at its end.
 pub new-append : (xs ys : List Entry) → newUnits (xs ++ ys) ≡ newUnits xs + newUnits ys

@@ -1,6 +1,6 @@
 -- What ask stores and what commit makes of it.
 --     asked-held             ask's bytes hold the offer of the session that the session's bytes hold, and of the scene
---     byte-commit-of-ask     commit of ask's bytes, with the same session and scene, is the step
+--     byte-commit-of-ask     commit of ask's bytes, with the same scene and bytes that hold the same, is the step
 use Prim.Native.Nat.{ℕ, _+_, _^_, _≤_, _<_}
 use mathlib.Core.Path.{_≡_, refl, sym, ap, _∙_}
 use mathlib.Core.List.{List, _∷_, _++_}
@@ -15,14 +15,13 @@ use Rattle.table.specs.Table.{standard}
 use Rattle.sessions.specs.Stepping.{stepOf}
 use Rattle.sessions.specs.Asking.{stepWhere, Offer, offerOf, offered}
 use Rattle.sessions.specs.Session.{Session}
-use Rattle.sessions.proofs.HeldSame.{same-self}
 use Rattle.sessions.proofs.JudgedFirst.{step-judged-first}
 use Rattle.layout.specs.Layout.{sessionSize, word8, bytes8, sessionIn, holdsSession, sessionBytes}
 use Rattle.layout.specs.Answers.{unheld}
 use Rattle.layout.proofs.RoundTrip.{read-back, held-back, written-back, in-packs, in-storable}
 use Rattle.layout.proofs.Within.{has-long}
 use Rattle.offers.specs.Layout.{offerIn, holdsOffer, offerBytes}
-use Rattle.offers.specs.Calls.{byteCommit}
+use Rattle.offers.specs.Calls.{byteCommit, BytesHoldSame}
 
 -- an offer's bytes in their order, and the bytes behind them
 abbrev inOrder : List ℕ → ℕ → List ℕ → List ℕ
@@ -64,24 +63,23 @@ asked-held session offer s long few short h =
     let rest = drop (0 + length (offerBytes session (length s))) offer in
     (ap holdsOffer e ∙ held session long few s short rest h, ap offerIn e ∙ offer-is session long few s short rest h)
 
-pub byte-commit-of-ask : (session offer table s out : List ℕ) → sessionSize ≤ length session → All (λ (x : ℕ). x < 256) session → length s < 2 ^ 64
-    → byteCommit (overwrite offer 0 (offerBytes session (length s))) session table s out
-    ≡ cond (holdsSession session) (stepOf standard table s (sessionIn session) out) (unheld table s session out)
+pub byte-commit-of-ask : (session b offer table s out : List ℕ) → sessionSize ≤ length session → All (λ (x : ℕ). x < 256) session → length s < 2 ^ 64 → BytesHoldSame b session
+    → byteCommit (overwrite offer 0 (offerBytes session (length s))) b table s out ≡ cond (holdsSession b) (stepOf standard table s (sessionIn b) out) (unheld table s b out)
 unfolding byteCommit
-byte-commit-of-ask session offer table s out long few short = by (holdsSession session) refl
+byte-commit-of-ask session b offer table s out long few short same = by (holdsSession b) refl
   where
     z : Session
-    z = sessionIn session
+    z = sessionIn b
 
     stored : List ℕ
     stored = overwrite offer 0 (offerBytes session (length s))
 
-    by : (held : Bool) → holdsSession session ≡ held
-        → cond held (stepWhere (holdsOffer stored && offered (offerIn stored) z s) standard table s z out) (unheld table s session out)
-        ≡ cond held (stepOf standard table s z out) (unheld table s session out)
+    by : (held : Bool) → holdsSession b ≡ held
+        → cond held (stepWhere (holdsOffer stored && offered (offerIn stored) z s) standard table s z out) (unheld table s b out) ≡ cond held (stepOf standard table s z out) (unheld table s b out)
     by false e = refl
     by true e =
-        let a = asked-held session offer s long few short e in
+        let h = sym (same .alike) ∙ e in
+        let a = asked-held session offer s long few short h in
         ap (λ (t : Bool). stepWhere t standard table s z out)
-        (both (holdsOffer stored) (offered (offerIn stored) z s) (a .0) (ap (λ (o : Offer). offered o z s) (a .1) ∙ both _ _ (same-self z) (eq-eqb (length s) (length s) refl)))
+        (both (holdsOffer stored) (offered (offerIn stored) z s) (a .0) (ap (λ (o : Offer). offered o z s) (a .1) ∙ both _ _ (same .same h) (eq-eqb (length s) (length s) refl)))
         ∙ step-judged-first table s z out

@@ -8,7 +8,6 @@ use mathlib.Core.Bool.{Bool, true, false, not}
 use mathlib.Core.Logic.{⊎-elim}
 use native.Mathlib.Omega.{arith}
 use lib.ListN.{length, drop, getD, length-take, length-drop}
-use lib.Dec.{eqb}
 use Rattle.laws.specs.Reading.{le-or-lt}
 use Rattle.laws.specs.Lists.{sameList}
 use Rattle.laws.specs.Members.{All}
@@ -33,7 +32,7 @@ use Rattle.lexer.proofs.WholeNames.{whole-name}
 use Rattle.lexer.proofs.BeginLaws.{BeginInside, begin-inside}
 use Rattle.reader.specs.Spans.{bytesOf, wholeSpan}
 use Rattle.reader.specs.Namespaces.{Meaning, refused, meant, meaningOf}
-use Rattle.reader.specs.Events.{Start, Event, start, text, end, Open, ReaderState, freshReader, bindingsOf, Next, event, refusal, finished, stopped, colonEnd, partOf, isNil, left, endRead, startMeant, startRead, textRead, begun, nextBy, next}
+use Rattle.reader.specs.Events.{Start, Event, start, text, end, Open, ReaderState, freshReader, bindingsOf, Next, event, refusal, finished, stopped, partOf, isNil, left, endRead, startMeant, startRead, textRead, readAt, nextBy, next}
 use Rattle.reader.specs.Held.{SpanHeld, BindingIn, BindingHeld, OpenHeld, Held}
 use Rattle.reader.proofs.TagMeaning.{NamespaceHeld, AttributeHeld, MeaningHeld, meaning-held}
 use Rattle.reader.proofs.ReadNames.{tag-named}
@@ -133,7 +132,7 @@ module _ (s : List ℕ) (z : ReaderState) (h : Held s z) where
             },
           )
 
-  begun-held : (inside : Bool) (b : Begin) → BeginInside s (z .place) inside (z .closed) b → NextHeld s z (begun s z b)
+  begun-held : (inside : Bool) (b : Begin) → BeginInside s (z .place) inside (z .closed) b → NextHeld s z (readAt s z b)
   begun-held inside (begin.Stopped x) i = stop-held (z .place) (omega arith) x i
   begun-held inside begin.Finished i = (refl, i .0)
   begun-held inside (begin.Text at) i = text-held at (i .0) (i .2) (textEnd s at) refl (within-read (ValueTo s 0x3C at) s at (textEnd s at) (value-inside s at 0x3C))

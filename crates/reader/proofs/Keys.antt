@@ -10,7 +10,7 @@ use Rattle.laws.specs.Lists.{sameList}
 use Rattle.compare.proofs.Equal.{same-eq}
 use Rattle.lexer.specs.Attrs.{attrIn}
 use Rattle.lexer.specs.declared.Name.{Name}
-use Rattle.reader.specs.Spans.{between, bytesOf, wholeSpan, partSpan}
+use Rattle.reader.specs.Spans.{between, bytesOf}
 use Rattle.reader.specs.Stored.{Coded, clashes}
 use Rattle.reader.specs.Keys.{EndsWith, Unlike, Keys}
 

@@ -31,7 +31,7 @@ use Rattle.lexer.proofs.Inside.{TaggedInside, TagReadInside, tag-inside, EndedI
 use Rattle.lexer.proofs.Stable.{CutTag, tag-stable, endTag-stable}
 use Rattle.lexer.proofs.BeginLaws.{CutBegin, begin-stable}
 use Rattle.reader.specs.Spans.{wholeSpan}
-use Rattle.reader.specs.Events.{Event, end, Open, ReaderState, bindingsOf, Next, event, refusal, finished, stopped, isNil, left, endRead, startMeant, startRead, textRead, begun, nextBy, next}
+use Rattle.reader.specs.Events.{Event, end, Open, ReaderState, bindingsOf, Next, event, refusal, finished, stopped, isNil, left, endRead, startMeant, startRead, textRead, readAt, nextBy, next}
 use Rattle.reader.specs.Held.{OpenHeld, Held}
 use Rattle.reader.specs.declared.Span.{Span}
 use Rattle.reader.proofs.Held.{NextHeld, next-held, bindings-in}
@@ -78,7 +78,7 @@ module _ (s t : List ℕ) (z : ReaderState) (h : Held s z) where
       (endTag-stable s t (at + 2))
       (end-kept at o os (k .0) (endTagAt s (at + 2)) (endTag-inside s (at + 2)))
 
-  begun-kept : (b : Begin) → Kept OpenNext (begun s z b) (begun (s ++ t) z b)
+  begun-kept : (b : Begin) → Kept OpenNext (readAt s z b) (readAt (s ++ t) z b)
   begun-kept (begin.Stopped x) = stop-kept x
   begun-kept begin.Finished = λ n. absurd (n tt)
   begun-kept (begin.Text at) =
@@ -97,10 +97,10 @@ module _ (s t : List ℕ) (z : ReaderState) (h : Held s z) where
       (tag-stable s t (at + 1))
       (start-kept at (tagAt s (at + 1)) (tag-inside s (at + 1)) (tagAt s (at + 1) .answer) (tag-inside s (at + 1) .answer))
 
-  from-kept : (inside : Bool) → Kept OpenNext (begun s z (beginAt s (z .place) inside (z .closed))) (begun (s ++ t) z (beginAt (s ++ t) (z .place) inside (z .closed)))
+  from-kept : (inside : Bool) → Kept OpenNext (readAt s z (beginAt s (z .place) inside (z .closed))) (readAt (s ++ t) z (beginAt (s ++ t) (z .place) inside (z .closed)))
   from-kept inside =
-      kept-through CutBegin OpenNext (begun s z) (begun (s ++ t) z)
-      (λ b. ⊎-elim (λ e. subst (λ (x : Begin). OpenNext (begun s z x)) (sym e) refl) (λ e. subst (λ (x : Begin). OpenNext (begun s z x)) (sym e) tt))
+      kept-through CutBegin OpenNext (readAt s z) (readAt (s ++ t) z)
+      (λ b. ⊎-elim (λ e. subst (λ (x : Begin). OpenNext (readAt s z x)) (sym e) refl) (λ e. subst (λ (x : Begin). OpenNext (readAt s z x)) (sym e) tt))
       (beginAt s (z .place) inside (z .closed))
       (beginAt (s ++ t) (z .place) inside (z .closed))
       (begin-stable s t (z .place) inside (z .closed))

@@ -34,7 +34,7 @@ use Rattle.lexer.specs.declared.Begin.{Begin}
 use Rattle.lexer.specs.declared.Begin.the-variants as begin
 use Rattle.reader.specs.Spans.{bytesOf, wholeSpan}
 use Rattle.reader.specs.Namespaces.{Meaning, refused, meant, meaningOf}
-use Rattle.reader.specs.Events.{Event, Open, ReaderState, freshReader, bindingsOf, Next, event, refusal, finished, stopped, isNil, endRead, startMeant, startRead, textRead, begun, nextBy, next, eventThen, eventsFrom, events, lastThen, lastFrom, lastOf}
+use Rattle.reader.specs.Events.{Event, Open, ReaderState, freshReader, bindingsOf, Next, event, refusal, finished, stopped, isNil, endRead, startMeant, startRead, textRead, readAt, nextBy, next, eventThen, eventsFrom, events, lastThen, lastFrom, lastOf}
 
 -- the state behind an event: further on and inside the scene, or the end of a /> was awaited and is given
 abbrev pub Onward : List ℕ → ReaderState → ReaderState → Type 0
@@ -79,7 +79,7 @@ module _ (s : List ℕ) (z : ReaderState) where
     start-moves os l r (tagged.Stopped x) i = stop-moves (at + 1) (omega arith) x i
     start-moves os l r (tagged.Got t) i = meant-moves os t (omega arith) (i .inside) (meaningOf s (bindingsOf os) (t .name) (r .attrs))
 
-  begun-moves : (inside closed : Bool) (b : Begin) → BeginInside s (z .place) inside closed b → Moved s z (begun s z b)
+  begun-moves : (inside closed : Bool) (b : Begin) → BeginInside s (z .place) inside closed b → Moved s z (readAt s z b)
   begun-moves inside closed (begin.Stopped x) i = stop-moves (z .place) (omega arith) x i
   begun-moves inside closed begin.Finished i = refl
   begun-moves inside closed (begin.Text at) i = text-moves at (omega arith) (i .2) (textEnd s at) (value-inside s at 0x3C)
@@ -112,12 +112,12 @@ leftOf s z = 2 * (length s - z .place) + cond (z .awaited) 1 0
 abbrev pub fuelOf : List ℕ → ReaderState → ℕ
 fuelOf s z = 2 * (length s - z .place) + 2
 
-at-most-one : (t : Bool) → cond t 1 0 ≤ 1
-at-most-one true = omega arith
-at-most-one false = omega arith
+cond-one : (t : Bool) → cond t 1 0 ≤ 1
+cond-one true = omega arith
+cond-one false = omega arith
 
 pub less : (s : List ℕ) (z z′ : ReaderState) → Onward s z z′ → leftOf s z′ < leftOf s z
-less s z z′ o = ⊎-elim (λ l. omega (arith, at-most-one (z′ .awaited))) (λ a. rw (a .0, a .1, a .2) (omega arith)) o
+less s z z′ o = ⊎-elim (λ l. omega (arith, cond-one (z′ .awaited))) (λ a. rw (a .0, a .1, a .2) (omega arith)) o
 
 -- F says something of a state with so much fuel, going by the next event and the state behind it
 module _ {A : Type 0} (s : List ℕ) (F : ℕ → ReaderState → A) (T : (ReaderState → A) → Next → A)
@@ -134,7 +134,7 @@ module _ {A : Type 0} (s : List ℕ) (F : ℕ → ReaderState → A) (T : (Reade
       ∙ sym (step m z)
 
   fuel-enough : (n : ℕ) (z : ReaderState) → fuelOf s z ≤ n → F n z ≡ F (fuelOf s z) z
-  fuel-enough n z l = fuel-same n (fuelOf s z) z (omega (arith, at-most-one (z .awaited))) (omega (arith, at-most-one (z .awaited)))
+  fuel-enough n z l = fuel-same n (fuelOf s z) z (omega (arith, cond-one (z .awaited))) (omega (arith, cond-one (z .awaited)))
 
   fuel-next : (z : ReaderState) → F (fuelOf s z) z ≡ T (λ (z′ : ReaderState). F (fuelOf s z′) z′) (next s z)
   fuel-next z =
@@ -145,7 +145,7 @@ module _ {A : Type 0} (s : List ℕ) (F : ℕ → ReaderState → A) (T : (Reade
       behind : (e : Event) (z′ : ReaderState) → next s z ≡ event e z′ → F (2 * (length s - z .place) + 1) z′ ≡ F (fuelOf s z′) z′
       behind e z′ q =
           let o = onward s z z′ e q in
-          fuel-same (2 * (length s - z .place) + 1) (fuelOf s z′) z′ (omega (arith, less s z z′ o, at-most-one (z .awaited))) (omega (arith, at-most-one (z′ .awaited)))
+          fuel-same (2 * (length s - z .place) + 1) (fuelOf s z′) z′ (omega (arith, less s z z′ o, cond-one (z .awaited))) (omega (arith, cond-one (z′ .awaited)))
 
 -- ---- the events behind a state
 unfoldable pub history : List ℕ → ReaderState → List Event

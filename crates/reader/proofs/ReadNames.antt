@@ -11,12 +11,12 @@ use native.Mathlib.Omega.{arith}
 use borrow.Author.Tests.{eq-eqb, ne-eqb}
 use lib.ListN.{length, take, drop, getD, length-drop}
 use lib.Seq.{length-take-le, getD-take, getD-drop}
-use lib.Dec.{eqb, ltb}
+use lib.Dec.{eqb}
 use Rattle.laws.specs.Reading.{le-or-lt}
 use Rattle.laws.proofs.Flags.{differ}
 use Rattle.laws.proofs.Holds.{holds-cond, Turned, run-held}
 use Rattle.lexer.specs.Stops.{afterName}
-use Rattle.characters.specs.Deciding.{begins}
+use Rattle.characters.specs.CanBegin.{begins}
 use Rattle.lexer.specs.Names.{PartState, partState, partSet, partWhole, partStep, partEnd, nameAt}
 use Rattle.lexer.proofs.Parts.{part-refuses, no-colon-start, no-colon-char}
 use Rattle.lexer.specs.Tags.{turnAt, attributeAt, tagStopped, fullTurn, attrThen, turnThen, attrsFrom, tagAt}

@@ -1,13 +1,10 @@
 -- A binding in its four places.
 --     binding-past, binding-made      what the code reads
---     four-set                        what it writes
 use Prim.Native.Nat.{ℕ, _+_, _*_, _≤_}
-use mathlib.Core.Path.{_≡_, ap, _∙_}
-use mathlib.Core.List.{List, [], _∷_}
+use mathlib.Core.Path.{_≡_}
+use mathlib.Core.List.{List}
 use native.Mathlib.Omega.{arith}
-use lib.ListN.{length, getD, set, List·getD-eq-default}
-use Rattle.laws.specs.Over.{overwrite}
-use Rattle.laws.proofs.Over.{set-over, over-set}
+use lib.ListN.{length, getD, List·getD-eq-default}
 use Rattle.reader.specs.Spans.{span}
 use Rattle.reader.specs.Namespaces.{binding}
 use Rattle.reader.specs.Stored.{bindingIn}
@@ -24,12 +21,3 @@ module _ (l : List ℕ) (k : ℕ) where
       → binding (span a b) (span c d) ≡ bindingIn l k
   unfolding bindingIn
   binding-made a b c d p q r t = rw (p, q, r, t)
-
--- four stores
-pub four-set : (l : List ℕ) (i a b c d : ℕ) → i + 4 ≤ length l
-    → set (set (set (set l i a) (i + 1) b) (i + 2) c) (i + 3) d ≡ overwrite l i (a ∷ b ∷ c ∷ d ∷ [])
-four-set l i a b c d h =
-    ap (λ (r : List ℕ). set (set (set r (i + 1) b) (i + 2) c) (i + 3) d) (set-over l i a (omega arith))
-    ∙ ap (λ (r : List ℕ). set (set r (i + 2) c) (i + 3) d) (over-set l i (a ∷ []) b (omega arith))
-    ∙ ap (λ (r : List ℕ). set r (i + 3) d) (over-set l i (a ∷ b ∷ []) c (omega arith))
-    ∙ over-set l i (a ∷ b ∷ c ∷ []) d (omega arith)

@@ -13,7 +13,6 @@ use Rattle.laws.specs.Lists.{sameList, any, anyPair}
 use Rattle.laws.specs.Members.{All}
 use Rattle.laws.proofs.Holds.{holds-cond}
 use Rattle.laws.proofs.Elementwise.{each-map, each-append, each-gather, each-any}
-use Rattle.lexer.specs.declared.Read.the-variants as read
 use Rattle.lexer.specs.declared.Name.{Name}
 use Rattle.lexer.specs.declared.Attr.{Attr}
 use Rattle.lexer.proofs.Inside.{AttrBehind}

@@ -12,11 +12,9 @@ use Rattle.lexer.specs.Begins.{beginAt}
 use Rattle.lexer.specs.declared.Stop.{Stop}
 use Rattle.lexer.specs.declared.Read.{Read}
 use Rattle.lexer.specs.declared.Read.the-variants as read
-use Rattle.lexer.specs.declared.Name.{Name}
 use Rattle.lexer.specs.declared.Tag.{Tag}
 use Rattle.lexer.specs.declared.Tagged.{Tagged}
 use Rattle.lexer.specs.declared.Tagged.the-variants as tagged
-use Rattle.lexer.specs.declared.EndTag.{EndTag}
 use Rattle.lexer.specs.declared.Ended.{Ended}
 use Rattle.lexer.specs.declared.Ended.the-variants as ended
 use Rattle.lexer.specs.declared.Begin.{Begin}
@@ -118,17 +116,17 @@ textRead s z at (read.End j) =
     event (text (between at j)) (record { place = j; closed = z .closed; awaited = false; opened = z .opened })
 
 -- "then 2, 3 or 1 by first byte; then 4; 5, 6"
-abbrev pub begun : List ℕ → ReaderState → Begin → Next
-begun s z (begin.Stopped x) = stopped s x
-begun s z begin.Finished = finished (length s)
-begun s z (begin.Text at) = textRead s z at (textEnd s at)
-begun s z (begin.End at) = endRead s at (z .opened) (endTagAt s (at + 2))
-begun s z (begin.Start at) = startRead s at (z .opened) (tagAt s (at + 1)) (tagAt s (at + 1) .answer)
+abbrev pub readAt : List ℕ → ReaderState → Begin → Next
+readAt s z (begin.Stopped x) = stopped s x
+readAt s z begin.Finished = finished (length s)
+readAt s z (begin.Text at) = textRead s z at (textEnd s at)
+readAt s z (begin.End at) = endRead s at (z .opened) (endTagAt s (at + 2))
+readAt s z (begin.Start at) = startRead s at (z .opened) (tagAt s (at + 1)) (tagAt s (at + 1) .answer)
 
 abbrev pub nextBy : List ℕ → ReaderState → Bool → List Open → Next
 nextBy s z true (o ∷ os) = endOfEmpty s (z .place) o os
-nextBy s z true [] = begun s z (beginAt s (z .place) false (z .closed))
-nextBy s z false os = begun s z (beginAt s (z .place) (not (isNil os)) (z .closed))
+nextBy s z true [] = readAt s z (beginAt s (z .place) false (z .closed))
+nextBy s z false os = readAt s z (beginAt s (z .place) (not (isNil os)) (z .closed))
 
 unfoldable pub next : List ℕ → ReaderState → Next
 next s z = nextBy s z (z .awaited) (z .opened)

@@ -2,7 +2,7 @@
 use Prim.Native.Nat.{ℕ, zero, suc, _+_, _*_, _-_}
 use mathlib.Core.List.{List, [], _∷_}
 use mathlib.Core.Bool.{cond}
-use lib.ListN.{length, getD, take, drop, replicate}
+use lib.ListN.{getD, take, replicate}
 use lib.Dec.{eqb, leb, ltb}
 use Rattle.laws.specs.Lists.{tabulate}
 use Rattle.laws.specs.Over.{overwrite}

@@ -4,7 +4,7 @@ use mathlib.Core.Path.{_≡_, refl}
 use mathlib.Core.List.{List, [], _∷_, _++_}
 use lib.ListN.{replicate}
 use Rattle.laws.specs.Text.{bytes}
-use Rattle.reader.specs.Events.{Next, refusal, finished, lastOf}
+use Rattle.reader.specs.Events.{refusal, finished, lastOf}
 use Rattle.reader.specs.Computing.{computing}
 
 abbrev repeated : ℕ → List ℕ → List ℕ

@@ -9,9 +9,9 @@ use Rattle.laws.specs.Lists.{sameList, any, anyPair, tabulate}
 use Rattle.laws.specs.Gather.{gather}
 use Rattle.lexer.specs.declared.Name.{Name}
 use Rattle.lexer.specs.declared.Attr.{Attr}
-use Rattle.lexer.specs.Attrs.{attrIn, attrsIn}
+use Rattle.lexer.specs.Attrs.{attrIn}
 use Rattle.reader.specs.Spans.{span, bytesOf, prefixSpan, partSpan, hasPrefix, xmlPrefix, xmlnsPrefix, kindOf}
-use Rattle.reader.specs.Namespaces.{binding, declarationsOf, refusedBinding, Namespace, nothing, xml, declared, sameNamespace, sameName}
+use Rattle.reader.specs.Namespaces.{binding, refusedBinding, Namespace, nothing, xml, declared, sameNamespace, sameName}
 use Rattle.reader.specs.declared.Binding.{Binding}
 use Rattle.reader.specs.declared.Kind.{Kind}
 use Rattle.reader.specs.declared.Kind.the-variants.{Plain, Prefixed, Default, Declares}

@@ -27,6 +27,8 @@ use Rattle.model.specs.Elements.{Space, Element, elementOf}
 use Rattle.model.specs.Records.{Body}
 use Rattle.model.specs.Stream.{entriesAt, written, after, HeldStrand}
 use Rattle.model.specs.Dispatch.{dispatch, told}
+use Rattle.model.proofs.Steps.{below-more}
+use Rattle.attributes.proofs.Sorted.{class-few, uri-held}
 use Rattle.strands.specs.Packed.{strandIn}
 use Rattle.sessions.specs.Sessions.{strandCount, strandsIn, levelIn, readerOf, stateOf, withStart}
 use Rattle.sessions.specs.Stepping.{eventPlace, Plan, refused, finished, event, startPlan, ownDeclarations, planBy, planOf}
@@ -34,10 +36,10 @@ use Rattle.sessions.specs.Session.{Session}
 use Rattle.sessions.proofs.Sound.{Fits, Sound, StrandSound}
 use Rattle.sessions.proofs.SoundCoherent.{sound-level}
 use Rattle.sessions.proofs.NewStrands.{newStrands, new-length, new-strands}
-use Rattle.strands.proofs.Packing.{Packable, below-more}
+use Rattle.strands.proofs.Packing.{Packable}
 use Rattle.sessions.proofs.Own.{SpanSmall, BindingSmall}
 use Rattle.sessions.proofs.Views.{Room, state-start, reader-start, fits-start, state-end, reader-end, fits-end, state-place, fits-place}
-use Rattle.sessions.proofs.Spaces.{class-few, space-back, uri-held}
+use Rattle.sessions.proofs.Spaces.{space-back}
 use Rattle.sessions.proofs.Followed.{StartFollowed, followed}
 
 -- "21 depth 65; 22 a 65th open binding; 23 a 17th strand; 24 a unit past 65,535": none of them

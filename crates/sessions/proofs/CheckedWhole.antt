@@ -13,6 +13,7 @@ use lib.Dec.{leb, ltb, eqb}
 use Rattle.laws.specs.Lists.{all}
 use Rattle.laws.specs.Gather.{total}
 use Rattle.laws.specs.Tests.{both}
+use Rattle.laws.proofs.Elementwise.{tested-at, tabulated-all}
 use Rattle.laws.proofs.Flags.{flag-same, and-left, and-right}
 use Rattle.table.specs.Table.{Table}
 use Rattle.reader.specs.declared.Binding.{Binding}
@@ -30,8 +31,7 @@ use Rattle.sessions.specs.Coherence.{openLevels, openBindings, coherent}
 use Rattle.sessions.specs.Checks.{headFits}
 use Rattle.sessions.specs.declared.Head.{Head}
 use Rattle.sessions.specs.Session.{Session}
-use Rattle.sessions.proofs.SoundCoherent.{all-numbers, total-numbers}
-use Rattle.sessions.proofs.CoherentSound.{tested-at}
+use Rattle.sessions.proofs.SoundCoherent.{total-numbers}
 use Rattle.sessions.proofs.Clauses.{Clauses, clauses, all-clauses}
 
 -- ---- tests of all elements that follow from tests of all
@@ -173,7 +173,7 @@ module _ (t : Table) (s : List ℕ) (h : Head) (levels bindings spaces strands :
       both (spanInside s (b .prefix)) _ (and-left (spanInside s (b .prefix)) (spanInside s (b .uri)) f)
       (both (spanInside s (b .uri)) _ (and-right (spanInside s (b .prefix)) (spanInside s (b .uri)) f) g))
       (openBindings z) (c .binding-spans) (two _ _ (openBindings z) (c .allowed) (c .prefixes)))
-      (all-numbers levelTest 0 (h .depth) (λ k l. level-whole k (level-from c k (omega arith))))))
+      (tabulated-all levelTest (λ (k : ℕ). k) 0 (h .depth) (λ k lo hi. level-whole k (level-from c k (omega arith))))))
 
   whole : checks ≡ coherent t s z
   whole = flag-same checks (coherent t s z) said asked

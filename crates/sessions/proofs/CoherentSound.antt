@@ -1,9 +1,9 @@
 -- A coherent session is sound: what number 20 leaves is all that the proofs ask of a session.
---     each-tested, each-tabulated, tested-at     tests of lists, read back
---     levels-each, opens-each                    what holds of each open level
+--     each-tested                  tests of a list, read back
+--     levels-each, opens-each      what holds of each open level
 --     coherent-levels, coherent-held, coherent-sound
 use Prim.Native.Nat.{ℕ, zero, suc, _+_, _-_, _*_, _≤_, _<_}
-use mathlib.Core.Path.{_≡_, refl, sym, ap, ap₂, subst, _∙_}
+use mathlib.Core.Path.{_≡_, sym, ap, ap₂, subst, _∙_}
 use mathlib.Core.List.{List, [], _∷_}
 use mathlib.Core.Bool.{Bool, true, false, not, _&&_, _||_}
 use mathlib.Core.Option.{Option, none, some}
@@ -12,12 +12,11 @@ use native.Mathlib.Omega.{arith}
 use borrow.Author.Tests.{leb-true, ltb-true, eqb-true, eqb-false, not-true}
 use lib.ListN.{length, getD}
 use lib.Dec.{leb, ltb, eqb}
-use Rattle.laws.specs.Reading.{le-or-lt}
-use Rattle.laws.specs.Lists.{all, tabulate}
+use Rattle.laws.specs.Lists.{all}
 use Rattle.laws.specs.Gather.{total}
 use Rattle.laws.specs.Members.{All}
-use Rattle.laws.proofs.Elementwise.{each-map}
-use Rattle.laws.proofs.Flags.{differ, and-left, and-right}
+use Rattle.laws.proofs.Elementwise.{each-map, each-tabulated, tested-at}
+use Rattle.laws.proofs.Flags.{differ, and-left, and-right, either}
 use Rattle.table.specs.Table.{Table}
 use Rattle.table.specs.declared.Action.{Action}
 use Rattle.table.specs.declared.Action.the-variants.{Attach, Unwrap, Validate}
@@ -34,12 +33,12 @@ use Rattle.reader.specs.Held.{Held, SpanHeld, BindingHeld, OpenHeld}
 use Rattle.reader.proofs.Opens.{CountedScope, opens-nil}
 use Rattle.model.specs.Stream.{Level, HeldStrand}
 use Rattle.model.specs.Dispatch.{dispatch}
-use Rattle.strands.proofs.Packing.{Below}
+use Rattle.model.proofs.Steps.{Below, HasTarget}
 use Rattle.sessions.specs.Sessions.{classIn, uriIn, strandCount, strandsIn, levelIn, levelsIn, stateOf, readerOf}
 use Rattle.coherence.specs.Fitting.{spanInside, prefixFits, targetFits, aims}
 use Rattle.sessions.specs.Coherence.{openLevels, openBindings, coherent}
 use Rattle.sessions.specs.Session.{Session}
-use Rattle.sessions.proofs.Sound.{Aims, StrandSound, LevelSound, Sound}
+use Rattle.sessions.proofs.Sound.{StrandSound, LevelSound, Sound}
 use Rattle.sessions.proofs.SoundCoherent.{total-numbers, strands-counted}
 use Rattle.sessions.proofs.Clauses.{Clauses, clauses}
 
@@ -50,18 +49,6 @@ unfolding all
 each-tested P p q r f [] hp hq hr = tt
 each-tested P p q r f (x ∷ l) hp hq hr =
     (f x (and-left (p x) (all p l) hp) (and-left (q x) (all q l) hq) (and-left (r x) (all r l) hr), each-tested P p q r f l (and-right (p x) (all p l) hp) (and-right (q x) (all q l) hq) (and-right (r x) (all r l) hr))
-
-pub each-tabulated : {A : Type 0} (P : A → Type 0) (f : ℕ → A) (i n : ℕ) → ((k : ℕ) → i ≤ k → k < i + n → P (f k)) → All P (tabulate f i n)
-unfolding tabulate
-each-tabulated P f i zero h = tt
-each-tabulated P f i (suc n) h = (h i (omega arith) (omega arith), each-tabulated P f (suc i) n (λ k lo hi. h k (omega arith) (omega arith)))
-
-pub tested-at : {A : Type 0} (p : A → Bool) (f : ℕ → A) (i n : ℕ) → all p (tabulate f i n) ≡ true → (k : ℕ) → i ≤ k → k < i + n → p (f k) ≡ true
-unfolding all tabulate
-tested-at p f i zero e k lo hi = absurd (omega arith)
-tested-at p f i (suc n) e k lo hi =
-    ⊎-elim (λ le. let here : i ≡ k = omega arith in ap (λ (j : ℕ). p (f j)) (sym here) ∙ and-left (p (f i)) (all p (tabulate f (suc i) n)) e)
-    (λ lt. tested-at p f (suc i) n (and-right (p (f i)) (all p (tabulate f (suc i) n)) e) k (omega arith) (omega arith)) (le-or-lt k i)
 
 -- ---- each open level
 module _ (t : Table) (s : List ℕ) (z : Session) (P : Level (dispatch t) → Type 0) where
@@ -87,15 +74,11 @@ below-fits : (units : ℕ) (o : Option ℕ) → targetFits units o ≡ true → 
 below-fits units none e = tt
 below-fits units (some u) e = ltb-true u units e
 
-aims-fits : (a : Action) (o : Option ℕ) → aims a o ≡ true → Aims a o
+aims-fits : (a : Action) (o : Option ℕ) → aims a o ≡ true → HasTarget a o
 aims-fits Attach o e = tt
 aims-fits Unwrap o e = tt
 aims-fits Validate none e = absurd (differ (sym e))
 aims-fits Validate (some u) e = tt
-
-either : (a b : Bool) → (a || b) ≡ true → (a ≡ true) ⊎ (b ≡ true)
-either true b e = inl refl
-either false b e = inr e
 
 class-says : (n class : ℕ) → (leb class n || (eqb class 254 || eqb class 255)) ≡ true → (class ≤ n) ⊎ ((class ≡ 254) ⊎ (class ≡ 255))
 class-says n class e =
@@ -132,7 +115,7 @@ open-held : (s : List ℕ) (o : Open) → NameHeld s (o .name) × All (BindingHe
 open-held s o h = record { behind = h .0 .0; inside = h .0 .1; named = h .0 .2; declarations = h .1 }
 
 module _ (t : Table) (s : List ℕ) (z : Session) (c : Clauses t s z) where
-  at-level : (p : ℕ → Bool) → all p (openLevels z) ≡ true → (k : ℕ) → k < z .scope .depth → p k ≡ true
+  pub at-level : (p : ℕ → Bool) → all p (openLevels z) ≡ true → (k : ℕ) → k < z .scope .depth → p k ≡ true
   at-level p e k l = tested-at p (λ (i : ℕ). i) 0 (z .scope .depth) e k (omega arith) (omega arith)
 
   pub counted : CountedScope (z .scope)
@@ -149,10 +132,10 @@ module _ (t : Table) (s : List ℕ) (z : Session) (c : Clauses t s z) where
         and-right (not (eqb (w .at) 0)) (isWholeName (bytesOf s w)) f,
       )
 
-  at-binding : (p : Binding → Bool) → all p (openBindings z) ≡ true → (k : ℕ) → k < z .scope .bound → p (bindingIn (z .scope .bindings) k) ≡ true
+  pub at-binding : (p : Binding → Bool) → all p (openBindings z) ≡ true → (k : ℕ) → k < z .scope .bound → p (bindingIn (z .scope .bindings) k) ≡ true
   at-binding p e k l = tested-at p (bindingIn (z .scope .bindings)) 0 (z .scope .bound) e k (omega arith) (omega arith)
 
-  binding-held : (k : ℕ) → k < z .scope .bound → BindingHeld s (bindingIn (z .scope .bindings) k)
+  pub binding-held : (k : ℕ) → k < z .scope .bound → BindingHeld s (bindingIn (z .scope .bindings) k)
   binding-held k l =
       binding-says s (bindingIn (z .scope .bindings) k) (at-binding _ (c .binding-spans) k l) (at-binding _ (c .allowed) k l) (at-binding _ (c .prefixes) k l)
 

@@ -27,7 +27,7 @@ use Rattle.lexer.proofs.Inside.{TagInside, TaggedInside, TagReadInside, tag-ins
 use Rattle.reader.specs.declared.Binding.{Binding}
 use Rattle.reader.specs.Spans.{bytesOf, wholeSpan}
 use Rattle.reader.specs.Namespaces.{declarationsOf, refusedBinding, Namespace, ReadAttribute, Meaning, refused, meant, meantBy, meaningOf, ofElement, resolved, sameName, sameExpanded}
-use Rattle.reader.specs.Events.{Start, Event, start, text, end, Open, ReaderState, bindingsOf, Next, event, refusal, finished, partOf, isNil, endRead, startMeant, startRead, textRead, begun, nextBy, next, freshReader, events}
+use Rattle.reader.specs.Events.{Start, Event, start, text, end, Open, ReaderState, bindingsOf, Next, event, refusal, finished, partOf, isNil, endRead, startMeant, startRead, textRead, readAt, nextBy, next, freshReader, events}
 use Rattle.reader.specs.Held.{Held}
 use Rattle.reader.proofs.Declaring.{declared-few, SomeFew, resolved-few}
 use Rattle.reader.proofs.EventsFirst.{event-at, state-held}
@@ -96,7 +96,7 @@ module _ (s : List ℕ) (z : ReaderState) where
       by (refused n) k = tt
       by (meant n as′ own) k = record { own = own; few-own = omega (arith, i .few, k .0); few-attributes = omega (arith, i .few, k .1); part = part-of s (at + 1) (t .name) (tag .name); state = refl }
 
-  begun-followed : false ≡ z .awaited → (b : Begin) → NextFollowed s z (begun s z b)
+  begun-followed : false ≡ z .awaited → (b : Begin) → NextFollowed s z (readAt s z b)
   begun-followed a (begin.Stopped x) = tt
   begun-followed a begin.Finished = tt
   begun-followed a (begin.Text at) = text-followed a at (textEnd s at)

@@ -1,11 +1,11 @@
 -- The strands of an element that starts, with an accepted table and sound levels: there is one, and each has a mode of the table, a target below the
 -- count of units behind the start, and where it validates a target.
 --     entry-modes, new-length, new-some, new-strands
-use Prim.Native.Nat.{ℕ, suc, _≤_, _<_}
+use Prim.Native.Nat.{ℕ, _≤_, _<_}
 use mathlib.Core.Path.{_≡_, refl, ap, _∙_}
 use mathlib.Core.List.{List, [], _∷_, map}
-use mathlib.Core.Bool.{Bool, true, false}
-use mathlib.Core.Option.{Option, none, some}
+use mathlib.Core.Bool.{Bool, true}
+use mathlib.Core.Option.{Option, none}
 use native.Mathlib.Omega.{arith}
 use borrow.Author.Tests.{lt-ltb}
 use lib.ListN.{length, length-map, length-append}
@@ -26,10 +26,8 @@ use Rattle.model.specs.Elements.{Element, sameSpace}
 use Rattle.model.specs.Records.{keptOf}
 use Rattle.model.specs.Stream.{Level, State, Entry, allot, takeRules, entriesAt, entered, after, HeldStrand, heldBeforeRoot, stay, byRule}
 use Rattle.model.specs.Dispatch.{dispatch}
-use Rattle.model.proofs.Lists as model
-use Rattle.model.proofs.Steps as model-steps
-use Rattle.strands.proofs.Packing.{Below}
-use Rattle.sessions.proofs.Sound.{Aims, StrandSound, LevelSound}
+use Rattle.model.proofs.Steps.{StrandOk, LevelOk, allot-length, allot-each, after-coherent}
+use Rattle.sessions.proofs.Sound.{StrandSound, LevelSound}
 
 -- ---- lists
 map-each : {A B : Type 0} (P : A → Type 0) (Q : B → Type 0) (f : A → B) → ((x : A) → P x → Q (f x)) → (l : List A) → All P l → All Q (map f l)
@@ -45,15 +43,6 @@ orElse-some [] q = omega arith
 orElse-some (r ∷ rs) q = omega arith
 
 -- ---- as many as enter
-allot-length : (u : ℕ) (es : List Entry) → length (allot u es) ≡ length es
-allot-length u [] = refl
-allot-length u (e ∷ es) = by (e .strand .mode) (e .strand .action) (e .strand .target) (e .strand .here) (e .schema) (λ v. allot-length v es)
-  where
-    by : (m : ℕ) (c : Action) (t : Option ℕ) (b : Bool) (n : ℕ) → ((v : ℕ) → length (allot v es) ≡ length es)
-        → length (allot u (record { strand = record { mode = m; action = c; target = t; here = b }; schema = n } ∷ es)) ≡ suc (length es)
-    by m c t false n ih = ap suc (ih u)
-    by m c t true n ih = ap suc (ih (suc u))
-
 abbrev pub newStrands : (t : Table) → State (dispatch t) → Element → List (HeldStrand ℕ)
 newStrands t z σ = map (λ (e : Entry). e .strand) (entered (dispatch t) z σ)
 
@@ -64,14 +53,8 @@ new-length t z σ = length-map (entered (dispatch t) z σ) (λ (e : Entry). e .s
 abbrev pub ModeIn : ℕ → Entry → Type 0
 ModeIn modes e = e .strand .mode < modes
 
-pub allot-modes : (modes u : ℕ) (es : List Entry) → All (ModeIn modes) es → All (ModeIn modes) (allot u es)
-allot-modes modes u [] h = tt
-allot-modes modes u (e ∷ es) h = by (e .strand .mode) (e .strand .action) (e .strand .target) (e .strand .here) (e .schema) (h .0) (λ v. allot-modes modes v es (h .1))
-  where
-    by : (m : ℕ) (c : Action) (t : Option ℕ) (b : Bool) (n : ℕ) → m < modes → ((v : ℕ) → All (ModeIn modes) (allot v es))
-        → All (ModeIn modes) (allot u (record { strand = record { mode = m; action = c; target = t; here = b }; schema = n } ∷ es))
-    by m c t false n l ih = (l, ih u)
-    by m c t true n l ih = (l, ih (suc u))
+pub modes-allotted : (modes u : ℕ) (es : List Entry) → All (ModeIn modes) es → All (ModeIn modes) (allot u es)
+modes-allotted modes = allot-each (λ (m : ℕ). m < modes)
 
 rule-mode : (a : Action) (next : ℕ) (o : Option ℕ) → byRule a next none o .mode ≡ next
 rule-mode Attach next o = refl
@@ -79,28 +62,13 @@ rule-mode Unwrap next o = refl
 rule-mode Validate next o = refl
 
 -- ---- what the model says of them
-ok-target : (u : ℕ) (o : Option ℕ) → (Below u o → model-steps.Below u o) × (model-steps.Below u o → Below u o)
-ok-target u none = (λ h. h, λ h. h)
-ok-target u (some v) = (λ h. h, λ h. h)
+ok-levels : (t : Table) (s : List ℕ) (u : ℕ) (ls : List (Level (dispatch t))) → All (LevelSound t s u) ls → All (LevelOk (dispatch t) u) ls
+ok-levels t s u = each-map (LevelSound t s u) (LevelOk (dispatch t) u) (λ l h. each-map (StrandSound t u) (StrandOk u) (λ r k. (k .below, k .aims)) (l .strands) (h .strands))
 
-ok-aims : (a : Action) (o : Option ℕ) → (Aims a o → model-steps.HasTarget a o) × (model-steps.HasTarget a o → Aims a o)
-ok-aims Attach o = (λ h. h, λ h. h)
-ok-aims Unwrap o = (λ h. h, λ h. h)
-ok-aims Validate none = (λ h. h, λ h. h)
-ok-aims Validate (some u) = (λ h. h, λ h. h)
-
-ok-strands : (t : Table) (u : ℕ) (rs : List (HeldStrand ℕ)) → All (StrandSound t u) rs → model.All (model-steps.StrandOk u) rs
-ok-strands t u [] h = tt
-ok-strands t u (r ∷ rs) h = ((ok-target u (r .target) .0 (h .0 .below), ok-aims (r .action) (r .target) .0 (h .0 .aims)), ok-strands t u rs (h .1))
-
-ok-levels : (t : Table) (s : List ℕ) (u : ℕ) (ls : List (Level (dispatch t))) → All (LevelSound t s u) ls → model.All (model-steps.LevelOk (dispatch t) u) ls
-ok-levels t s u [] h = tt
-ok-levels t s u (l ∷ ls) h = (ok-strands t u (l .strands) (h .0 .strands), ok-levels t s u ls (h .1))
-
-strands-ok : (t : Table) (u : ℕ) (rs : List (HeldStrand ℕ)) → All (λ (r : HeldStrand ℕ). r .mode < t .modes) rs → model.All (model-steps.StrandOk u) rs → All (StrandSound t u) rs
+strands-ok : (t : Table) (u : ℕ) (rs : List (HeldStrand ℕ)) → All (λ (r : HeldStrand ℕ). r .mode < t .modes) rs → All (StrandOk u) rs → All (StrandSound t u) rs
 strands-ok t u [] m h = tt
 strands-ok t u (r ∷ rs) m h =
-    (record { mode-in = m .0; below = ok-target u (r .target) .1 (h .0 .0); aims = ok-aims (r .action) (r .target) .1 (h .0 .1) }, strands-ok t u rs (m .1) (h .1))
+    (record { mode-in = m .0; below = h .0 .0; aims = h .0 .1 }, strands-ok t u rs (m .1) (h .1))
 
 module _ (table : List ℕ) (accepted : Accepted table ≡ true) where
   abbrev rules : List Rule
@@ -165,9 +133,9 @@ module _ (table : List ℕ) (accepted : Accepted table ≡ true) where
     pub entry-modes : All (ModeIn (decode table .modes)) (entriesAt (dispatch (decode table)) (z .levels) σ)
     entry-modes = enter-modes (z .levels) σ (each-map _ _ (λ l k. each-map _ _ (λ r m. m .mode-in) (l .strands) (k .strands)) (z .levels) h)
 
-    new-ok : model-steps.LevelOk (dispatch (decode table)) (after (dispatch (decode table)) z (start σ) .units) (record { at = keptOf σ; strands = newStrands (decode table) z σ })
+    new-ok : LevelOk (dispatch (decode table)) (after (dispatch (decode table)) z (start σ) .units) (record { at = keptOf σ; strands = newStrands (decode table) z σ })
     unfolding after
-    new-ok = model-steps.after-coherent (dispatch (decode table)) z (start σ) (ok-levels (decode table) s (z .units) (z .levels) h) .0
+    new-ok = after-coherent (dispatch (decode table)) z (start σ) (ok-levels (decode table) s (z .units) (z .levels) h) .0
 
     pub new-some : 1 ≤ length (newStrands (decode table) z σ)
     new-some = omega (arith, new-length (decode table) z σ, enter-some s (z .units) (z .levels) σ h)
@@ -176,5 +144,5 @@ module _ (table : List ℕ) (accepted : Accepted table ≡ true) where
     new-strands =
         strands-ok (decode table) _ (newStrands (decode table) z σ)
         (map-each (ModeIn (decode table .modes)) (λ (r : HeldStrand ℕ). r .mode < decode table .modes) (λ (e : Entry). e .strand) (λ e k. k) (entered (dispatch (decode table)) z σ)
-        (allot-modes (decode table .modes) _ (entriesAt (dispatch (decode table)) (z .levels) σ) entry-modes))
+        (modes-allotted (decode table .modes) _ (entriesAt (dispatch (decode table)) (z .levels) σ) entry-modes))
         new-ok

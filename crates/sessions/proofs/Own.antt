@@ -15,6 +15,7 @@ use Rattle.reader.specs.declared.Binding.{Binding}
 use Rattle.reader.specs.declared.Scope.{Scope}
 use Rattle.reader.specs.Stored.{bindingIn, bindingNumbers}
 use Rattle.reader.specs.Scope.{withLevel, opensOf}
+use Rattle.reader.proofs.Laying.{four-long}
 use Rattle.reader.proofs.Opens.{CountedScope, binding-same, binding-before, binding-own, open-counted, open-opens, open-lengths}
 
 -- what 32 bits hold
@@ -25,11 +26,6 @@ pub record SpanSmall (w : Span) : Type 0 where
 pub record BindingSmall (b : Binding) : Type 0 where
   pub prefix : SpanSmall (b .prefix)
   pub uri : SpanSmall (b .uri)
-
-numbers-long : (own : List Binding) → length (gather bindingNumbers own) ≡ 4 * length own
-unfolding gather
-numbers-long [] = refl
-numbers-long (b ∷ own) = omega (arith, numbers-long own)
 
 -- a binding whose numbers stand at its place
 module _ (l : List ℕ) (k : ℕ) (b : Binding) (rest : List ℕ) (e : drop (4 * k) l ≡ bindingNumbers b ++ rest) (h : BindingSmall b) where
@@ -70,11 +66,11 @@ module _ (sc : Scope) (name : Span) (own : List Binding) where
   opened = withLevel sc name (gather bindingNumbers own) (length own)
 
   as-padded : opened ≡ withLevel sc name (padded own) (length own)
-  as-padded = rw (take-append-le (4 * length own) (gather bindingNumbers own) (replicate (64 - 4 * length own) 0) (omega (arith, numbers-long own)))
+  as-padded = rw (take-append-le (4 * length own) (gather bindingNumbers own) (replicate (64 - 4 * length own) 0) (omega (arith, four-long own)))
 
   padded-long : length own ≤ 16 → length (padded own) ≡ 64
   padded-long few =
-      omega (arith, length-append (gather bindingNumbers own) (replicate (64 - 4 * length own) 0), numbers-long own, length-replicate {A = ℕ} (64 - 4 * length own) 0)
+      omega (arith, length-append (gather bindingNumbers own) (replicate (64 - 4 * length own) 0), four-long own, length-replicate {A = ℕ} (64 - 4 * length own) 0)
 
   module _ (few : length own ≤ 16) (lb : length (sc .bindings) ≡ 256) (b : sc .bound + length own ≤ 64) where
     -- the bindings that were open, and behind them the tag's own, as an array that begins with their numbers has them
@@ -86,7 +82,7 @@ module _ (sc : Scope) (name : Span) (own : List Binding) where
         ap (λ (x : Scope). bindingIn (x .bindings) (sc .bound + k)) as-padded
         ∙ binding-own sc name (padded own) (length own) lb (padded-long few) few b k l
         ∙ binding-same (padded own) array k k (λ j m.
-        List·getD-append (gather bindingNumbers own) (replicate (64 - 4 * length own) 0) 0 (4 * k + j) (omega (arith, numbers-long own))
+        List·getD-append (gather bindingNumbers own) (replicate (64 - 4 * length own) 0) 0 (4 * k + j) (omega (arith, four-long own))
         ∙ ap (λ (x : List ℕ). getD x (4 * k + j) 0) (sym e)
         ∙ getD-take (4 * length own) array (4 * k + j) 0 (omega arith))
 

@@ -1,6 +1,6 @@
 -- Every step's records have room in the output, which keeps its length, and it is one event at most: none, and no record, where its number is not 0.
 use Prim.Native.Nat.{ℕ, _*_, _≤_}
-use mathlib.Core.Path.{_≡_, refl, sym, subst}
+use mathlib.Core.Path.{_≡_, refl}
 use mathlib.Core.List.{List, [], _∷_}
 use mathlib.Core.Bool.{not}
 use native.Mathlib.Omega.{arith}

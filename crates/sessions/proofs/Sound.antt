@@ -3,17 +3,14 @@ use Prim.Native.Nat.{ℕ, _≤_, _<_}
 use mathlib.Core.Path.{_≡_}
 use mathlib.Core.List.{List}
 use mathlib.Core.Logic.{_⊎_}
-use mathlib.Core.Option.{Option, none, some}
 use lib.ListN.{length}
 use Rattle.laws.specs.Members.{All}
 use Rattle.table.specs.Table.{Table}
-use Rattle.table.specs.declared.Action.{Action}
-use Rattle.table.specs.declared.Action.the-variants.{Attach, Unwrap, Validate}
 use Rattle.reader.specs.Held.{Held, SpanHeld}
 use Rattle.reader.proofs.Opens.{CountedScope}
 use Rattle.model.specs.Stream.{Level, HeldStrand}
 use Rattle.model.specs.Dispatch.{dispatch}
-use Rattle.strands.proofs.Packing.{Below}
+use Rattle.model.proofs.Steps.{Below, HasTarget}
 use Rattle.sessions.specs.Sessions.{readerOf, stateOf}
 use Rattle.sessions.specs.Session.{Session}
 
@@ -26,17 +23,10 @@ pub record Fits (z : Session) : Type 0 where
   pub shallow : z .scope .depth ≤ 64
   pub few : z .scope .bound ≤ 64
 
--- "a validate strand" has a target
-abbrev pub Aims : Action → Option ℕ → Type 0
-Aims Attach target = Unit {0}
-Aims Unwrap target = Unit {0}
-Aims Validate none = ⊥
-Aims Validate (some u) = Unit {0}
-
 pub record StrandSound (t : Table) (units : ℕ) (r : HeldStrand ℕ) : Type 0 where
   pub mode-in : r .mode < t .modes
   pub below : Below units (r .target)
-  pub aims : Aims (r .action) (r .target)
+  pub aims : HasTarget (r .action) (r .target)
 
 pub record LevelSound (t : Table) (s : List ℕ) (units : ℕ) (l : Level (dispatch t)) : Type 0 where
   pub some-strand : 1 ≤ length (l .strands)

@@ -1,5 +1,4 @@
 -- A sound session is coherent: number 20 says nothing against it.
---     all-each, all-numbers        a test passed by each element, by each number below another
 --     total-numbers                the levels' counts added up
 --     level-at, open-at            what holds of all open levels, at one of them
 --     sound-level, sound-name      the same of a sound session
@@ -23,7 +22,7 @@ use Rattle.laws.specs.Members.{All}
 use Rattle.laws.specs.Tests.{both, left, right}
 use Rattle.laws.proofs.Lists.{length-tabulate}
 use Rattle.laws.proofs.Gather.{total-append}
-use Rattle.laws.proofs.Elementwise.{each-append}
+use Rattle.laws.proofs.Elementwise.{each-map, each-append, tabulated-all, all-each}
 use Rattle.table.specs.Table.{Table}
 use Rattle.table.specs.declared.Action.{Action}
 use Rattle.table.specs.declared.Action.the-variants.{Attach, Unwrap, Validate}
@@ -45,21 +44,10 @@ use Rattle.sessions.specs.Sessions.{classIn, uriIn, strandCount, strands
 use Rattle.coherence.specs.Fitting.{spanInside, prefixFits, targetFits, aims}
 use Rattle.sessions.specs.Coherence.{openLevels, openBindings, coherent}
 use Rattle.sessions.specs.Session.{Session}
-use Rattle.strands.proofs.Packing.{Below}
-use Rattle.sessions.proofs.Sound.{Aims, StrandSound, LevelSound, Sound}
+use Rattle.model.proofs.Steps.{Below, HasTarget}
+use Rattle.sessions.proofs.Sound.{StrandSound, LevelSound, Sound}
 
--- ---- tests of lists
-pub all-each : {A : Type 0} (P : A → Type 0) (p : A → Bool) → ((x : A) → P x → p x ≡ true) → (l : List A) → All P l → all p l ≡ true
-unfolding all
-all-each P p f [] h = refl
-all-each P p f (x ∷ l) h = both (p x) (all p l) (f x (h .0)) (all-each P p f l (h .1))
-
-pub all-numbers : (p : ℕ → Bool) (i n : ℕ) → ((k : ℕ) → k < i + n → p k ≡ true) → all p (tabulate (λ (k : ℕ). k) i n) ≡ true
-unfolding all tabulate
-all-numbers p i zero h = refl
-all-numbers p i (suc n) h =
-    both (p i) (all p (tabulate (λ (k : ℕ). k) (suc i) n)) (h i (omega arith)) (all-numbers p (suc i) n (λ k l. h k (omega arith)))
-
+-- ---- counts
 pub total-numbers : (levels : List ℕ) (n : ℕ) → total (λ (k : ℕ). getD levels (3 * k + 2) 0) (tabulate (λ (k : ℕ). k) 0 n) ≡ countOf levels n
 unfolding total tabulate countOf
 total-numbers levels zero = refl
@@ -102,7 +90,7 @@ target-fits : (units : ℕ) (o : Option ℕ) → Below units o → targetFits un
 target-fits units none h = refl
 target-fits units (some u) h = lt-ltb u units h
 
-aims-so : (a : Action) (o : Option ℕ) → Aims a o → aims a o ≡ true
+aims-so : (a : Action) (o : Option ℕ) → HasTarget a o → aims a o ≡ true
 aims-so Attach o h = refl
 aims-so Unwrap o h = refl
 aims-so Validate none h = absurd h
@@ -138,15 +126,15 @@ module _ (t : Table) (s : List ℕ) (z : Session) (h : Sound t s z) where
   sound-name k l = open-at (z .scope .levels) (z .scope .bindings) (OpenHeld s) (z .scope .depth) (z .scope .bound) k l (h .held .opened)
 
   each-level : (p : ℕ → Bool) → ((k : ℕ) → k < z .scope .depth → p k ≡ true) → all p (openLevels z) ≡ true
-  each-level p f = all-numbers p 0 (z .scope .depth) (λ k l. f k (omega arith))
+  each-level p f = tabulated-all p (λ (k : ℕ). k) 0 (z .scope .depth) (λ k lo hi. f k (omega arith))
 
   by-strand : (p : HeldStrand ℕ → Bool) → ((r : HeldStrand ℕ) → StrandSound t (z .units) r → p r ≡ true) → all (λ (k : ℕ). all p (strandsIn z k)) (openLevels z) ≡ true
   unfolding levelIn
-  by-strand p f = each-level (λ (k : ℕ). all p (strandsIn z k)) (λ k l. all-each (StrandSound t (z .units)) p f (strandsIn z k) (sound-level k l .strands))
+  by-strand p f = each-level (λ (k : ℕ). all p (strandsIn z k)) (λ k l. all-each p (strandsIn z k) (each-map _ _ f (strandsIn z k) (sound-level k l .strands)))
 
   by-binding : (p : Binding → Bool) → ((b : Binding) → BindingHeld s b → p b ≡ true) → all p (openBindings z) ≡ true
   by-binding p f =
-      all-each (BindingHeld s) p f (openBindings z) (subst (All (BindingHeld s)) (opens-bindings (z .scope) (h .fits .counted)) (bindings-held s (opensOf (z .scope)) (h .held .opened)))
+      all-each p (openBindings z) (each-map _ _ f (openBindings z) (subst (All (BindingHeld s)) (opens-bindings (z .scope) (h .fits .counted)) (bindings-held s (opensOf (z .scope)) (h .held .opened))))
 
   counts : eqb (total (countIn (z .scope)) (openLevels z)) (z .scope .bound) ≡ true
   counts = eq-eqb (total (countIn (z .scope)) (openLevels z)) (z .scope .bound) (total-numbers (z .scope .levels) (z .scope .depth) ∙ h .fits .counted)

@@ -5,7 +5,7 @@ use Prim.Native.Nat.{ℕ, _+_, _*_, _≤_}
 use mathlib.Core.Path.{_≡_, refl, sym, ap, subst}
 use mathlib.Core.List.{List, [], _∷_, tail}
 use mathlib.Core.Bool.{Bool, true, false, cond}
-use mathlib.Core.Option.{Option, none, some}
+use mathlib.Core.Option.{some}
 use native.Mathlib.Omega.{arith}
 use lib.ListN.{length}
 use borrow.Author.Tests.{ltb-false}
@@ -24,23 +24,20 @@ use Rattle.model.specs.Elements.{elementOf}
 use Rattle.model.specs.Records.{Body, keptOf}
 use Rattle.model.specs.Stream.{Level, State, entriesAt, after}
 use Rattle.model.specs.Dispatch.{dispatch, told}
+use Rattle.model.proofs.Steps.{below-more}
+use Rattle.attributes.proofs.Sorted.{uri-held}
 use Rattle.sessions.specs.Sessions.{readerOf, stateOf}
 use Rattle.reader.specs.declared.Binding.{Binding}
 use Rattle.sessions.specs.Stepping.{Plan, refused, finished, event, startPlan, planBy, planOf, Step, planned, longest, stepOf}
 use Rattle.sessions.specs.Session.{Session}
-use Rattle.strands.proofs.Packing.{Below}
 use Rattle.sessions.proofs.Sound.{StrandSound, LevelSound, Sound}
-use Rattle.sessions.proofs.Spaces.{class-bounds, uri-held}
+use Rattle.sessions.proofs.Spaces.{class-bounds}
 use Rattle.sessions.proofs.SoundCoherent.{sound-coherent}
 use Rattle.sessions.proofs.Followed.{followed}
 use Rattle.sessions.proofs.Behind.{OpenLimits, Limits, behind}
 use Rattle.sessions.proofs.NewStrands.{newStrands, new-length, new-some, new-strands}
 
 -- ---- more units
-below-units : (u v : ℕ) (o : Option ℕ) → u ≤ v → Below u o → Below v o
-below-units u v none h b = tt
-below-units u v (some w) h b = omega arith
-
 level-units : (t : Table) (s : List ℕ) (u v : ℕ) → u ≤ v → (l : Level (dispatch t)) → LevelSound t s u l → LevelSound t s v l
 level-units t s u v le l h =
     record {
@@ -49,7 +46,7 @@ level-units t s u v le l h =
       class-in = h .class-in;
       uri-inside = h .uri-inside;
       strands =
-          each-map (StrandSound t u) (StrandSound t v) (λ r k. record { mode-in = k .mode-in; below = below-units u v (r .target) le (k .below); aims = k .aims }) (l .strands) (h .strands);
+          each-map (StrandSound t u) (StrandSound t v) (λ r k. record { mode-in = k .mode-in; below = below-more u v (r .target) le (k .below); aims = k .aims }) (l .strands) (h .strands);
     }
 
 -- ---- the levels behind an event

@@ -10,7 +10,6 @@ use lib.ListN.{length}
 use lib.Dec.{eqb}
 use Rattle.laws.specs.Lists.{sameList}
 use Rattle.laws.specs.Reading.{le-or-lt}
-use Rattle.laws.proofs.Holds.{holds-cond}
 use Rattle.compare.specs.Compare.{xmlUri}
 use Rattle.compare.proofs.Equal.{same-eq}
 use Rattle.table.specs.Table.{Table, headerOf, decode, listedFrom, classOf}
@@ -19,8 +18,6 @@ use Rattle.table.proofs.Accepted.{header-in, all-listed}
 use Rattle.table.proofs.Namespaces.{listed-of-class, class-in, class-nil, class-xml}
 use Rattle.reader.specs.Spans.{bytesOf}
 use Rattle.reader.specs.Namespaces.{Namespace, nothing, xml, declared, uriOf}
-use Rattle.reader.specs.Held.{SpanHeld}
-use Rattle.reader.proofs.TagMeaning.{NamespaceHeld}
 use Rattle.model.specs.Elements.{uriSpan, spaceOf}
 use Rattle.sessions.specs.Sessions.{levelUri}
 
@@ -69,9 +66,6 @@ module _ (table : List ℕ) (a : Accepted table ≡ true) where
     unfolding spaceOf
     class-bounds n = ⊎-elim (λ l. inl (omega (arith, all-listed table a))) (λ r. inr r) (class-in table a (uriOf s n))
 
-    pub class-few : (n : Namespace) → spaceOf t s n .class ≤ 255
-    class-few n = ⊎-elim (λ l. omega (arith, few)) (λ r. ⊎-elim (λ e. omega arith) (λ e. omega arith) r) (class-bounds n)
-
     -- an unlisted URI is a declared one
     unlisted : (n : Namespace) → classOf t (uriOf s n) ≡ 255 → bytesOf s (uriSpan n) ≡ uriOf s n
     unlisted nothing e = absurd (omega (arith, class-nil t))
@@ -107,12 +101,3 @@ module _ (table : List ℕ) (a : Accepted table ≡ true) where
     pub space-back : (n : Namespace) → record { class = spaceOf t s n .class; uri = spaceOf t s n .uri; bytes = levelUri t s (spaceOf t s n .class) (spaceOf t s n .uri) } ≡ spaceOf t s n
     unfolding spaceOf
     space-back n = ap (λ (bytes : List ℕ). record { class = spaceOf t s n .class; uri = spaceOf t s n .uri; bytes = bytes }) (uri-back n)
-
-pub uri-held : (t : Table) (s : List ℕ) (n : Namespace) → NamespaceHeld s n → SpanHeld s (spaceOf t s n .uri)
-unfolding spaceOf
-uri-held t s n h = holds-cond (SpanHeld s) (eqb (classOf t (uriOf s n)) 255) (λ e. by n h) (λ e. omega arith)
-  where
-    by : (m : Namespace) → NamespaceHeld s m → SpanHeld s (uriSpan m)
-    by nothing k = omega arith
-    by xml k = omega arith
-    by (declared w) k = k

@@ -25,12 +25,13 @@ use Rattle.reader.specs.Held.{SpanHeld}
 use Rattle.reader.specs.declared.Span.{Span}
 use Rattle.reader.proofs.TagMeaning.{NamespaceHeld}
 use Rattle.model.specs.Elements.{spaceOf}
+use Rattle.attributes.proofs.Sorted.{uri-held}
 use Rattle.sessions.specs.Sessions.{levelUri}
 use Rattle.uris.specs.Uris.{stands, uriSpanOf, sliceOf, uriPart}
 use Rattle.uris.specs.declared.UriSpan.{UriSpan}
 use Rattle.uris.specs.declared.Source.{Source}
 use Rattle.uris.specs.declared.Source.the-variants.{Table, Scene}
-use Rattle.sessions.proofs.Spaces.{class-bounds, uri-back, uri-held}
+use Rattle.sessions.proofs.Spaces.{class-bounds, uri-back}
 use Rattle.uris.proofs.UriSpans.{listed-class, in-scene, nowhere}
 
 -- ---- inside

@@ -9,7 +9,7 @@ use Rattle.laws.specs.Text.{bytes}
 use Rattle.table.specs.Table.{Table, standard, decode}
 use Rattle.table.specs.Examples.{T}
 use Rattle.model.specs.Rows.{row}
-use Rattle.sessions.specs.Sessions.{freshOf}
+use Rattle.sessions.specs.Sessions.{freshOf, sessionOf}
 use Rattle.sessions.specs.Coherence.{depthFits, boundFits, placeInside, levelSpansInside, bindingSpansInside, namesFit, bindingsAllowed, prefixesFit, strandCountsFit, modesFit, classesFit, targetsFit, validatesAim, unitsFit, countsAddUp, awaitedFits, closedFits, coherent}
 use Rattle.sessions.specs.Stepping.{answered, refusedStep, stepOf}
 use Rattle.sessions.specs.Session.{Session}
@@ -32,16 +32,7 @@ abbrev strands : List ℕ
 strands = 449 ∷ replicate 1023 0
 
 abbrev made : ℕ → ℕ → Bool → Bool → ℕ → ℕ → List ℕ → List ℕ → List ℕ → List ℕ → Session
-made place units closed awaited depth bound levels bindings spaces strands =
-    record {
-      place = place;
-      units = units;
-      closed = closed;
-      awaited = awaited;
-      scope = record { depth = depth; bound = bound; levels = levels; bindings = bindings };
-      spaces = spaces;
-      strands = strands;
-    }
+made place units closed awaited depth bound = sessionOf (record { place = place; units = units; closed = closed; awaited = awaited; depth = depth; bound = bound })
 
 -- that session at another place; with another name and count of bindings; binding; class, URI span and count of strands; first strand
 abbrev placedAt : ℕ → Session

@@ -1,4 +1,4 @@
--- "A session holds ..": the numbers in which it does. The session type of the calls holds the same (`held` in dispatcher). A definition.
+-- "A session holds ..": the numbers in which it does. The session type of the calls holds the same (`heldBy` in dispatcher). A definition.
 use Prim.Native.Nat.{ℕ}
 use mathlib.Core.List.{List}
 use mathlib.Core.Bool.{Bool}

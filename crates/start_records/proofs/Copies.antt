@@ -25,7 +25,7 @@ use Rattle.laws.specs.Over.{overwrite}
 use Rattle.laws.specs.Reading.{le-or-lt}
 use Rattle.laws.proofs.Lists.{length-tabulate}
 use Rattle.laws.proofs.Gather.{gather-append}
-use Rattle.laws.proofs.Over.{set-over, getD-over-in}
+use Rattle.laws.proofs.Over.{set-over, four-set, getD-over-in}
 use Rattle.reader.proofs.Tabulated.{tabulate-append}
 use Rattle.reader.specs.Spans.{span}
 use Rattle.model.specs.Theory.{holds, Record}
@@ -62,13 +62,6 @@ First v kind class at len = (uriAt uriLen : ℕ) → v ≡ firstWord (record { k
 abbrev Last : ℕ → ℕ → ℕ → ℕ → Type 0
 Last v len uriAt uriLen = (kind class at : ℕ) → v ≡ lastWord (record { kind = kind; class = class; at = at; len = len; uriAt = uriAt; uriLen = uriLen })
 
-stores4 : (rows : List ℕ) (at a b c d : ℕ) → at + 4 ≤ length rows → set (set (set (set rows at a) (at + 1) b) (at + 2) c) (at + 3) d ≡ overwrite rows at (a ∷ b ∷ c ∷ d ∷ [])
-stores4 rows at a b c d h =
-    let s1 = set-over rows at a (omega arith) in
-    let s2 = stored rows at _ (a ∷ []) 1 b s1 refl (omega arith) in
-    let s3 = stored rows at _ (a ∷ b ∷ []) 2 c s2 refl (omega arith) in
-    stored rows at _ (a ∷ b ∷ c ∷ []) 3 d s3 refl (omega arith)
-
 pub attribute-laid : (attributes sections : List ℕ) (k : ℕ) (rows : List ℕ) (class a b c d : ℕ) → 4 * k + 2 + 4 ≤ length rows → class ≡ sortedIn attributes sections k .class
     → First a 2 class (getD attributes (8 * k) 0) (getD attributes (8 * k + 1) 0)
     → Last b (getD attributes (8 * k + 1) 0) (getD attributes (8 * k + 5) 0) (getD attributes (8 * k + 6) 0)
@@ -81,7 +74,7 @@ attribute-laid attributes sections k rows class a b c d h e fa lb fc ld =
     let eb = lb 2 (getD attributes (8 * k + 4) 0 % 2 ^ 8) (getD attributes (8 * k) 0) in
     let ec = fc 0 0 in
     let ed = ld 3 0 (getD attributes (8 * k + 2) 0) in
-    stores4 rows (4 * k + 2) a b c d h ∙ ap (overwrite rows (4 * k + 2)) (cc (e, ea, eb, ec, ed))
+    four-set rows (4 * k + 2) a b c d h ∙ ap (overwrite rows (4 * k + 2)) (cc (e, ea, eb, ec, ed))
 
 -- those of the start and of the first k attributes
 abbrev pub laidWords : Body → List ℕ → List ℕ → ℕ → List ℕ

@@ -1,6 +1,8 @@
 // The attribute units of a start, each from open to close.
 use attributes::HELD;
 use attributes::sections::section_at;
+use index::choose;
+use index::next_rule;
 use records::Row;
 use records::put_row;
 use records::put_row_if;
@@ -9,8 +11,6 @@ use strands::counts::section_class;
 use strands::events::plain_row;
 use strands::packed::mode_of;
 use table::Action;
-use table::index::choose;
-use table::index::next_rule;
 use table::words::rule_of;
 ghost use mathlib.Core.Path.{_≡_};
 ghost use mathlib.Core.List.{List, [], map};

@@ -21,19 +21,21 @@ use Rattle.model.specs.Stream.{Entry, State, allot, entriesAt, unitsOf, entered
 use Rattle.model.specs.Elements.{Element, elementOf}
 use Rattle.model.specs.Groups.{groupsOf}
 use Rattle.model.specs.Dispatch.{dispatch}
+use Rattle.model.proofs.Steps.{allot-length}
 use Rattle.strands.specs.Entries.{strandWord, schemaWord, hereCount, Unnumbered, entriesIn}
 use Rattle.attributes.specs.Attributes.{Sorted, allSorted}
 use Rattle.strands.specs.Writing.{elementCount}
 use Rattle.strands.proofs.Numbered.{allOf}
-use Rattle.entries.proofs.Entered.{SchemaSmall, EntryPackable, here-count, entries-back, allot-schemas, allot-length, allot-packable}
+use Rattle.entries.proofs.Laying.{counted-few, counted-many}
+use Rattle.entries.proofs.Entered.{SchemaSmall, EntryPackable, here-count, entries-back, allot-schemas, allot-packable}
 use Rattle.sessions.specs.Sessions.{stateOf}
 use Rattle.openings.specs.Openings.{onlyNumber}
 use Rattle.sessions.specs.Turns.{Made, DecidedAs, decidedNumber}
 use Rattle.sessions.specs.Session.{Session}
 use Rattle.openings.specs.declared.Decided.{Decided}
 use Rattle.openings.proofs.Deciding.{Entering, wordsOf, loadUnits, loadRecords, Weighed}
-use Rattle.sessions.proofs.NewStrands.{ModeIn, allot-modes}
-use Rattle.starts.proofs.StartCounts.{many, few, not-heavy, words-back, taken-back, small-at, units-after, written-length, units-loaded, records-loaded, element-records}
+use Rattle.sessions.proofs.NewStrands.{ModeIn, modes-allotted}
+use Rattle.starts.proofs.StartCounts.{not-heavy, words-back, taken-back, small-at, units-after, written-length, units-loaded, records-loaded, element-records}
 
 module _ (table : List ℕ) (a : Accepted table ≡ true) (s : List ℕ) (z : Session) (e : Start) where
   abbrev t : Table
@@ -63,7 +65,7 @@ module _ (table : List ℕ) (a : Accepted table ≡ true) (s : List ℕ) (z : Se
       → DecidedAs (decode table) s z (elementOf (decode table) s e) r words schemas attributes sections
   decided-many words₀ schemas₀ words schemas attributes sections count r en h q =
       let k : r .number ≡ 23 = ap (λ (d : Decided). d .number) q in
-      let d : decidedNumber t s z σ ≡ 23 = rw (lt-ltb 16 (length es) (many (length es) count (en .0) h)) in
+      let d : decidedNumber t s z σ ≡ 23 = rw (lt-ltb 16 (length es) (counted-many (length es) count (en .0) h)) in
       record { number-is = k ∙ sym d; made = λ y. absurd (omega arith) }
 
   -- ---- the others
@@ -78,7 +80,7 @@ module _ (table : List ℕ) (a : Accepted table ≡ true) (s : List ℕ) (z : Se
       (sorted : allSorted attributes sections k ≡ allOf (elementOf (decode table) s e)) (sections-are : j ≡ length (groupsOf (elementOf (decode table) s e)))
       (weighed : Weighed (indexOf table (headerOf table)) (allSorted attributes sections k) k j count (z .units) words₁ words r) where
     count-is : count ≡ length es
-    count-is = few (length es) count (en .0) few-strands
+    count-is = counted-few (length es) count (en .0) few-strands .1
 
     words-laid : words₁ ≡ overwrite words₀ 0 (map strandWord es)
     words-laid = en .1 (omega (arith, count-is))
@@ -148,7 +150,7 @@ module _ (table : List ℕ) (a : Accepted table ≡ true) (s : List ℕ) (z : Se
           weighed .2 y schemas
           ∙ ap₂ _+_
           (ap₂ (λ (l : List Sorted) (i : ℕ). loadRecords index l i (wordsOf words₁ count)) sorted sections-are ∙ ap (loadRecords index (allOf σ) m) all-words ∙ records-loaded table a s z e modes pack)
-          (ap₂ (λ (l : List Sorted) (xs : List Entry). total (elementCount index l) xs) sorted new-entries ∙ element-records table a s z e new (allot-modes (t .modes) base es modes))
+          (ap₂ (λ (l : List Sorted) (xs : List Entry). total (elementCount index l) xs) sorted new-entries ∙ element-records table a s z e new (modes-allotted (t .modes) base es modes))
           ∙ sym (written-length table a s z e)
 
       units-are : r .units ≡ after (dispatch t) state (start σ) .units

@@ -5,12 +5,12 @@
 use Prim.Native.Nat.{ℕ, zero, suc, _+_, _-_, _≤_, _<_}
 use mathlib.Core.Path.{_≡_, refl, sym, ap, _∙_}
 use mathlib.Core.List.{List, [], map}
-use mathlib.Core.Bool.{Bool, true, false, cond, _||_}
-use mathlib.Core.Logic.{_⊎_, inl, inr, ⊎-elim}
+use mathlib.Core.Bool.{Bool, true, false, cond}
+use mathlib.Core.Logic.{_⊎_, ⊎-elim}
 use native.Mathlib.Omega.{arith}
-use borrow.Author.Tests.{eqb-true, eq-eqb, ne-eqb, leb-true}
+use borrow.Author.Tests.{eqb-true, eq-eqb, ne-eqb}
 use lib.ListN.{length}
-use lib.Dec.{eqb, leb}
+use lib.Dec.{eqb}
 use Rattle.laws.specs.Lists.{sameList}
 use Rattle.laws.specs.Members.{All}
 use Rattle.laws.specs.Reading.{le-or-lt}
@@ -30,6 +30,7 @@ use Rattle.model.specs.Elements.{Element, Space, spaceOf, sameSpace}
 use Rattle.model.specs.Stream.{Entry, entriesAt}
 use Rattle.model.specs.Dispatch.{dispatch}
 use Rattle.model.proofs.Lists.{all-unmap}
+use Rattle.attributes.proofs.Sorted.{class-few}
 use Rattle.strands.specs.Packed.{strandIn}
 use Rattle.strands.specs.Entries.{entriesBy, entriesFrom, stayEntry, Unnumbered}
 use Rattle.entries.proofs.Entered.{before-root, take-rules-are, stay-are, SchemaSmall, EntryPackable, unnumbered-by, unnumbered-from, unnumbered-stay, schemas-by, schemas-from, schemas-stay, packable-by, packable-from, packable-stay}
@@ -38,8 +39,8 @@ use Rattle.sessions.specs.Coherence.{coherent}
 use Rattle.sessions.specs.Session.{Session}
 use Rattle.sessions.proofs.Sound.{StrandSound}
 use Rattle.sessions.proofs.Clauses.{clauses}
-use Rattle.sessions.proofs.CoherentSound.{tested-at, level-sound}
-use Rattle.sessions.proofs.Spaces.{uri-back, class-few}
+use Rattle.sessions.proofs.CoherentSound.{level-sound}
+use Rattle.sessions.proofs.Spaces.{uri-back}
 use Rattle.openings.proofs.Deciding.{joinedBy, levelWords, nextEntries}
 
 -- ---- whether the element stays in its parent's section
@@ -106,16 +107,6 @@ module _ (table : List ℕ) (a : Accepted table ≡ true) (s : List ℕ) where
       by false q = same (λ e. differ (sym (q ∙ eq-eqb class 255 e))) (sameList (levelUri t s class w) (uriOf s n)) refl
 
 -- ---- the strands
-either : (a b : Bool) → (a || b) ≡ true → (a ≡ true) ⊎ (b ≡ true)
-either true b e = inl refl
-either false b e = inr e
-
-class-says : (n class : ℕ) → (leb class n || (eqb class 254 || eqb class 255)) ≡ true → (class ≤ n) ⊎ ((class ≡ 254) ⊎ (class ≡ 255))
-class-says n class e =
-    ⊎-elim (λ l. inl (leb-true class n l))
-    (λ m. inr (⊎-elim (λ f. inl (eqb-true class 254 f)) (λ f. inr (eqb-true class 255 f)) (either (eqb class 254) (eqb class 255) m)))
-    (either (leb class n) (eqb class 254 || eqb class 255) e)
-
 cond-same : {A : Type 0} (a b : Bool) (x x′ y y′ : A) → a ≡ b → x ≡ x′ → y ≡ y′ → cond a x y ≡ cond b x′ y′
 cond-same a b x x′ y y′ p q r = rw (p, q, r)
 
@@ -142,9 +133,8 @@ module _ (table : List ℕ) (a : Accepted table ≡ true) (s : List ℕ) (z : Se
   few-classes = omega (arith, class-is, class-few table a s n)
 
   level-in : (k : ℕ) → k < z .scope .depth → ClassIn (decode table) (classIn z k)
-  level-in k l =
-      class-says (length (decode table .uris)) (classIn z k)
-      (tested-at (λ (i : ℕ). leb (classIn z i) (length (decode table .uris)) || (eqb (classIn z i) 254 || eqb (classIn z i) 255)) (λ (i : ℕ). i) 0 (z .scope .depth) (clauses (decode table) s z ok .classes) k (omega arith) (omega arith))
+  unfolding levelIn
+  level-in k l = level-sound (decode table) s z (clauses (decode table) s z ok) k l .class-in
 
   joins : (k : ℕ) → k < z .scope .depth
       → joinedBy s (uriOf s n) (z .spaces) class k ≡ sameSpace (levelIn (decode table) s z k .at .space) (σ .space)

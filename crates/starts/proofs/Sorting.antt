@@ -6,21 +6,19 @@ use mathlib.Core.Path.{_≡_, ap, ap₂, _∙_}
 use mathlib.Core.List.{List, [], _∷_, map}
 use mathlib.Core.Bool.{Bool, true, false, cond}
 use native.Mathlib.Omega.{arith}
-use lib.Dec.{eqb}
 use lib.ListN.{length, length-map}
 use Rattle.laws.specs.Lists.{keep, tabulate}
 use Rattle.laws.specs.Members.{All}
 use Rattle.laws.specs.Over.{overwrite}
-use Rattle.laws.proofs.Holds.{holds-cond}
 use Rattle.laws.proofs.Lists.{length-tabulate}
-use Rattle.table.specs.Table.{Table, decode, classOf}
+use Rattle.table.specs.Table.{Table, decode}
 use Rattle.table.specs.Judge.{Accepted}
 use Rattle.lexer.specs.declared.Tag.{Tag}
 use Rattle.lexer.specs.Attrs.{attrsIn}
 use Rattle.reader.specs.declared.Found.{Found}
 use Rattle.reader.specs.Spans.{partSpan}
 use Rattle.reader.specs.Namespaces as scene
-use Rattle.reader.specs.Namespaces.{Namespace, uriOf, attribute}
+use Rattle.reader.specs.Namespaces.{Namespace, attribute}
 use Rattle.reader.specs.Stored.{Coded, coded}
 use Rattle.reader.specs.Stored as stored
 use Rattle.reader.specs.Events.{Start}
@@ -32,7 +30,7 @@ use Rattle.attributes.specs.Attributes.{Given, namespaceOf, givenOf, delivered,
 use Rattle.attributes.proofs.Giving.{GivenSmall, givens-back}
 use Rattle.attributes.proofs.Numbering as numbering
 use Rattle.strands.proofs.Numbered.{allOf}
-use Rattle.attributes.proofs.Sorted.{class-few, CodeSmall, kept-are, elementIn, sorted-are, sections-are}
+use Rattle.attributes.proofs.Sorted.{class-few, uri-within, CodeSmall, kept-are, elementIn, sorted-are, sections-are}
 use Rattle.sessions.specs.Turns.{startOf}
 
 -- ---- at most 16 sections
@@ -46,17 +44,13 @@ sections-few s e own outer attributes n m few q =
 abbrev pub AttributeInside : List ℕ → scene.ReadAttribute → Type 0
 AttributeInside s a = SpanHeld s (a .part) × SpanHeld s (a .value) × SpanHeld s (uriSpan (a .namespace))
 
-uri-inside : (t : Table) (s : List ℕ) (n : Namespace) → SpanHeld s (uriSpan n) → SpanHeld s (spaceOf t s n .uri)
-unfolding spaceOf
-uri-inside t s n h = holds-cond (SpanHeld s) (eqb (classOf t (uriOf s n)) 255) (λ e. h) (λ e. omega arith)
-
 module _ (table : List ℕ) (a : Accepted table ≡ true) (s own outer : List ℕ) (short : length s ≤ 16777215) where
   abbrev made : Coded → scene.ReadAttribute
   made c = attribute (c .attr) (namespaceOf own outer (c .code))
 
   given-small : (c : Coded) → AttributeInside s (made c) → CodeSmall c → GivenSmall (givenOf (decode table) s own outer c)
   given-small c h k =
-      let u : SpanHeld s (spaceOf (decode table) s (namespaceOf own outer (c .code)) .uri) = uri-inside (decode table) s (namespaceOf own outer (c .code)) (h .2) in
+      let u : SpanHeld s (spaceOf (decode table) s (namespaceOf own outer (c .code)) .uri) = uri-within (decode table) s (namespaceOf own outer (c .code)) (h .2) in
       record {
         part-at = omega (arith, h .0);
         part-len = omega (arith, h .0);

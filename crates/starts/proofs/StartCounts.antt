@@ -1,5 +1,5 @@
 -- What is counted and laid of a start, in the model's terms.
---     many, few, not-heavy                       what the counts say
+--     not-heavy                                  what the count of units says
 --     words-back, taken-back, small-at           what the arrays hold
 --     units-after, written-length                the units and the records of the model
 --     units-loaded, records-loaded               those of the attribute units
@@ -11,7 +11,7 @@ use mathlib.Core.Bool.{true, false, cond}
 use mathlib.Core.Option.{none}
 use mathlib.Core.Logic.{⊎-elim}
 use native.Mathlib.Omega.{arith}
-use borrow.Author.Tests.{le-leb, lt-leb, lt-ltb}
+use borrow.Author.Tests.{lt-ltb}
 use lib.ListN.{length, getD, take, length-map, length-append, List·getD-map}
 use lib.Seq.{getD-take}
 use lib.Dec.{ltb}
@@ -36,7 +36,7 @@ use Rattle.model.specs.Records.{Body, startBody}
 use Rattle.model.specs.Dispatch.{dispatch}
 use Rattle.model.proofs.Lists.{gather-map}
 use Rattle.strands.specs.Packed.{strandIn}
-use Rattle.strands.specs.Entries.{counted, strandWord, schemaWord}
+use Rattle.strands.specs.Entries.{strandWord, schemaWord}
 use Rattle.strands.specs.Writing.{strandUnits, elementCount}
 use Rattle.strands.proofs.Packing.{packed-back}
 use Rattle.attributes.proofs.Numbering.{numbers-back}
@@ -50,18 +50,6 @@ use Rattle.openings.proofs.Deciding.{wordsOf, loadUnits, loadRecords}
 use Rattle.sessions.proofs.NewStrands.{ModeIn}
 
 -- ---- counts
-counted-few : (n : ℕ) → n ≤ 16 → counted n ≡ n
-counted-few n h = rw (le-leb n 16 h)
-
-counted-many : (n : ℕ) → 16 < n → counted n ≡ 17
-counted-many n h = rw (lt-leb n 16 h)
-
-pub many : (n c : ℕ) → c ≡ counted n → 16 < c → 16 < n
-many n c e h = ⊎-elim (λ l. absurd (omega (arith, counted-few n l))) (λ l. l) (le-or-lt n 16)
-
-pub few : (n c : ℕ) → c ≡ counted n → c ≤ 16 → c ≡ n
-few n c e h = ⊎-elim (λ l. e ∙ counted-few n l) (λ l. absurd (omega (arith, counted-many n l))) (le-or-lt n 16)
-
 -- a number 0 says that the units are not too many
 pub not-heavy : (r n : ℕ) → r ≡ cond (ltb 65536 n) 24 0 → r ≡ 0 → n ≤ 65536
 not-heavy r n e z =

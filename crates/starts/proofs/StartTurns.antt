@@ -5,7 +5,7 @@
 --     begin-plan, start-begins, end-begins, text-begins      one event, by how it begins
 use Prim.Native.Nat.{ℕ, zero, suc, _+_, _-_, _*_, _%_, _^_, _≤_, _<_}
 use mathlib.Core.Path.{_≡_, refl, sym, ap, ap₂, subst, _∙_}
-use mathlib.Core.List.{List, [], _∷_, _++_, map}
+use mathlib.Core.List.{List, [], _∷_, _++_}
 use mathlib.Core.Bool.{Bool, true, false, not}
 use mathlib.Core.Option.{Option}
 use mathlib.Core.Logic.{⊎-elim}
@@ -30,10 +30,9 @@ use Rattle.lexer.specs.declared.Begin.the-variants as begin
 use Rattle.lexer.proofs.BeginLaws.{BeginInside, begin-inside}
 use Rattle.reader.specs.declared.Binding.{Binding}
 use Rattle.reader.specs.Stored.{narrowed}
-use Rattle.reader.specs.Events.{Start, begun}
+use Rattle.reader.specs.Events.{Start, readAt}
 use Rattle.reader.specs.Scope.{opensIn}
 use Rattle.reader.proofs.Opens.{opens-nil}
-use Rattle.model.specs.Tree.{start}
 use Rattle.model.specs.Stream.{Entry, allot, entriesAt, unitsOf, entered, after}
 use Rattle.model.specs.Elements.{Element, elementOf}
 use Rattle.model.specs.Groups.{groupsOf}
@@ -51,11 +50,10 @@ use Rattle.sessions.specs.Turns.{Innermost, TurnReady, Made}
 use Rattle.sessions.specs.Session.{Session}
 use Rattle.sessions.specs.declared.Head.{Head}
 use Rattle.openings.specs.declared.Decided.{Decided}
-use Rattle.sessions.proofs.Sound.{LevelSound}
 use Rattle.sessions.proofs.SoundCoherent.{strands-counted}
 use Rattle.sessions.proofs.Clauses.{Clauses, clauses}
 use Rattle.sessions.proofs.CoherentSound.{name-held, level-sound, levels-sound, awaited-open}
-use Rattle.sessions.proofs.NewStrands.{ModeIn, allot-modes, entry-modes}
+use Rattle.sessions.proofs.NewStrands.{ModeIn, modes-allotted, entry-modes}
 use Rattle.starts.proofs.TagMeant.{next-begun}
 
 -- ---- a session that number 20 accepts
@@ -159,7 +157,7 @@ module _ (table : List ℕ) (header : Header) (index s : List ℕ) (z : Session)
   es = entered (dispatch t) (stateOf t s z) σ
 
   modes-in : All (ModeIn (t .modes)) es
-  modes-in = allot-modes (t .modes) _ (entriesAt (dispatch t) (stateOf t s z .levels) σ) (entry-modes table (r .accepted) s (stateOf t s z) σ (levels-sound t s z (clauses t s z (r .coherent′))))
+  modes-in = modes-allotted (t .modes) _ (entriesAt (dispatch t) (stateOf t s z .levels) σ) (entry-modes table (r .accepted) s (stateOf t s z) σ (levels-sound t s z (clauses t s z (r .coherent′))))
 
   units-are : arrayUnits index attributes sections words (σ .at) d ≡ unitsOf (dispatch t) σ (entriesAt (dispatch t) (stateOf t s z .levels) σ)
   unfolding entriesIn
@@ -194,13 +192,13 @@ module _ (t : Table) (s : List ℕ) (head : Head) (levels bindings spaces strand
   abbrev z₃ : Session
   z₃ = sessionOf head levels bindings spaces strands
 
-  pub begin-plan : planOf t s z₃ ≡ planBy t s z₃ (begun s (readerOf z₃) b)
+  pub begin-plan : planOf t s z₃ ≡ planBy t s z₃ (readAt s (readerOf z₃) b)
   unfolding planOf
   begin-plan =
       ap (planBy t s z₃)
       (next-begun s (readerOf z₃) a
-      ∙ ap (λ (o : Bool). begun s (readerOf z₃) (beginAt s (head .place) (not o) (head .closed))) (opens-nil (z₃ .scope))
-      ∙ ap (begun s (readerOf z₃)) (sym p ∙ q))
+      ∙ ap (λ (o : Bool). readAt s (readerOf z₃) (beginAt s (head .place) (not o) (head .closed))) (opens-nil (z₃ .scope))
+      ∙ ap (readAt s (readerOf z₃)) (sym p ∙ q))
 
 begins : (s : List ℕ) (head : Head) (b r : Begin) → r ≡ beginAt s (head .place) (not (eqb (head .depth) 0)) (head .closed) → r ≡ b → BeginInside s (head .place) (not (eqb (head .depth) 0)) (head .closed) b
 begins s head b r p q =

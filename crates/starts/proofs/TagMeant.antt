@@ -7,13 +7,13 @@
 --     own-few, own-laid                 its declarations, and their numbers in the array
 use Prim.Native.Nat.{ℕ, _+_, _*_, _≤_, _<_}
 use mathlib.Core.Path.{_≡_, refl, ap, subst, _∙_}
-use mathlib.Core.List.{List, [], _∷_, _++_}
+use mathlib.Core.List.{List, _++_}
 use mathlib.Core.Bool.{Bool, true, false, cond, not}
 use mathlib.Core.Logic.{⊎-elim}
 use native.Mathlib.Omega.{arith}
 use borrow.Author.Tests.{ltb-false}
 use lib.Dec.{ltb}
-use lib.ListN.{length, take, drop, length-append}
+use lib.ListN.{length, take, drop}
 use lib.Seq.{take-all, take-append-le}
 use Rattle.laws.specs.Lists.{any}
 use Rattle.laws.specs.Gather.{gather}
@@ -34,14 +34,13 @@ use Rattle.reader.specs.declared.Scope.{Scope}
 use Rattle.reader.specs.declared.Found.{Found}
 use Rattle.reader.specs.declared.Meant.{Meant}
 use Rattle.reader.specs.declared.Meant.the-variants as told
-use Rattle.reader.specs.Spans.{kindOf}
-use Rattle.reader.specs.Namespaces.{declaredBy, declarationsOf, refusedBinding}
+use Rattle.reader.specs.Namespaces.{declarationsOf, refusedBinding}
 use Rattle.reader.specs.Stored.{bindingsIn, bindingNumbers, laidBindings, fitting, foundElement, codesOf, coded, twiceIn, isUnbound, meantOf, codesAfter}
 use Rattle.reader.specs.Known.{keysIn}
-use Rattle.reader.specs.Events.{ReaderState, bindingsOf, isNil, begun, nextBy, next}
+use Rattle.reader.specs.Events.{ReaderState, bindingsOf, isNil, readAt, nextBy, next}
 use Rattle.reader.specs.Scope.{opensOf}
 use Rattle.reader.proofs.Laying.{fitting-whole, four-long}
-use Rattle.reader.proofs.Declaring.{at-most-one}
+use Rattle.reader.proofs.Declaring.{declared-few}
 use Rattle.reader.proofs.LaidBack.{SmallAttr}
 use Rattle.reader.proofs.Agree.{Named, named-in}
 use Rattle.reader.proofs.Whole.{coded-more}
@@ -89,7 +88,7 @@ pub bindings-open : (sc : Scope) → CountedScope sc → bindingsOf (opensOf sc)
 bindings-open sc c = opens-bindings sc c
 
 -- ---- the reader's next event, where no end is awaited
-pub next-begun : (s : List ℕ) (z : ReaderState) → z .awaited ≡ false → next s z ≡ begun s z (beginAt s (z .place) (not (isNil (z .opened))) (z .closed))
+pub next-begun : (s : List ℕ) (z : ReaderState) → z .awaited ≡ false → next s z ≡ readAt s z (beginAt s (z .place) (not (isNil (z .opened))) (z .closed))
 unfolding next
 next-begun s z e = ap (λ (b : Bool). nextBy s z b (z .opened)) e
 
@@ -144,12 +143,6 @@ element-given s n attrs own open′ bound codes known f owned own′ codes′ kn
     cases false false false false x k e = (refl, refl, refl, cc, cc)
 
 -- ---- its declarations
-declared-few : (s : List ℕ) (attrs : List Attr) → length (declarationsOf s attrs) ≤ length attrs
-unfolding gather
-declared-few s [] = omega arith
-declared-few s (a ∷ attrs) =
-    omega (arith, length-append (declaredBy (kindOf s (a .name)) a) (declarationsOf s attrs), at-most-one (kindOf s (a .name)) a, declared-few s attrs)
-
 pub own-few : (s : List ℕ) (t : Tag) (attrs : List Attr) → TagTold s t attrs → length (declarationsOf s attrs) ≤ 16
 own-few s t attrs k = omega (arith, declared-few s attrs, k .few)
 

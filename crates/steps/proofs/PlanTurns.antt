@@ -15,7 +15,7 @@ use Rattle.table.specs.Table.{decode, headerOf}
 use Rattle.lexer.specs.Begins.{beginAt}
 use Rattle.lexer.specs.declared.Begin.{Begin}
 use Rattle.reader.specs.declared.Span.{Span}
-use Rattle.reader.specs.Events.{begun}
+use Rattle.reader.specs.Events.{readAt}
 use Rattle.attributes.specs.declared.Placing.{Placing}
 use Rattle.strands.specs.Levels.{levelNames, levelSpaces, levelStrands}
 use Rattle.openings.specs.declared.Decided.{Decided}
@@ -34,7 +34,7 @@ use Rattle.starts.proofs.StartTurns.{innermost, begin-plan}
 -- by how it begins
 pub begun-planned : (table index s : List ℕ) (head : Head) (levels bindings : List ℕ) → head .awaited ≡ false → (b r : Begin) → r ≡ beginAt s (head .place) (not (eqb (head .depth) 0)) (head .closed) → r ≡ b → (known own words schemas attributes : List ℕ) (x : Planned) → (
     let z = sessionAt head levels bindings in
-    let p = planBy (decode table) s z (begun s (readerOf z) b) in
+    let p = planBy (decode table) s z (readAt s (readerOf z) b) in
     let q = planOf (decode table) s z in
     PlannedAs table index s z own words schemas attributes x p → Beside table s known z → Beside table s known (sessionBy p z)
     → PlannedAs table index s z own words schemas attributes x q × Beside table s known z × Beside table s known (sessionBy q z))

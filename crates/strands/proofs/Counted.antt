@@ -12,7 +12,7 @@ use native.Mathlib.Omega.{arith}
 use lib.ListN.{length, length-append, length-map}
 use Rattle.laws.specs.Lists.{tabulate, keep}
 use Rattle.laws.specs.Gather.{gather, total}
-use Rattle.laws.proofs.Gather.{total-append}
+use Rattle.laws.proofs.Gather.{total-gathered}
 use Rattle.table.specs.declared.Action.{Action}
 use Rattle.table.specs.declared.Action.the-variants.{Attach, Unwrap, Validate}
 use Rattle.table.specs.declared.Rule.{Rule}
@@ -27,11 +27,6 @@ use Rattle.strands.specs.Writing.{members, headClass, sortedBodies, unit
 
 -- ---- sums
 module _ {A : Type 0} where
-  total-gathered : {B : Type 0} (g : B → ℕ) (f : A → List B) (h : A → ℕ) → ((x : A) → total g (f x) ≡ h x) → (xs : List A) → total g (gather f xs) ≡ total h xs
-  unfolding gather total
-  total-gathered g f h e [] = refl
-  total-gathered g f h e (x ∷ xs) = total-append g (f x) (gather f xs) ∙ rw (e x, total-gathered g f h e xs)
-
   total-times : (g : A → ℕ) (k : ℕ) (xs : List A) → total (λ (x : A). g x * k) xs ≡ total g xs * k
   unfolding total
   total-times g k [] = sym (zero-mul k)

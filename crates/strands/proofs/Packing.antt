@@ -1,5 +1,5 @@
 -- A strand packed in a number is read back, and 32 bits hold it.
-use Prim.Native.Nat.{ℕ, _+_, _*_, _/_, _%_, _^_, _≤_, _<_}
+use Prim.Native.Nat.{ℕ, _+_, _*_, _/_, _%_, _^_, _<_}
 use mathlib.Core.Path.{_≡_, refl, ap₂}
 use mathlib.Core.List.{List, [], _∷_, map}
 use mathlib.Core.Bool.{Bool, true, false, cond}
@@ -11,21 +11,13 @@ use Rattle.table.specs.Table.{actionOf}
 use Rattle.table.specs.declared.Action.{Action}
 use Rattle.table.specs.declared.Action.the-variants.{Attach, Unwrap, Validate}
 use Rattle.model.specs.Stream.{HeldStrand}
+use Rattle.model.proofs.Steps.{Below}
 use Rattle.strands.specs.Packed.{strandIn, packed, actionNumber, targetNumber, hereNumber}
-
--- a target below the count of units
-abbrev pub Below : ℕ → Option ℕ → Type 0
-Below units none = Unit {0}
-Below units (some u) = u < units
 
 -- what a number holds of a strand: five bits for its mode, sixteen for its target
 pub record Packable (r : HeldStrand ℕ) : Type 0 where
   pub mode-in : r .mode < 32
   pub target-in : Below 65536 (r .target)
-
-pub below-more : (u v : ℕ) (o : Option ℕ) → u ≤ v → Below u o → Below v o
-below-more u v none h b = tt
-below-more u v (some w) h b = omega arith
 
 -- the parts of a number, and the number they make
 record Parts (w mode action here aimed target : ℕ) : Type 0 where

@@ -1,11 +1,11 @@
 -- "At a new section each strand, in order, takes the rules": the strands of an element that starts, in two arrays of sixteen numbers, strands and
 -- schemas. Definitions.
-use Prim.Native.Nat.{ℕ, _+_, _<_}
+use Prim.Native.Nat.{ℕ, _<_}
 use mathlib.Core.List.{List, [], _∷_, map}
 use mathlib.Core.Bool.{true, cond}
 use mathlib.Core.Path.{_≡_}
 use mathlib.Core.Option.{none, some}
-use lib.ListN.{length, getD}
+use lib.ListN.{getD}
 use lib.Dec.{leb}
 use Rattle.laws.specs.Lists.{tabulate}
 use Rattle.laws.specs.Gather.{gather, total}

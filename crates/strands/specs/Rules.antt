@@ -1,7 +1,7 @@
 -- The rules of a mode, kind and class as the table's index holds them. A device: they are `rulesOf`, by `chosen-rules`. Definitions.
 use Prim.Native.Nat.{ℕ}
 use mathlib.Core.List.{List, [], _∷_, map}
-use mathlib.Core.Bool.{Bool, cond}
+use mathlib.Core.Bool.{Bool}
 use lib.Dec.{eqb}
 use lib.Seq.{slice}
 use Rattle.laws.specs.Lists.{keep, any}

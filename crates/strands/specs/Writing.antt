@@ -2,18 +2,17 @@
 -- proofs/. Definitions.
 use Prim.Native.Nat.{ℕ, _+_, _*_}
 use mathlib.Core.List.{List, [], _∷_, _++_, map}
-use mathlib.Core.Bool.{Bool, true, false, cond, _&&_, _||_}
-use mathlib.Core.Option.{Option, none, some}
+use mathlib.Core.Bool.{Bool, cond, _&&_, _||_}
 use lib.ListN.{length}
 use lib.Dec.{eqb}
 use Rattle.laws.specs.Lists.{tabulate, keep}
-use Rattle.laws.specs.Gather.{gather, total}
+use Rattle.laws.specs.Gather.{gather}
 use Rattle.table.specs.declared.Action.{Action}
 use Rattle.table.specs.declared.Action.the-variants.{Attach, Unwrap, Validate}
 use Rattle.table.specs.declared.Rule.{Rule}
 use Rattle.reader.specs.Spans.{span}
 use Rattle.model.specs.Theory.{AttributeUnit, Piece, opens, holds, Record}
-use Rattle.model.specs.Stream.{Entry, HeldStrand, give}
+use Rattle.model.specs.Stream.{Entry, give}
 use Rattle.model.specs.Records.{Body, spaced, plain, closeBody, virtualStart, virtualEnd}
 use Rattle.model.specs.Dispatch.{pieceBody}
 use Rattle.records.specs.declared.Row.{Row}

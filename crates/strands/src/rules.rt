@@ -1,7 +1,7 @@
 // What the rules of a mode do with a section of attributes of a class.
+use index::choose;
+use index::next_rule;
 use table::Action;
-use table::index::choose;
-use table::index::next_rule;
 use table::words::rule_of;
 ghost use mathlib.Core.Path.{_≡_};
 ghost use Prim.Native.Nat.{_≤_};

@@ -1,8 +1,8 @@
-mod Walk
-mod UriTurns
-mod RuleTurns
-mod Judged
-mod Scan
+pub mod Walk
+pub mod UriTurns
+pub mod RuleTurns
+pub mod Judged
+pub mod Scan
 pub mod Rules
 pub mod Accepted
 pub mod Namespaces

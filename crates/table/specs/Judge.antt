@@ -1,7 +1,7 @@
 -- Numbers 10, 11 and 12: "Order: 10 short, 11 header, 10, 11, 12". Definitions.
 use Prim.Native.Nat.{ℕ, zero, suc, _+_, _*_}
 use mathlib.Core.List.{List, [], _∷_}
-use mathlib.Core.Bool.{Bool, true, false, cond, not, _&&_, _||_}
+use mathlib.Core.Bool.{Bool, false, cond, not, _&&_, _||_}
 use lib.ListN.{length, drop}
 use lib.Dec.{leb, ltb, eqb}
 use Rattle.laws.specs.Lists.{sameList, any, all, anyPair}

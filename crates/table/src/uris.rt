@@ -17,14 +17,14 @@ fn wide(b: u8) -> usize
 }
 
 // Where the URIs begin.
-pub(crate) fn behind_rules(header: Header) -> usize
+pub fn behind_rules(header: Header) -> usize
     ensures { λ r. ⌜ r ≡ 4 + 4 * header .rules ⌝ }
 {
     4 + 4 * (header.rules as usize)
 }
 
 // The place of the URI whose length stands at p; (0, 0) where the table ends before it does.
-pub(crate) fn uri_at(table: &[u8], p: usize) -> Listed
+pub fn uri_at(table: &[u8], p: usize) -> Listed
     ensures { λ r. ⌜ r ≡ getD (placesFrom 1 p (drop p (now (table .entry)))) 0 (placed 0 0) ⌝ }
 {
     if table.len() <= p {
@@ -61,7 +61,7 @@ pub fn place_of(table: &[u8], header: Header, class: u8) -> Listed
 }
 
 // Which of the n URIs from `from` on is this one, counted from 1? 255 where none is.
-pub(crate) fn listed_from(table: &[u8], from: usize, n: u8, uri: &[u8]) -> u8
+pub fn listed_from(table: &[u8], from: usize, n: u8, uri: &[u8]) -> u8
     ensures { λ r. ⌜ r ≡ listedFrom (urisFrom n (drop from (now (table .entry)))) 1 (now (uri .entry)) ⌝ }
 {
     let mut p = from;

@@ -6,6 +6,7 @@ use crate::Rule;
 ghost use mathlib.Core.Path.{_≡_};
 ghost use lib.ListN.{getD};
 ghost use Rattle.table.specs.Table.{headerOf, wordOf, wordAt, fieldsOf, actionOf, ruleOf, allRules};
+ghost use Rattle.table.specs.Index.{keyOf};
 
 // The i-th byte; 0 past the end.
 pub fn byte_at(table: &[u8], i: usize) -> u8
@@ -49,6 +50,13 @@ pub fn word_at(table: &[u8], i: u8) -> u32
     let c = byte_at(table, 6 + at);
     let d = byte_at(table, 7 + at);
     word(a, b, c, d)
+}
+
+// Mode, kind and class of a rule.
+pub fn key_of(w: u32) -> u32
+    ensures { λ r. ⌜ r ≡ keyOf w ⌝ }
+{
+    w >> 18
 }
 
 // The fields of a rule.

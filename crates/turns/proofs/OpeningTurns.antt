@@ -8,15 +8,12 @@ use mathlib.Core.List.{List, [], _∷_, _++_, map, map-map}
 use native.Mathlib.Omega.{arith}
 use native.Mathlib.Nat.{mod-eq-of-lt}
 use lib.ListN.{length, take}
-use lib.Dec.{eqb}
 use Rattle.laws.specs.Over.{overwrite}
-use Rattle.laws.proofs.Holds.{holds-cond}
-use Rattle.table.specs.Table.{Table, decode, headerOf, classOf}
+use Rattle.table.specs.Table.{Table, decode, headerOf}
 use Rattle.table.specs.Index.{indexOf}
 use Rattle.lexer.specs.declared.Tag.{Tag}
 use Rattle.reader.specs.declared.Binding.{Binding}
 use Rattle.reader.specs.Spans.{wholeSpan, partSpan}
-use Rattle.reader.specs.Namespaces.{Namespace, uriOf}
 use Rattle.reader.specs.Stored.{narrowed}
 use Rattle.reader.specs.Scope.{levelNumbers}
 use Rattle.reader.specs.Events.{Start, Open}
@@ -32,6 +29,7 @@ use Rattle.attributes.specs.declared.Placing.{Placing}
 use Rattle.strands.specs.declared.Begun.{Begun}
 use Rattle.strands.specs.Packed.{packed}
 use Rattle.attributes.specs.Attributes.{placingOf, attributesIn, sectionsIn}
+use Rattle.attributes.proofs.Sorted.{class-few, uri-within}
 use Rattle.strands.specs.Writing.{rowOf, begunBody}
 use Rattle.sessions.specs.Sessions.{sessionOf, stateOf}
 use Rattle.sessions.specs.Stepping.{Plan, event, planned, Step, answered}
@@ -42,7 +40,6 @@ use Rattle.sessions.specs.declared.Head.{Head}
 use Rattle.sessions.specs.declared.Started.{Started}
 use Rattle.sessions.specs.declared.Turn.{Turn}
 use Rattle.openings.specs.declared.Decided.{Decided}
-use Rattle.sessions.proofs.Spaces.{class-few}
 use Rattle.sessions.proofs.CoherentSound.{coherent-levels}
 use Rattle.sessions.proofs.EventTurns.{full-turn, room-turn, stop-step}
 use Rattle.openings.proofs.Openings.{unitRecords, strandRecords}
@@ -54,10 +51,6 @@ use Rattle.sessions.proofs.StartPlans.{nextOf, plan-passed}
 as-held : (n : ℕ) → n ≤ 16777215 → narrowed n ≡ n
 as-held n h = mod-eq-of-lt {n = n} {m = 4294967296} (omega arith)
 
-uri-in : (t : Table) (s : List ℕ) (n : Namespace) → SpanHeld s (uriSpan n) → SpanHeld s (spaceOf t s n .uri)
-unfolding spaceOf
-uri-in t s n h = holds-cond (SpanHeld s) (eqb (classOf t (uriOf s n)) 255) (λ e. h) (λ e. omega arith)
-
 module _ (t : Table) (s : List ℕ) (at : ℕ) (tag : Tag) (placing : Placing) (e : Start) (short : length s ≤ 16777215) (inside : at < length s) (at-is : e .at ≡ at) where
   begun-at : begunOf at tag placing .tag ≡ elementOf t s e .at
   unfolding elementOf
@@ -67,7 +60,7 @@ module _ (t : Table) (s : List ℕ) (at : ℕ) (tag : Tag) (placing : Placing) (
       → begunBody (begunOf at tag placing) ≡ startBody (elementOf t s e)
   unfolding elementOf
   begun-body p i q u =
-      let held : SpanHeld s (spaceOf t s (e .namespace) .uri) = uri-in t s (e .namespace) u in
+      let held : SpanHeld s (spaceOf t s (e .namespace) .uri) = uri-within t s (e .namespace) u in
       rw (p, q, as-held (tag .name .part) (omega arith), as-held (tag .name .end - tag .name .part) (omega arith), as-held (spaceOf t s (e .namespace) .uri .at) (omega arith), as-held (spaceOf t s (e .namespace) .uri .len) (omega arith))
 
 element-space : (t : Table) (s : List ℕ) (e : Start) → elementOf t s e .space ≡ spaceOf t s (e .namespace)
@@ -118,7 +111,7 @@ module _ (table index s own words schemas attributes : List ℕ) (o : Started) (
         opened-session head levels bindings spaces strands (o .tag .next) (o .tag .empty) (wholeSpan (o .tag .name)) (as-planned .ds) (element .space) (map (λ (x : Entry). x .strand) es)
         levels′ bindings′ spaces′ strands′ own words (decided .units) (after (dispatch (decode table)) (stateOf (decode table) s z) (start element) .units) (o .owned) (decided .strands) placing
         l b c q (made .units-are) (as-planned .told .owned-is) (as-planned .told .own-laid) (as-planned .placing-is ∙ ap placingOf (sym space-is))
-        (subst (λ (w : Space). w .class ≤ 255) (sym space-is) (class-few table (ready .accepted) s (e .namespace)))
+        (omega (arith, subst (λ (w : Space). w .class < 256) (sym space-is) (class-few table (ready .accepted) s (e .namespace))))
         (new-count words schemas (decided .strands) es (made .entries-are))
         (made .strands-are ∙ sym (map-map packed (λ (x : Entry). x .strand) es))
 

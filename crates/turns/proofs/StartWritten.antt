@@ -2,12 +2,11 @@
 --     numbered-units     numbering the new units leaves the attribute units
 --     modes-in      each strand has a mode of the table
 --     written-is
-use Prim.Native.Nat.{ℕ, zero, suc, _≤_, _<_}
+use Prim.Native.Nat.{ℕ, zero, suc}
 use mathlib.Core.Path.{_≡_, refl, ap, ap₂, _∙_}
-use mathlib.Core.List.{List, [], _∷_, _++_, map}
+use mathlib.Core.List.{List, [], _∷_, _++_}
 use mathlib.Core.Bool.{Bool, true, false}
 use mathlib.Core.Option.{Option}
-use native.Mathlib.Omega.{arith}
 use lib.ListN.{getD}
 use Rattle.laws.specs.Lists.{tabulate}
 use Rattle.laws.specs.Gather.{gather}
@@ -39,7 +38,7 @@ use Rattle.sessions.specs.Turns.{Made}
 use Rattle.sessions.specs.Session.{Session}
 use Rattle.openings.specs.declared.Decided.{Decided}
 use Rattle.sessions.proofs.Sound.{LevelSound}
-use Rattle.sessions.proofs.NewStrands.{ModeIn, allot-modes, entry-modes}
+use Rattle.sessions.proofs.NewStrands.{ModeIn, modes-allotted, entry-modes}
 
 -- ---- by modes alone
 module _ {B : Type 0} (f : ℕ → List B) where
@@ -70,7 +69,7 @@ module _ (table s : List ℕ) (z : Session) (e : Start) (ok : Accepted table ≡
   es = entered (dispatch t) (stateOf t s z) σ
 
   modes-in : All (ModeIn (t .modes)) es
-  modes-in = allot-modes (t .modes) _ (entriesAt (dispatch t) (stateOf t s z .levels) σ) (entry-modes table ok s (stateOf t s z) σ sound)
+  modes-in = modes-allotted (t .modes) _ (entriesAt (dispatch t) (stateOf t s z .levels) σ) (entry-modes table ok s (stateOf t s z) σ sound)
 
   module _ (index attributes sections words schemas : List ℕ) (b : Begun) (r : Decided) (made : Made (decode table) s z (elementOf (decode table) s e) r words schemas attributes sections) (index-is : index ≡ indexOf table (headerOf table)) (tag-is : b .tag ≡ elementOf (decode table) s e .at) (body-is : begunBody b ≡ startBody (elementOf (decode table) s e)) where
     units-written : arrayUnits index attributes sections words (b .tag) r ≡ unitsOf (dispatch t) σ (entriesAt (dispatch t) (stateOf t s z .levels) σ)

@@ -1,10 +1,10 @@
 -- "Another call on a table and scene gives the URI of a record's class and span". Definitions.
 use Prim.Native.Nat.{ℕ, _+_}
 use mathlib.Core.List.{List}
-use mathlib.Core.Bool.{Bool, cond, not, _&&_, _||_}
+use mathlib.Core.Bool.{cond, not, _&&_}
 use denote.Ref.{RefT, now}
 use lib.ListN.{length}
-use lib.Dec.{leb, ltb, eqb}
+use lib.Dec.{leb, eqb}
 use Rattle.compare.specs.Compare.{spanOf, placeIn}
 use Rattle.table.specs.Table.{headerOf}
 use Rattle.table.specs.Judge.{judged}

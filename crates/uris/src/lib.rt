@@ -1,6 +1,6 @@
 // The URI of a record's class and span: where it stands, and its bytes.
 use compare::part_of;
-use table::judge;
+use judging::judge;
 use table::uris::place_of;
 use table::words::header_of;
 ghost use mathlib.Core.Path.{_≡_};

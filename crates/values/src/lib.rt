@@ -1,10 +1,10 @@
 // References, values and texts.
-use characters::Set;
 use lanes::plain::plain_end;
 use lexer::Read;
 use lexer::Stop;
-use lexer::utf8::char_end;
-use lexer::utf8::is_char;
+use lexer::chars::char_end;
+use lexer::chars::is_char;
+use utf8::Set;
 ghost use mathlib.Core.Path.{_≡_};
 ghost use mathlib.Core.Bool.{cond, not, _&&_};
 ghost use Prim.Native.Nat.{_≤_};

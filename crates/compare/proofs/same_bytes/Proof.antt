@@ -1,7 +1,6 @@
 -- `compare::same_bytes` meets its contract: at each turn the answer is that of what is left of both.
 use Prim.Native.Nat.{_-_}
 use mathlib.Core.Path.{_≡_, refl}
-use native.Mathlib.Omega.{arith}
 use borrow.Author.Needs.{needs}
 use lib.ListN.{length, drop}
 use Rattle.laws.specs.Lists.{sameList}

@@ -1,5 +1,5 @@
 -- `compare::same_words` meets its contract: at each turn the answer is that of what is left of both.
-use Prim.Native.Nat.{_+_, _-_, _≤_}
+use Prim.Native.Nat.{_+_, _-_}
 use mathlib.Core.Path.{_≡_, refl}
 use native.Mathlib.Omega.{arith}
 use borrow.Author.Needs.{needs}

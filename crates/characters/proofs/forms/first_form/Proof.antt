@@ -2,7 +2,7 @@
 use native.Mathlib.Omega.{arith}
 use borrow.Author.Needs.{needs}
 use Rattle.laws.specs.Tests.{tests}
-use Rattle.characters.specs.Forms.{firstForm}
+use Rattle.utf8.specs.Forms.{firstForm}
 use Rattle.characters.proofs.forms.first_form.Statement.{statement}
 use Rattle.characters.proofs.forms.first_form.Tie as tie
 

@@ -2,13 +2,9 @@ use mathlib.Core.Path.{ap}
 use mathlib.Core.Bool.{false}
 use lib.ListN.{replicate}
 use Rattle.reader.specs.declared.Scope.{Scope}
-use Rattle.sessions.specs.Session.{Session}
 use borrow.Author.Needs.{needs}
 use Rattle.dispatcher.proofs.Session.fresh.Statement.{statement}
 use Rattle.dispatcher.proofs.Session.fresh.Tie as tie
-use Rattle.dispatcher.proofs.Session.fresh.Reads as reads
-use Rattle.dispatcher.proofs.Session.fresh.Lts as lts
-use Rattle.reader.proofs.Scope.fresh.Reads as fresh-reads
 
 fresh-requires : tie.Need-fresh-requires
 fresh-requires c κs = search needs

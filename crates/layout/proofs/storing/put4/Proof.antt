@@ -3,7 +3,7 @@ use native.Mathlib.Omega.{arith}
 use borrow.Author.Needs.{needs}
 use lib.ListN.{length-set}
 use borrow.Author.Needs.{needs}
-use Rattle.layout.proofs.Stored.{four}
+use Rattle.laws.proofs.Over.{four-set}
 use Rattle.layout.proofs.storing.put4.Statement.{statement}
 use Rattle.layout.proofs.storing.put4.Tie as tie
 
@@ -44,7 +44,7 @@ same-length : tie.Need-same-length
 same-length c = search needs
 
 returns : tie.Need-returns
-returns c = let a = c .args in four (a .b .now) (a .at) _ _ _ _ (omega arith)
+returns c = let a = c .args in four-set (a .b .now) (a .at) _ _ _ _ (omega arith)
 
 pub put4-spec : {M : Type 1} → statement M
 put4-spec =

@@ -1,6 +1,7 @@
 -- `misc::instructions::instruction_end` meets its contract, by the cases of what its callees answer.
+use mathlib.Core.Path.{refl}
 use borrow.Author.Needs.{needs}
-use Rattle.laws.specs.Tests.{tests}
+use Rattle.laws.specs.Tests.{tests, on, off, told, untold′}
 use Rattle.lexer.specs.Misc.{instructionEnd}
 use Rattle.lexer.proofs.Behind.{by-read}
 use Rattle.misc.proofs.instructions.instruction_end.Statement.{statement}
@@ -37,7 +38,10 @@ enum-known-x c = search needs
 
 returns-3 : tie.Need-returns-3
 unfolding instructionEnd
-returns-3 c = search (by-read, tests)
+returns-3 c =
+    by-read _ _ _ _ _ _ (c .before .before .before .before .before .before .before .part-end .ensures) (c .before .before .before .before .before .j .given .1)
+    (on _ _ _ _ (untold′ _ _ (c .before .before .before .is-xml .ensures) (c .before .before .if1 .left))
+    (off _ _ _ _ (told _ _ _ (c .before .is-declared .ensures) (c .if2 .left)) refl))
 
 returns-4 : tie.Need-returns-4
 unfolding instructionEnd

@@ -1,7 +1,5 @@
 -- `reader::clashes::clash_at` meets its contract: what it read of the arrays are the two attributes with their codes.
-use mathlib.Core.Path.{_≡_, _∙_}
 use borrow.Author.Needs.{needs}
-use Rattle.reader.specs.Stored.{clashes}
 use Rattle.namespaces.proofs.clashes.clash_at.Statement.{statement}
 use Rattle.namespaces.proofs.clashes.clash_at.Tie as tie
 

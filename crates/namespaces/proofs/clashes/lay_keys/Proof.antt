@@ -1,6 +1,6 @@
 -- `reader::clashes::lay_keys` meets its contract: the keys that are stored are the last bytes of names that have one.
 use Prim.Native.Nat.{ℕ, _-_, _<_}
-use mathlib.Core.Path.{_≡_, refl}
+use mathlib.Core.Path.{_≡_}
 use native.Mathlib.Omega.{arith}
 use borrow.Author.Count.{below-none}
 use borrow.Author.Needs.{needs}

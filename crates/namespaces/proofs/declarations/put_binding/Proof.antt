@@ -1,9 +1,8 @@
 -- `reader::declarations::put_binding` meets its contract: four stores are one part overwritten.
-use Prim.Native.Nat.{_*_}
 use native.Mathlib.Omega.{arith}
 use borrow.Author.Needs.{needs}
 use lib.ListN.{length-set}
-use Rattle.reader.proofs.Slots.{four-set}
+use Rattle.laws.proofs.Over.{four-set}
 use Rattle.namespaces.proofs.declarations.put_binding.Statement.{statement}
 use Rattle.namespaces.proofs.declarations.put_binding.Tie as tie
 

@@ -9,7 +9,7 @@ use Rattle.sessions.specs.Session.{Session}
 use Rattle.sessions.proofs.Parted.{whole-session}
 use Rattle.dispatcher.proofs.HandedBack.{next-advanced}
 use Rattle.asking.proofs.OfferTurns.{commit-told}
-use Rattle.dispatcher.specs.Handed.{held, heldOffer}
+use Rattle.dispatcher.specs.Handed.{heldBy, heldOffer}
 use borrow.Author.Needs.{needs}
 use Rattle.dispatcher.proofs.offers.Offer.commit.Statement.{statement}
 use Rattle.dispatcher.proofs.offers.Offer.commit.Tie as tie
@@ -54,10 +54,10 @@ returns c =
     let same = c .before .before .before .before .before .before .before .before .before .before .before .same-session in
     let g = c .before .before .before .before .before .before .before .before .before .head3 in
     let s = c .before .before .before .before .before .commit-in in
-    next-advanced (λ (z : Session). stepWhere (same .result && eqb (length (a .scene .now)) (a .self .length)) standard (a .table .now) (a .scene .now) z (a .out .now)) (held (a .session)) (g .result) _ (s .result) (c .before .before .answer-of .result) (held (c .of .result)) _ _ _
+    next-advanced (λ (z : Session). stepWhere (same .result && eqb (length (a .scene .now)) (a .self .length)) standard (a .table .now) (a .scene .now) z (a .out .now)) (heldBy (a .session)) (g .result) _ (s .result) (c .before .before .answer-of .result) (heldBy (c .of .result)) _ _ _
     (g .ensures) (j .0) (j .1) (j .2) (c .before .before .answer-of .ensures) (c .of .ensures) (s .ensures .0)
-    ∙ commit-told (heldOffer (a .self)) (held (a .session)) (a .table .now) (a .scene .now) (a .out .now) (h .result) (i .result) _ _ (same .result)
-    (whole-session (held (a .session)) (h .result) _ (h .ensures) (j .0) (j .1) (j .2)) (whole-session (held (a .self .session)) (i .result) _ (i .ensures) (k .0) (k .1) (k .2)) (same .ensures)
+    ∙ commit-told (heldOffer (a .self)) (heldBy (a .session)) (a .table .now) (a .scene .now) (a .out .now) (h .result) (i .result) _ _ (same .result)
+    (whole-session (heldBy (a .session)) (h .result) _ (h .ensures) (j .0) (j .1) (j .2)) (whole-session (heldBy (a .self .session)) (i .result) _ (i .ensures) (k .0) (k .1) (k .2)) (same .ensures)
 
 pub commit-spec : {M : Type 1} → statement M
 commit-spec =
