@@ -20,7 +20,6 @@ use Rattle.laws.proofs.Flags.{differ}
 use Rattle.laws.proofs.Gather.{gather-append}
 use Rattle.laws.proofs.Holds.{holds-cond}
 use Rattle.laws.proofs.Members.{all-by}
-use Rattle.laws.proofs.Elementwise.{each-gather}
 use Rattle.table.specs.Table.{Default, headerOf, orElse, rulesOf, standard, fallback, takenOf, allRules, decode}
 use Rattle.table.specs.Judge.{Accepted}
 use Rattle.table.specs.declared.Header.{Header}
@@ -47,6 +46,7 @@ use Rattle.defaults.specs.Former.{cutList}
 use Rattle.defaults.specs.Meeting.{taking}
 use Rattle.defaults.specs.Rejects.{isReject, rejectIn, rejectsIn, rejectOf, noRule, lacksRule, rejectsAt, rejectsFrom}
 use Rattle.model.proofs.Steps.{allot-each}
+use Rattle.sessions.proofs.NewStrands.{enter-modes}
 
 -- ---- records that are no such open
 abbrev Other : Body → Type 0
@@ -226,23 +226,6 @@ module _ (t : List ℕ) (a : Accepted t ≡ true) where
         by true = gather-map (byEntry σ) staying (l .strands) ∙ gather-nothing (λ (r : HeldStrand ℕ). byEntry σ (staying r)) (λ r. refl) (l .strands)
         by false = take-rejects (l .strands) (k .0)
 
-    -- the modes behind the start
-    rule-in-mode : (x : Action) (next : ℕ) (o : Option ℕ) → next < h .modes → byRule {U = ℕ} x next none o .mode < h .modes
-    rule-in-mode Attach next o l = l
-    rule-in-mode Unwrap next o l = l
-    rule-in-mode Validate next o l = l
-
-    take-modes : (rs : List (HeldStrand ℕ)) → All ModeIn rs → All (λ (e : Entry). e .strand .mode < h .modes) (takeRules Θ σ rs)
-    take-modes rs k =
-        each-gather ModeIn (λ (e : Entry). e .strand .mode < h .modes) (λ (r : HeldStrand ℕ). map (made r) (Θ .elementRules (r .mode) σ))
-        (λ r l. all-map (λ (e : Entry). e .strand .mode < h .modes) (made r) (Θ .elementRules (r .mode) σ)
-        (taken-each (λ (q : Rule). made r q .strand .mode < h .modes) (standard .element) 0 (r .mode) (σ .space .class) (λ q w. rule-in-mode (q .action) (q .next) (r .target) (w .next-in)) (λ _. l)))
-        rs k
-
-    enter-modes : (ls : List (Level Θ)) → All LevelIn ls → All (λ (e : Entry). e .strand .mode < h .modes) (entriesAt Θ ls σ)
-    enter-modes [] k = take-modes (heldBeforeRoot ∷ []) (header-in t a .some-mode, tt)
-    enter-modes (l ∷ ls) k = holds-cond (All (λ (e : Entry). e .strand .mode < h .modes)) (Θ .sameSection (l .at) σ) (λ e. all-map (λ (e : Entry). e .strand .mode < h .modes) staying (l .strands) (k .0)) (λ e. take-modes (l .strands) (k .0))
-
   -- ---- an event
   end-none : (o : Option ℕ) (k : OpenElement) (w : Span) (b : Bool) → rejectsIn (give o (holds (endBody k w) ∷ cond b (holds closeBody ∷ []) [])) ≡ []
   end-none o k w true = held-none o (endBody k w ∷ closeBody ∷ []) (refl, (refl, tt))
@@ -275,7 +258,7 @@ module _ (t : List ℕ) (a : Accepted t ≡ true) where
   after-in z k (start σ) =
       let es = entriesAt Θ (z .levels) σ in
       let u = z .units + length (unitsOf Θ σ es) in
-      (all-map ModeIn (λ (e : Entry). e .strand) (allot u es) (allot-each (λ (m : ℕ). m < h .modes) u es (enter-modes σ (z .levels) k)), k)
+      (all-map ModeIn (λ (e : Entry). e .strand) (allot u es) (allot-each (λ (m : ℕ). m < h .modes) u es (enter-modes t a (z .levels) σ k)), k)
   after-in z k (text w) = k
   after-in z k (end w) = tail-in (z .levels) k
 

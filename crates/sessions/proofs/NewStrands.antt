@@ -101,10 +101,10 @@ module _ (table : List ℕ) (accepted : Accepted table ≡ true) where
       (λ r l. map-each Next (ModeIn (decode table .modes)) _ (λ q k. rw (rule-mode (q .action) (q .next) (r .target)) k) (decode table .elementRules (r .mode) (σ .space .class)) (taken-next (r .mode) σ l))
       rs h
 
-  enter-modes : (ls : List (Level (dispatch (decode table)))) (σ : Element) → All (λ (l : Level (dispatch (decode table))). All (λ (r : HeldStrand ℕ). r .mode < decode table .modes) (l .strands)) ls → All (ModeIn (decode table .modes)) (entriesAt (dispatch (decode table)) ls σ)
+  pub enter-modes : (ls : List (Level (dispatch (decode table)))) (σ : Element) → All (λ (l : Level (dispatch (decode table))). All (λ (r : HeldStrand ℕ). r .mode < decode table .modes) (l .strands)) ls → All (ModeIn (decode table .modes)) (entriesAt (dispatch (decode table)) ls σ)
   enter-modes [] σ h = take-modes σ (heldBeforeRoot ∷ []) (header-in table accepted .some-mode, tt)
   enter-modes (l ∷ ls) σ h =
-      holds-cond (All (ModeIn (decode table .modes))) (sameSpace (l .at .space) (σ .space))
+      holds-cond (All (ModeIn (decode table .modes))) (dispatch (decode table) .sameSection (l .at) σ)
       (λ e. map-each (λ (r : HeldStrand ℕ). r .mode < decode table .modes) (ModeIn (decode table .modes)) _ (λ r k. k) (l .strands) (h .0))
       (λ e. take-modes σ (l .strands) (h .0))
 
