@@ -110,68 +110,9 @@
 extern "C" {
 #endif
 
-/* The version of this interface: of 2.0.0 it is 20000. calcivorne_version() is that of the library which is linked or loaded. */
-#define CALCIVORNE_VERSION_MAJOR 2
-#define CALCIVORNE_VERSION_MINOR 0
-#define CALCIVORNE_VERSION_PATCH 0
-#define CALCIVORNE_VERSION (CALCIVORNE_VERSION_MAJOR * 10000 + CALCIVORNE_VERSION_MINOR * 100 + CALCIVORNE_VERSION_PATCH)
-
 /* A number of an answer or a span: 64 bits, as unsigned long has on Linux on x86-64. */
 typedef unsigned long calcivorne_number;
 typedef char calcivorne_number_has_64_bits[sizeof(calcivorne_number) == 8 ? 1 : -1];
-
-/* The numbers that calls give; what each says stands above. */
-enum calcivorne_numbers {
-    CALCIVORNE_OK = 0,
-    CALCIVORNE_SCENE_ENDS = 1,
-    CALCIVORNE_BAD_BYTE = 2,
-    CALCIVORNE_TOO_LONG = 3,
-    CALCIVORNE_END_UNLIKE_START = 4,
-    CALCIVORNE_BAD_PREFIX = 5,
-    CALCIVORNE_ATTRIBUTE_TWICE = 6,
-    CALCIVORNE_SCENE_TOO_LONG = 7,
-    CALCIVORNE_FINISHED = 9,
-    CALCIVORNE_TABLE_LENGTH = 10,
-    CALCIVORNE_TABLE_FIELD = 11,
-    CALCIVORNE_TABLE_CLASH = 12,
-    CALCIVORNE_BAD_SESSION = 20,
-    CALCIVORNE_TOO_DEEP = 21,
-    CALCIVORNE_TOO_MANY_BINDINGS = 22,
-    CALCIVORNE_TOO_MANY_STRANDS = 23,
-    CALCIVORNE_TOO_MANY_UNITS = 24,
-    CALCIVORNE_OUTPUT_FULL = 25,
-    CALCIVORNE_NOT_OFFERED = 30,
-    CALCIVORNE_SLICE_TOO_SHORT = 255
-};
-
-/* The kinds of records. */
-enum calcivorne_kinds {
-    CALCIVORNE_KIND_OPEN = 0,
-    CALCIVORNE_KIND_START = 1,
-    CALCIVORNE_KIND_ATTRIBUTE = 2,
-    CALCIVORNE_KIND_VALUE = 3,
-    CALCIVORNE_KIND_TEXT = 4,
-    CALCIVORNE_KIND_END = 5,
-    CALCIVORNE_KIND_CLOSE = 6
-};
-
-/* Classes that no table lists; of an open, CALCIVORNE_SCHEMA_REJECT is the schema where no rule was taken. */
-enum calcivorne_classes {
-    CALCIVORNE_CLASS_NONE = 0,
-    CALCIVORNE_CLASS_VIRTUAL = 253,
-    CALCIVORNE_CLASS_XML = 254,
-    CALCIVORNE_CLASS_OTHER = 255,
-    CALCIVORNE_SCHEMA_REJECT = 255
-};
-
-/* The bytes of a record. */
-enum { CALCIVORNE_RECORD_SIZE = 16 };
-
-/*
- * The version of the library, as CALCIVORNE_VERSION has it: a host that loads a shared library asks for at least the minor version that it was written
- * for, and for the same major one.
- */
-calcivorne_number calcivorne_version(void);
 
 /*
  * Judges a rule table: returns 0, 10, 11 or 12. Writes the four numbers of the answer.

@@ -6,7 +6,7 @@ pub mod sections;
 pub const HELD: usize = 144;
 
 // A namespace as a record has it: its class, and for class 255 where its URI stands.
-#[derive(Drop)]
+#[derive(Clone, Copy)]
 pub struct Placing {
     pub class: u8,
     pub at: usize,

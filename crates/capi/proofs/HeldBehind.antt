@@ -4,7 +4,6 @@ use Prim.Native.Nat.{ℕ, ◌≤◌, ◌<◌}
 use mathlib.Core.Path.{◌≡◌, sym, ap, ◌∙◌}
 use mathlib.Core.List.{List}
 use mathlib.Core.Bool.{true}
-use borrow.Author.Tests.{le-ltb}
 use lib.Dec.{eqb}
 use lib.ListN.{length}
 use Rattle.laws.specs.Members.{All}
@@ -24,7 +23,7 @@ unfolding byte_advance
 advance_held most table s b out few long e =
     let z = session_in b in
     let r = advance_of standard most table s z out in
-    rw (le-ltb (length b) 7208 long, e)
+    rw e
     (holds_cond (λ (l : List ℕ). holds_session l ≡ true) (eqb r.answer.events 0)
     (λ n. e)
     (λ n. stored_held b r.session (advance_keeps Storable table s (next_storable table s) most z out (in_storable b few long)) (advance_keeps AllPack table s (next_held table s) most z out (in_packs b e))))

@@ -1,5 +1,5 @@
 // The dispatcher for hosts written in C, C++, Rust or Python: include/calcivorne.h is the manual.
-ghost use Rattle.std.specs.Prelude.{◌≡◌, cond, length, ltb};
+ghost use Rattle.std.specs.Prelude.{◌≡◌, cond, ◌≤◌, length, ltb};
 ghost use Rattle.laws.specs.Over.{overwrite};
 ghost use Rattle.table.specs.Table.{standard};
 ghost use Rattle.table.specs.Judge.{judged};
@@ -8,12 +8,12 @@ ghost use Rattle.sessions.specs.Stepping.{run_of};
 ghost use Rattle.uris.specs.Uris.{uri_span_of};
 ghost use Rattle.layout.specs.Layout.{session_size, session_bytes};
 ghost use Rattle.layout.specs.Answers.{answer_numbers, bytes_behind, too_short};
-ghost use Rattle.capi.specs.Calls.{byte_step, byte_advance, version};
+ghost use Rattle.capi.specs.Calls.{byte_step, byte_advance};
 ghost use Rattle.capi.specs.Sources.{source_number, span_numbers};
 
 use advances::{advance_in, answer_of};
 use judging::judge;
-use layout::answers::{TOO_SHORT, no_session, refusal, tell};
+use layout::answers::{TOO_SHORT, no_session, tell};
 use layout::storing::{SESSION_SIZE, arrays_in, head_in, holds_session, put_fresh, put_session};
 use strands::LEVELS;
 use table::Answer;
@@ -47,14 +47,6 @@ pub extern "C" fn calcivorne_run(
     a.number
 }
 
-// The interface's version.
-#[unsafe(no_mangle)]
-pub extern "C" fn calcivorne_version() -> u64
-    ensures { result ≡ version }
-{
-    20000
-}
-
 // How many bytes a session takes.
 #[unsafe(no_mangle)]
 pub extern "C" fn calcivorne_session_size() -> u64
@@ -76,7 +68,7 @@ pub extern "C" fn calcivorne_fresh(session: &mut [u8]) -> u8
     0
 }
 
-// At most so many events of the session in bytes, which are written where a step gave 0; 255 where they are too few.
+// At most so many events of the session in bytes, which are written where a step gave 0.
 fn advance_bytes(
     table: &[u8],
     scene: &[u8],
@@ -84,13 +76,11 @@ fn advance_bytes(
     most: usize,
     out: &mut [u8],
 ) -> Answer
+    requires { session_size ≤ length session.old }
     ensures value { result ≡ (byte_advance most table.now scene.now session.old out.old).answer }
     ensures out_after { out.new ≡ (byte_advance most table.now scene.now session.old out.old).output }
     ensures session_after { session.new ≡ bytes_behind session.old (byte_advance most table.now scene.now session.old out.old) }
 {
-    if session.len() < SESSION_SIZE {
-        return refusal(TOO_SHORT, 0);
-    }
     if !holds_session(session) {
         return no_session(table, scene);
     }
@@ -114,7 +104,7 @@ fn advance_bytes(
     a
 }
 
-// A step: one event.
+// A step: one event, or 255 and nothing written where the session has no room.
 #[unsafe(no_mangle)]
 pub extern "C" fn calcivorne_step(
     table: &[u8],
@@ -123,17 +113,20 @@ pub extern "C" fn calcivorne_step(
     out: &mut [u8],
     answer: &mut [u64; 4],
 ) -> u8
-    ensures value { result ≡ (byte_step table.now scene.now session.old out.old).answer.number }
-    ensures answer_after { answer.new ≡ answer_numbers (byte_step table.now scene.now session.old out.old).answer }
-    ensures out_after { out.new ≡ (byte_step table.now scene.now session.old out.old).output }
-    ensures session_after { session.new ≡ bytes_behind session.old (byte_step table.now scene.now session.old out.old) }
+    ensures value { result ≡ cond (ltb (length session.old) session_size) too_short (byte_step table.now scene.now session.old out.old).answer.number }
+    ensures answer_after { answer.new ≡ cond (ltb (length session.old) session_size) answer.old (answer_numbers (byte_step table.now scene.now session.old out.old).answer) }
+    ensures out_after { out.new ≡ cond (ltb (length session.old) session_size) out.old (byte_step table.now scene.now session.old out.old).output }
+    ensures session_after { session.new ≡ cond (ltb (length session.old) session_size) session.old (bytes_behind session.old (byte_step table.now scene.now session.old out.old)) }
 {
+    if session.len() < SESSION_SIZE {
+        return TOO_SHORT;
+    }
     let a = advance_bytes(table, scene, session, 1, out);
     tell(a, answer);
     a.number
 }
 
-// An advance: at most so many steps, until one's number is not 0, their records joined.
+// An advance: at most so many steps, until one's number is not 0, their records joined; or 255 and nothing written where the session has no room.
 #[unsafe(no_mangle)]
 pub extern "C" fn calcivorne_advance(
     table: &[u8],
@@ -143,11 +136,14 @@ pub extern "C" fn calcivorne_advance(
     out: &mut [u8],
     answer: &mut [u64; 4],
 ) -> u8
-    ensures value { result ≡ (byte_advance most table.now scene.now session.old out.old).answer.number }
-    ensures answer_after { answer.new ≡ answer_numbers (byte_advance most table.now scene.now session.old out.old).answer }
-    ensures out_after { out.new ≡ (byte_advance most table.now scene.now session.old out.old).output }
-    ensures session_after { session.new ≡ bytes_behind session.old (byte_advance most table.now scene.now session.old out.old) }
+    ensures value { result ≡ cond (ltb (length session.old) session_size) too_short (byte_advance most table.now scene.now session.old out.old).answer.number }
+    ensures answer_after { answer.new ≡ cond (ltb (length session.old) session_size) answer.old (answer_numbers (byte_advance most table.now scene.now session.old out.old).answer) }
+    ensures out_after { out.new ≡ cond (ltb (length session.old) session_size) out.old (byte_advance most table.now scene.now session.old out.old).output }
+    ensures session_after { session.new ≡ cond (ltb (length session.old) session_size) session.old (bytes_behind session.old (byte_advance most table.now scene.now session.old out.old)) }
 {
+    if session.len() < SESSION_SIZE {
+        return TOO_SHORT;
+    }
     let a = advance_bytes(table, scene, session, most as usize, out);
     tell(a, answer);
     a.number

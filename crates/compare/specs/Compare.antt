@@ -13,7 +13,7 @@ span_start s at = cond (leb at (length s)) at 0
 
 -- where a part of the lent slice s points that begins at the place k of it: to the same memory, k bytes on
 abbrev pub place_in : Bor (List ℕ) → ℕ → ℕ × ℕ
-place_in s k = (s.ptr.0, s.ptr.1 + k)
+place_in s k = (s.ref_ptr.0, s.ref_ptr.1 + k)
 
 -- "the namespace of prefix xml, http://www.w3.org/XML/1998/namespace"
 abbrev pub xml_uri : List ℕ

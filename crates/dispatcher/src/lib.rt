@@ -19,7 +19,7 @@ use strands::LEVELS;
 use table::Answer;
 
 // Where a run over a scene is. A caller may hand in any: number 20 judges it.
-#[derive(Drop)]
+#[derive(Clone, Copy)]
 pub struct Session {
     pub place: usize,
     // Units opened so far.
@@ -37,7 +37,7 @@ pub struct Session {
 }
 
 // What a step hands back.
-#[derive(Drop)]
+#[derive(Clone, Copy)]
 pub struct Stepped {
     pub answer: Answer,
     pub session: Session,

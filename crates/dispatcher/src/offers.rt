@@ -9,14 +9,14 @@ use advances::answer_of;
 use asking::{commit_in, same_session};
 
 // A session that was asked about, and the scene's length. A caller may hand in any.
-#[derive(Drop)]
+#[derive(Clone, Copy)]
 pub struct Offer {
     pub session: Session,
     pub length: usize,
 }
 
 // What ask hands back.
-#[derive(Drop)]
+#[derive(Clone, Copy)]
 pub struct Asked {
     pub number: u8,
     pub place: usize,

@@ -15,7 +15,7 @@ use tags::{attr_in, end_tag, start_tag};
 use values::text_end;
 
 // Where the reader is; number 0 while it goes on, else the number and the place that it stops with.
-#[derive(Drop)]
+#[derive(Clone, Copy)]
 struct Walk {
     place: usize,
     closed: bool,

@@ -13,7 +13,7 @@ use strands::LEVELS;
 use strands::levels::count_at;
 
 // What a run with an output that suffices comes to: its number and place, how many records it writes, how many units it opens, the most strands of a level that was open, the most levels open at once.
-#[derive(Drop)]
+#[derive(Clone, Copy)]
 pub struct Forecast {
     pub number: u8,
     pub place: usize,

@@ -27,9 +27,9 @@ short_fresh : host_fresh (replicate 7207 0) ≡ record { number = 255; session =
 unfolding host_fresh
 short_fresh = refl
 
-short_step_lem : host_step T A (replicate 7207 0) out before ≡ record { number = 255; answer = before; output = out; session = replicate 7207 0 }
+short_step : host_step T A (replicate 7207 0) out before ≡ record { number = 255; answer = before; output = out; session = replicate 7207 0 }
 unfolding host_step
-short_step_lem = refl
+short_step = refl
 
 no_session : host_step T A (replicate 7208 0) out before ≡ record { number = 20; answer = 20 ∷ 0 ∷ 0 ∷ 0 ∷ []; output = out; session = replicate 7208 0 }
 unfolding host_step byte_step holds_session judged uris_fill uris_from all any any_pair same_list tabulate

@@ -1,4 +1,4 @@
--- Answers told to a host, and what a call hands back.
+-- Answers told to a host, and what a call with a session of the right or the wrong size hands back.
 use Prim.Native.Nat.{ℕ, ◌≤◌, ◌<◌}
 use mathlib.Core.Path.{◌≡◌, ap, ◌∙◌}
 use mathlib.Core.List.{List}
@@ -44,8 +44,21 @@ module _ (b : List ℕ) (r w : Step) (q : r ≡ w) where
   some_events b' n p = handed_on b' (p ∙ rw (ne_eqb r.answer.events 0 n))
 
 -- ---- what a call hands back: the number that it returns, the answer's numbers, the output, the session's bytes
-pub called : (b : List ℕ) (w : Step) (r : Answer) (answer' out' b' : List ℕ) → Handed r out' b b' w → answer' ≡ answer_numbers r
-    → (r.number ≡ w.answer.number) × ((answer' ≡ answer_numbers w.answer) × ((out' ≡ w.output) × (b' ≡ bytes_behind b w)))
-called b w r answer' out' b' e q =
-    let t = told r w.answer answer' e.0 q in
-    (t.0, (t.1, (e.1.0, e.1.1)))
+module _ (answer out b : List ℕ) (w : Step) where
+  abbrev pub Called : ℕ → List ℕ → List ℕ → List ℕ → Type 0
+  Called n answer' out' b' =
+      (n ≡ cond (ltb (length b) 7208) 255 w.answer.number)
+      × ((answer' ≡ cond (ltb (length b) 7208) answer (answer_numbers w.answer))
+      × ((out' ≡ cond (ltb (length b) 7208) out w.output) × (b' ≡ cond (ltb (length b) 7208) b (bytes_behind b w))))
+
+  pub called_short : length b < 7208 → Called 255 answer out b
+  called_short h = (short b 255 w.answer.number h, (short b answer (answer_numbers w.answer) h, (short b out w.output h, short b b (bytes_behind b w) h)))
+
+  pub called : (r : Answer) (answer' out' b' : List ℕ) → 7208 ≤ length b → Handed r out' b b' w → answer' ≡ answer_numbers r → Called r.number answer' out' b'
+  called r answer' out' b' h e q = (
+    long b 255 w.answer.number r.number h (ap (λ (x : Answer). x.number) e.0),
+    (
+      long b answer (answer_numbers w.answer) answer' h (q ∙ ap answer_numbers e.0),
+      (long b out w.output out' h e.1.0, long b b (bytes_behind b w) b' h e.1.1),
+    ),
+  )

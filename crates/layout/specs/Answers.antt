@@ -20,10 +20,6 @@ unheld table s b out =
 abbrev pub bytes_behind : List ℕ → Step → List ℕ
 bytes_behind b r = cond (eqb r.answer.events 0) b (overwrite b 0 (session_bytes r.session))
 
--- what a slice that is too short for a session, or for an offer, is answered, before anything else: 255; "numbers from 30 write no output and have place
--- and counts 0"
+-- a session slice that is too short
 abbrev pub too_short : ℕ
 too_short = 255
-
-abbrev pub short_step : List ℕ → List ℕ → Step
-short_step b out = refused_step too_short 0 (session_in b) out

@@ -8,7 +8,7 @@ use judging::judge;
 use sessions::LONGEST;
 use table::Answer;
 
-// What a call answers where the slice of a session or an offer has no room for it.
+// What a call answers where the session's slice has no room for it.
 pub const TOO_SHORT: u8 = 255;
 
 // The answer's four numbers.

@@ -4,7 +4,7 @@ pub mod names;
 pub mod stops;
 
 // Why reading stops.
-#[derive(Drop)]
+#[derive(Clone, Copy)]
 pub enum Stop {
     // A byte that cannot stand there.
     Bad(usize),
@@ -15,42 +15,42 @@ pub enum Stop {
 }
 
 // Where what was read ends, or why reading stops.
-#[derive(Drop)]
+#[derive(Clone, Copy)]
 pub enum Read {
     End(usize),
     Stopped(Stop),
 }
 
 // A name: its first byte, the first byte of its last part, and its end.
-#[derive(Drop)]
+#[derive(Clone, Copy)]
 pub struct Name {
     pub at: usize,
     pub part: usize,
     pub end: usize,
 }
 
-#[derive(Drop)]
+#[derive(Clone, Copy)]
 pub enum Named {
     Got(Name),
     Stopped(Stop),
 }
 
 // An attribute: its name, where its value begins and ends.
-#[derive(Drop)]
+#[derive(Clone, Copy)]
 pub struct Attr {
     pub name: Name,
     pub value: usize,
     pub stop: usize,
 }
 
-#[derive(Drop)]
+#[derive(Clone, Copy)]
 pub enum Attributed {
     Got(Attr),
     Stopped(Stop),
 }
 
 // What stands behind a tag's name or an attribute, or behind a field of the declaration.
-#[derive(Drop)]
+#[derive(Clone, Copy)]
 pub enum Turn {
     // The tag's end: the place behind it, and whether it is />, or the declaration's ?>.
     Close(usize, bool),
@@ -60,7 +60,7 @@ pub enum Turn {
 }
 
 // A start tag: its name, how many attributes, the place behind it, and whether it ends in />.
-#[derive(Drop)]
+#[derive(Clone, Copy)]
 pub struct Tag {
     pub name: Name,
     pub count: usize,
@@ -68,27 +68,27 @@ pub struct Tag {
     pub empty: bool,
 }
 
-#[derive(Drop)]
+#[derive(Clone, Copy)]
 pub enum Tagged {
     Got(Tag),
     Stopped(Stop),
 }
 
 // An end tag: its name and the place behind it.
-#[derive(Drop)]
+#[derive(Clone, Copy)]
 pub struct EndTag {
     pub name: Name,
     pub next: usize,
 }
 
-#[derive(Drop)]
+#[derive(Clone, Copy)]
 pub enum Ended {
     Got(EndTag),
     Stopped(Stop),
 }
 
 // What stands at the place where the next event begins.
-#[derive(Drop)]
+#[derive(Clone, Copy)]
 pub enum Begin {
     // The < of a start tag.
     Start(usize),
@@ -102,7 +102,7 @@ pub enum Begin {
 }
 
 // What stands at a place where the next event may begin.
-#[derive(Drop)]
+#[derive(Clone, Copy)]
 pub enum Ahead {
     Event(Begin),
     // A comment, an instruction or the declaration: the place behind it.
@@ -110,7 +110,7 @@ pub enum Ahead {
 }
 
 // What a declaration holds.
-#[derive(Drop)]
+#[derive(Clone, Copy)]
 pub enum Field {
     Version,
     Encoding,

@@ -6,12 +6,11 @@ use mathlib.Core.Path.{◌≡◌, refl, sym, ap, ◌∙◌}
 use mathlib.Core.List.{List, ◌∷◌, ◌++◌}
 use mathlib.Core.Bool.{Bool, true, false, cond, ◌&&◌}
 use native.Mathlib.Omega.{arith}
-use borrow.Author.Tests.{le-ltb, eq-eqb}
-use lib.ListN.{length, take, drop, length-take}
+use borrow.Author.Tests.{eq-eqb}
+use lib.ListN.{length, take, drop}
 use Rattle.laws.specs.Members.{All}
 use Rattle.laws.specs.Over.{overwrite}
 use Rattle.laws.specs.Tests.{both}
-use Rattle.laws.proofs.Over.{length_over}
 use Rattle.table.specs.Table.{standard}
 use Rattle.sessions.specs.Stepping.{step_of}
 use Rattle.sessions.specs.Asking.{step_where, Offer, offer_of, offered}
@@ -21,7 +20,7 @@ use Rattle.layout.specs.Layout.{session_size, word8, bytes8, session_in, holds_s
 use Rattle.layout.specs.Answers.{unheld}
 use Rattle.layout.proofs.RoundTrip.{read_back, held_back, written_back, in_packs, in_storable}
 use Rattle.layout.proofs.Within.{has_long}
-use Rattle.offers.specs.Layout.{offer_size, offer_in, holds_offer, offer_bytes}
+use Rattle.offers.specs.Layout.{offer_in, holds_offer, offer_bytes}
 use Rattle.offers.specs.Calls.{byte_commit, BytesHoldSame}
 
 -- an offer's bytes in their order, and the bytes behind them
@@ -64,16 +63,10 @@ asked_held session offer s long few short h =
     let rest = drop (0 + length (offer_bytes session (length s))) offer in
     (ap holds_offer e ∙ held session long few s short rest h, ap offer_in e ∙ offer_is session long few s short rest h)
 
--- the offer's slice has the length that it had
-room_kept : (offer session : List ℕ) (n : ℕ) → offer_size ≤ length offer → offer_size ≤ length (overwrite offer 0 (offer_bytes session n))
-unfolding offer_bytes
-room_kept offer session n room = rw (length_over offer 0 (offer_bytes session n) (omega (arith, length-take session_size session))) room
-
-pub byte_commit_of_ask : (session b offer table s out : List ℕ) → session_size ≤ length session → session_size ≤ length b → offer_size ≤ length offer → All (λ (x : ℕ). x < 256) session → length s < 2 ^ 64 → BytesHoldSame b session
+pub byte_commit_of_ask : (session b offer table s out : List ℕ) → session_size ≤ length session → All (λ (x : ℕ). x < 256) session → length s < 2 ^ 64 → BytesHoldSame b session
     → byte_commit (overwrite offer 0 (offer_bytes session (length s))) b table s out ≡ cond (holds_session b) (step_of standard table s (session_in b) out) (unheld table s b out)
 unfolding byte_commit
-byte_commit_of_ask session b offer table s out long long' room few short same =
-    rw (le-ltb (length b) session_size long', le-ltb _ offer_size (room_kept offer session (length s) room)) (by (holds_session b) refl)
+byte_commit_of_ask session b offer table s out long few short same = by (holds_session b) refl
   where
     z : Session
     z = session_in b

@@ -1,16 +1,17 @@
 // Ask and commit for hosts written in C, C++, Rust or Python: include/calcivorne.h is the manual.
 mod bytes;
 
-ghost use Rattle.std.specs.Prelude.{◌≡◌, cond, length};
+ghost use Rattle.std.specs.Prelude.{◌≡◌, cond, ◌≤◌, length};
 ghost use Rattle.laws.specs.Over.{overwrite};
-ghost use Rattle.layout.specs.Answers.{answer_numbers, bytes_behind};
+ghost use Rattle.layout.specs.Layout.{session_size};
+ghost use Rattle.layout.specs.Answers.{answer_numbers, bytes_behind, too_short};
 ghost use Rattle.offers.specs.Layout.{offer_size, offer_bytes};
 ghost use Rattle.offers.specs.Calls.{lacks_room, byte_ask, byte_commit};
 
 use crate::bytes::{is_offered, put_offer};
 use advances::answer_of;
 use asking::{ask_in, commit_in};
-use layout::answers::{TOO_SHORT, no_session, refusal, tell};
+use layout::answers::{TOO_SHORT, no_session, tell};
 use layout::storing::{SESSION_SIZE, arrays_in, head_in, holds_session, put_session};
 use strands::LEVELS;
 use table::Answer;
@@ -33,13 +34,11 @@ fn lacks_room(session: &[u8], offer: &[u8]) -> bool
     (session.len() < SESSION_SIZE) | (offer.len() < OFFER_SIZE)
 }
 
-// What a step of the session in bytes would answer with an output that suffices; 255 where a slice has no room.
-fn ask_bytes(table: &[u8], scene: &[u8], session: &[u8], offer: &[u8]) -> Answer
-    ensures { result ≡ byte_ask table.now scene.now session.now offer.now }
+// What a step of the session in bytes would answer with an output that suffices.
+fn ask_bytes(table: &[u8], scene: &[u8], session: &[u8]) -> Answer
+    requires { session_size ≤ length session.now }
+    ensures { result ≡ byte_ask table.now scene.now session.now }
 {
-    if lacks_room(session, offer) {
-        return refusal(TOO_SHORT, 0);
-    }
     if !holds_session(session) {
         return no_session(table, scene);
     }
@@ -49,7 +48,7 @@ fn ask_bytes(table: &[u8], scene: &[u8], session: &[u8], offer: &[u8]) -> Answer
     ask_in(table, scene, head_in(session), levels, bindings)
 }
 
-// Ask: what a step would answer with an output that suffices, and an offer of it; or 255 and no offer where a slice has no room.
+// Ask: what a step would answer with an output that suffices, and an offer of it; or 255 and nothing written where a slice has no room.
 #[unsafe(no_mangle)]
 pub extern "C" fn calcivorne_ask(
     table: &[u8],
@@ -58,19 +57,20 @@ pub extern "C" fn calcivorne_ask(
     offer: &mut [u8],
     answer: &mut [u64; 4],
 ) -> u8
-    ensures value { result ≡ (byte_ask table.now scene.now session.now offer.old).number }
-    ensures answer_after { answer.new ≡ answer_numbers (byte_ask table.now scene.now session.now offer.old) }
+    ensures value { result ≡ cond (lacks_room session.now offer.old) too_short (byte_ask table.now scene.now session.now).number }
+    ensures answer_after { answer.new ≡ cond (lacks_room session.now offer.old) answer.old (answer_numbers (byte_ask table.now scene.now session.now)) }
     ensures offer_after { offer.new ≡ cond (lacks_room session.now offer.old) offer.old (overwrite offer.old 0 (offer_bytes session.now (length scene.now))) }
 {
-    let a = ask_bytes(table, scene, session, offer);
-    tell(a, answer);
-    if !lacks_room(session, offer) {
-        put_offer(offer, session, scene.len());
+    if lacks_room(session, offer) {
+        return TOO_SHORT;
     }
+    let a = ask_bytes(table, scene, session);
+    put_offer(offer, session, scene.len());
+    tell(a, answer);
     a.number
 }
 
-// A step on the session in bytes, which are written where it gave 0, if it is the one that was asked about; else 30; 255 where a slice has no room.
+// A step on the session in bytes, which are written where it gave 0, if it is the one that was asked about; else 30.
 fn commit_bytes(
     offer: &[u8],
     session: &mut [u8],
@@ -78,13 +78,11 @@ fn commit_bytes(
     scene: &[u8],
     out: &mut [u8],
 ) -> Answer
+    requires { (session_size ≤ length session.old) × (offer_size ≤ length offer.now) }
     ensures value { result ≡ (byte_commit offer.now session.old table.now scene.now out.old).answer }
     ensures out_after { out.new ≡ (byte_commit offer.now session.old table.now scene.now out.old).output }
     ensures session_after { session.new ≡ bytes_behind session.old (byte_commit offer.now session.old table.now scene.now out.old) }
 {
-    if lacks_room(session, offer) {
-        return refusal(TOO_SHORT, 0);
-    }
     if !holds_session(session) {
         return no_session(table, scene);
     }
@@ -109,7 +107,7 @@ fn commit_bytes(
     a
 }
 
-// Commit: a step on what is handed in, where it was asked about, else 30.
+// Commit: a step on what is handed in, where it was asked about, else 30; or 255 and nothing written where a slice has no room.
 #[unsafe(no_mangle)]
 pub extern "C" fn calcivorne_commit(
     offer: &[u8],
@@ -119,11 +117,14 @@ pub extern "C" fn calcivorne_commit(
     out: &mut [u8],
     answer: &mut [u64; 4],
 ) -> u8
-    ensures value { result ≡ (byte_commit offer.now session.old table.now scene.now out.old).answer.number }
-    ensures answer_after { answer.new ≡ answer_numbers (byte_commit offer.now session.old table.now scene.now out.old).answer }
-    ensures out_after { out.new ≡ (byte_commit offer.now session.old table.now scene.now out.old).output }
-    ensures session_after { session.new ≡ bytes_behind session.old (byte_commit offer.now session.old table.now scene.now out.old) }
+    ensures value { result ≡ cond (lacks_room session.old offer.now) too_short (byte_commit offer.now session.old table.now scene.now out.old).answer.number }
+    ensures answer_after { answer.new ≡ cond (lacks_room session.old offer.now) answer.old (answer_numbers (byte_commit offer.now session.old table.now scene.now out.old).answer) }
+    ensures out_after { out.new ≡ cond (lacks_room session.old offer.now) out.old (byte_commit offer.now session.old table.now scene.now out.old).output }
+    ensures session_after { session.new ≡ cond (lacks_room session.old offer.now) session.old (bytes_behind session.old (byte_commit offer.now session.old table.now scene.now out.old)) }
 {
+    if lacks_room(session, offer) {
+        return TOO_SHORT;
+    }
     let a = commit_bytes(offer, session, table, scene, out);
     tell(a, answer);
     a.number

@@ -4,7 +4,7 @@ pub mod lines;
 pub mod rows;
 
 // How many bytes of the buffer the file has; or that it could not be read whole, and then a message names it.
-#[derive(Drop)]
+#[derive(Clone, Copy)]
 pub enum Loaded {
     Bytes(usize),
     Failed,

@@ -4,21 +4,21 @@ pub mod kinds;
 pub mod scopes;
 
 // Bytes of the scene: the first, and how many.
-#[derive(Drop)]
+#[derive(Clone, Copy)]
 pub struct Span {
     pub at: usize,
     pub len: usize,
 }
 
 // A declaration: the span of its prefix, zero for the default, and of its URI.
-#[derive(Drop)]
+#[derive(Clone, Copy)]
 pub struct Binding {
     pub prefix: Span,
     pub uri: Span,
 }
 
 // What an attribute's name makes of it.
-#[derive(Drop)]
+#[derive(Clone, Copy)]
 pub enum Kind {
     // In no namespace.
     Plain,
@@ -31,7 +31,7 @@ pub enum Kind {
 }
 
 // The declaration in force: none, xml's own, the k-th of the tag's own, the k-th of those that are open; or none for a prefix that needs one.
-#[derive(Drop)]
+#[derive(Clone, Copy)]
 pub enum Found {
     Nothing,
     Xml,
@@ -41,14 +41,14 @@ pub enum Found {
 }
 
 // How many declarations a tag has, or number 5.
-#[derive(Drop)]
+#[derive(Clone, Copy)]
 pub enum Declared {
     Own(usize),
     Refused,
 }
 
 // What a tag means: its element's declaration in force and how many declarations it has; or number 5; or number 6.
-#[derive(Drop)]
+#[derive(Clone, Copy)]
 pub enum Meant {
     Element(Found, usize),
     Undeclared,
@@ -56,7 +56,7 @@ pub enum Meant {
 }
 
 // The open elements, three numbers to a level (its name's place and length, how many bindings it has), and the open bindings, four numbers to a binding.
-#[derive(Drop)]
+#[derive(Clone, Copy)]
 pub struct Scope {
     pub depth: usize,
     pub bound: usize,
@@ -65,7 +65,7 @@ pub struct Scope {
 }
 
 // A scope with an element more, or number 21 or 22 and the scope as it was.
-#[derive(Drop)]
+#[derive(Clone, Copy)]
 pub struct Opened {
     pub number: u8,
     pub scope: Scope,

@@ -6,7 +6,7 @@ ghost use Rattle.laws.specs.Gather.{gather};
 ghost use Rattle.records.specs.Rows.{row_bytes, laid, laid_row, laid_if, bytes8, first_word, unit_word, last_word, words_row};
 
 // A record's seven fields.
-#[derive(Drop)]
+#[derive(Clone, Copy)]
 pub struct Row {
     pub unit: u32,
     pub kind: u8,

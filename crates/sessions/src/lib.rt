@@ -22,7 +22,7 @@ pub const UNITS: usize = 65536;
 pub const LONGEST: usize = 16777215;
 
 // The numbers of a session.
-#[derive(Drop)]
+#[derive(Clone, Copy)]
 pub struct Head {
     pub place: usize,
     pub units: usize,
@@ -33,7 +33,7 @@ pub struct Head {
 }
 
 // What one event's work gives: a number and its place, how many records it has, and the session's numbers behind it.
-#[derive(Drop)]
+#[derive(Clone, Copy)]
 pub struct Turn {
     pub number: u8,
     pub place: usize,
@@ -42,7 +42,7 @@ pub struct Turn {
 }
 
 // What some steps give: the last one's number and place, how many events and records, and the session's numbers behind them.
-#[derive(Drop)]
+#[derive(Clone, Copy)]
 pub struct Advanced {
     pub number: u8,
     pub place: usize,
@@ -52,7 +52,7 @@ pub struct Advanced {
 }
 
 // A start tag with its namespaces: its <, the tag, its declaration in force, how many declarations it has, and whether its attributes are plain.
-#[derive(Drop)]
+#[derive(Clone, Copy)]
 pub struct Started {
     pub at: usize,
     pub tag: Tag,
@@ -62,14 +62,14 @@ pub struct Started {
 }
 
 // What reading a start tag comes to: a start, or a number and its place.
-#[derive(Drop)]
+#[derive(Clone, Copy)]
 pub enum Reading {
     Start(Started),
     Refused(u8, usize),
 }
 
 // What comes next, decided without an output: a start, its namespace and what it makes; a text, its first byte and the place behind it; an end, its name's part, its tag's < and the place behind it; the end of a />; the scene's end; or a number and its place.
-#[derive(Drop)]
+#[derive(Clone, Copy)]
 pub enum Planned {
     Start(Started, Placing, Decided),
     Text(usize, usize),

@@ -11,21 +11,21 @@ use reader::Scope;
 pub const LEVELS: usize = 24 * Scope::DEPTH;
 
 // Attribute units: how many, and how many records they have.
-#[derive(Drop)]
+#[derive(Clone, Copy)]
 pub struct Load {
     pub units: usize,
     pub records: usize,
 }
 
 // Where writing has come to: the next unit's number, and the first free byte.
-#[derive(Drop)]
+#[derive(Clone, Copy)]
 pub struct Wrote {
     pub unit: usize,
     pub used: usize,
 }
 
 // What the starts of an element along its strands have in common: its tag's <, its part, its class and its URI.
-#[derive(Drop)]
+#[derive(Clone, Copy)]
 pub struct Begun {
     pub tag: u32,
     pub class: u8,

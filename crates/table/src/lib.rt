@@ -3,7 +3,7 @@ pub mod uris;
 pub mod words;
 
 // What judge, step and run hand back, but for the session.
-#[derive(Drop)]
+#[derive(Clone, Copy)]
 pub struct Answer {
     pub number: u8,
     pub place: usize,
@@ -12,7 +12,7 @@ pub struct Answer {
 }
 
 // The four bytes that a table begins with: how many namespaces, modes, schemas and rules.
-#[derive(Drop)]
+#[derive(Clone, Copy)]
 pub struct Header {
     pub namespaces: u8,
     pub modes: u8,
@@ -21,7 +21,7 @@ pub struct Header {
 }
 
 // What a rule does with a section.
-#[derive(Drop)]
+#[derive(Clone, Copy)]
 pub enum Action {
     Attach,
     Unwrap,
@@ -29,7 +29,7 @@ pub enum Action {
 }
 
 // A rule's fields, as its 32 bits have them.
-#[derive(Drop)]
+#[derive(Clone, Copy)]
 pub struct Fields {
     pub mode: u8,
     pub kind: u8,
@@ -41,7 +41,7 @@ pub struct Fields {
 }
 
 // A rule of an accepted table.
-#[derive(Drop)]
+#[derive(Clone, Copy)]
 pub struct Rule {
     pub mode: u8,
     pub kind: u8,
@@ -52,14 +52,14 @@ pub struct Rule {
 }
 
 // Where a listed URI stands in the table.
-#[derive(Drop)]
+#[derive(Clone, Copy)]
 pub struct Listed {
     pub at: usize,
     pub len: usize,
 }
 
 // The rules of a mode, kind and class in the index: their key, the first of them, and where they all have ended.
-#[derive(Drop)]
+#[derive(Clone, Copy)]
 pub struct Chosen {
     pub key: u32,
     pub first: usize,

@@ -8,14 +8,14 @@ use table::uris::place_of;
 use table::words::header_of;
 
 // Where a URI stands: in the table or in the scene, its place and its length.
-#[derive(Drop)]
+#[derive(Clone, Copy)]
 pub struct UriSpan {
     pub source: Source,
     pub at: usize,
     pub len: usize,
 }
 
-#[derive(Drop)]
+#[derive(Clone, Copy)]
 pub enum Source {
     Table,
     Scene,

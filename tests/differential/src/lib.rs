@@ -5,13 +5,10 @@
 //! bounds the random loops. `shapes` has tables and scenes, `held` sessions inside them and changes to their bytes.
 
 pub mod asked;
-pub mod by_reference;
 pub mod calls;
 pub mod case;
 pub mod checked;
-pub mod expected;
 pub mod held;
-pub mod interface;
 pub mod layout;
 pub mod pace;
 pub mod shapes;

@@ -1,8 +1,14 @@
 -- `capi::calcivorne_advance` meets its contract.
 use borrow.Author.Rules.{rules}
-use Rattle.layout.proofs.Told.{called}
+use Rattle.layout.proofs.Told.{called_short, called}
+use Rattle.capi.specs.Calls.{byte_advance}
 use Rattle.capi.proofs.calcivorne_advance.Statement.{statement}
 use Rattle.capi.proofs.calcivorne_advance.Tie as tie
+
+returns : tie.Need-returns
+returns c =
+    let a = c.before.before.before.before.before.args in
+    called_short a.answer.now a.out.now a.session.now (byte_advance a.most a.table.now a.scene.now a.session.now a.out.now) c.if1.true
 
 advance-bytes-requires : tie.Need-advance-bytes-requires
 advance-bytes-requires c κs = search rules
@@ -16,8 +22,12 @@ same_length c = search rules
 same-length-2 : tie.Need-same-length-2
 same-length-2 c = search rules
 
-returns : tie.Need-returns
-returns c = ?
+returns-2 : tie.Need-returns-2
+returns-2 c =
+    let a = c.before.before.before.before.before.before.before.before.before.before.before.before.before.before.args in
+    called a.answer.now a.out.now a.session.now (byte_advance a.most a.table.now a.scene.now a.session.now a.out.now) c.before.before.before.before.before.before.advance-bytes.result _ _ _ c.before.before.before.before.before.before.before.before.before.if1.false c.before.before.before.before.before.before.advance-bytes.ensures c.tell.ensures
 
 pub calcivorne_advance_spec : {M : Type 1} → statement M
-calcivorne_advance_spec = tie.close (tie.spec advance-bytes-requires tell-requires same_length same-length-2 returns)
+calcivorne_advance_spec =
+    tie.close
+    (tie.spec returns advance-bytes-requires tell-requires same_length same-length-2 returns-2)

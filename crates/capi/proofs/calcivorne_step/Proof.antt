@@ -1,7 +1,7 @@
 -- `capi::calcivorne_step` meets its contract.
 use mathlib.Core.Path.{subst}
 use borrow.Author.Rules.{rules}
-use Rattle.layout.proofs.Told.{Handed, called-short, called}
+use Rattle.layout.proofs.Told.{Handed, called_short, called}
 use Rattle.capi.specs.Calls.{byte_step}
 use Rattle.capi.proofs.ByteSteps.{byte_one}
 use Rattle.capi.proofs.calcivorne_step.Statement.{statement}
@@ -10,7 +10,7 @@ use Rattle.capi.proofs.calcivorne_step.Tie as tie
 returns : tie.Need-returns
 returns c =
     let a = c.before.before.before.before.before.args in
-    called-short a.answer.now a.out.now a.session.now (byte_step a.table.now a.scene.now a.session.now a.out.now) c.if1.true
+    called_short a.answer.now a.out.now a.session.now (byte_step a.table.now a.scene.now a.session.now a.out.now) c.if1.true
 
 advance-bytes-requires : tie.Need-advance-bytes-requires
 advance-bytes-requires c κs = search rules

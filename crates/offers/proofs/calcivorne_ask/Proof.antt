@@ -4,7 +4,7 @@ use Rattle.laws.specs.Over.{overwrite}
 use lib.ListN.{length}
 use Rattle.offers.specs.Layout.{offer_bytes}
 use Rattle.offers.specs.Calls.{byte_ask}
-use Rattle.offers.proofs.Rooms.{has_room, asked_none, asked-some}
+use Rattle.offers.proofs.Rooms.{has_room, asked_none, asked_some}
 use Rattle.offers.proofs.calcivorne_ask.Statement.{statement}
 use Rattle.offers.proofs.calcivorne_ask.Tie as tie
 
@@ -43,7 +43,7 @@ returns-2 : tie.Need-returns-2
 returns-2 c =
     let a = c.before.before.before.before.before.before.before.before.before.before.before.before.before.before.args in
     let r = c.before.before.before.before.before.before.before.before.lacks-room in
-    asked-some a.session.now a.offer.now r.result r.ensures a.answer.now (byte_ask a.table.now a.scene.now a.session.now) (overwrite a.offer.now 0 (offer_bytes a.session.now (length a.scene.now))) c.before.before.before.before.before.before.ask-bytes.result _ _ c.before.before.before.before.before.before.before.if1.false c.before.before.before.before.before.before.ask-bytes.ensures c.tell.ensures c.before.before.before.before.put-offer.ensures
+    asked_some a.session.now a.offer.now r.result r.ensures a.answer.now (byte_ask a.table.now a.scene.now a.session.now) (overwrite a.offer.now 0 (offer_bytes a.session.now (length a.scene.now))) c.before.before.before.before.before.before.ask-bytes.result _ _ c.before.before.before.before.before.before.before.if1.false c.before.before.before.before.before.before.ask-bytes.ensures c.tell.ensures c.before.before.before.before.put-offer.ensures
 
 pub calcivorne_ask_spec : {M : Type 1} → statement M
 calcivorne_ask_spec =
