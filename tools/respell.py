@@ -23,6 +23,7 @@ USE = re.compile(r"(?m)^\s*(?:pub )?(?:ghost )?use ([^\s{;]+)\.\{([^}]*)\}")
 OTHERS = {}
 # lemmas that port.py gave the name that their definition gets now, by file
 LEMMAS = {
+    "coherence/proofs/NameChecks": ["part_end"],
     "defaults/proofs/SameEnds": ["first_past"],
     "demands/proofs/Ends": ["first_past"],
     "demands/proofs/Limits": ["first_past"],

@@ -1,5 +1,5 @@
 -- Bytes that are a name part or a name as a whole, told by what reads them alone: a part that they cut is one where a character ends with them.
---     part_past, part_end, part_bad, part_long     a part from a place on, by the ways that reading it ends, but for
+--     part_past, part_end_lem, part_bad, part_long     a part from a place on, by the ways that reading it ends, but for
 --     whole_quick, Cutting, cutting-*              one that the bytes cut: by their last byte, or a turn of `ends_whole`
 --     name_alone, name_colon, ..                   a name, by what stands behind its first part
 use Prim.Native.Nat.{ℕ, zero, suc, ◌+◌, ◌-◌, ◌≤◌, ◌<◌, zero-le}
@@ -225,8 +225,8 @@ module _ (l : List ℕ) where
 
     -- r: what reads it
     module _ (r : Read) (a : r ≡ part_end l at) where
-      pub part_end : (j : ℕ) → r ≡ read.End j → false ≡ part_to (length l) (part_end ended at)
-      part_end j q =
+      pub part_end_lem : (j : ℕ) → r ≡ read.End j → false ≡ part_to (length l) (part_end ended at)
+      part_end_lem j q =
           let e : read.End j ≡ part_end l at = sym q ∙ a in
           rw (part_kept (read.End j) e (differs j Cut)) (sym (ne_eqb j (length l) (λ z. omega (arith, part_ends j e))))
 

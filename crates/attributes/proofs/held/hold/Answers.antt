@@ -1,0 +1,50 @@
+-- `strands::attributes::hold` meets its contract: what is held and what is left are the attributes that are no declarations.
+use mathlib.Core.Path.{refl, ap, ◌∙◌}
+use mathlib.Core.Logic.{⊎_elim}
+use Prim.Native.Nat.{◌-◌, ◌<◌}
+use native.Mathlib.Omega.{arith}
+use lib.ListN.{get_or}
+use Rattle.reader.specs.Stored.{Coded, is_declaration}
+use Rattle.attributes.proofs.Known.{code_within, coded_at_lem, begin_holds, turn_over, turn_put, ended_holds}
+use Rattle.attributes.proofs.held.hold.Goals as goal
+
+pub loop-i-init : goal.loop-i-init
+loop-i-init c =
+    let a = c.args in
+    begin_holds a.s.now a.own.now a.outer.now a.bound a.known.now a.attrs.now a.count a.codes.now _ _ c.at_most-most.ensures c.all-1.given.0.1
+
+pub space_of-space-requires : goal.space_of-space-requires
+space_of-space-requires c =
+    let q = c in
+    let a = q.args in
+    let l = c.loop-i in
+    let m = c.at_most-most in
+    let h = c.loop-i-test.true in
+    (q.requires.0, code_within (get_or a.codes.now l.i 0) (coded_at_lem (λ (x : Coded). x.code < 82) a.attrs.now a.codes.now a.count m.result l.i m.ensures h q.requires.1) _ c.found_in.ensures)
+
+pub put_given-requires : goal.put_given-requires
+put_given-requires c =
+    let d = c.loop-i.invariant in
+    omega (arith, c.loop-i-test.true, d.long, d.most_few, d.few)
+
+pub loop-i-preserved : goal.loop-i-preserved
+loop-i-preserved c =
+    let a = c.args in
+    let l = c.loop-i in
+    let m = c.at_most-most in
+    let h = c.loop-i-test.true in
+    let r = c.attr_in-a in
+    let e = c.is_declaration.ensures ∙ ap is_declaration c.kind_of.ensures in
+    ⊎_elim
+    (λ w.
+    turn_put a.s.now a.own.now a.outer.now a.bound a.known.now a.attrs.now a.count a.codes.now m.result _ m.ensures l.all l.n l.i l.invariant h r.result r.ensures c.is_declaration.result e w.0.taken
+    (get_or a.codes.now l.i 0) refl w.2.result w.2.ensures w.3.result w.3.ensures c.if-not-is_declaration.all (w.8 ∙ w.5.ensures) c.if-not-is_declaration.n w.9)
+    (λ w. turn_over a.s.now a.own.now a.outer.now a.bound a.known.now a.attrs.now a.count a.codes.now m.result _ m.ensures l.all l.n l.i l.invariant h r.result r.ensures c.is_declaration.result e w.0.left c.if-not-is_declaration.all w.1 c.if-not-is_declaration.n w.2)
+    c.if-not-is_declaration.branch
+
+pub returns : goal.returns
+returns c =
+    let a = c.args in
+    let l = c.loop-i in
+    let m = c.at_most-most in
+    ended_holds a.s.now a.own.now a.outer.now a.bound a.known.now a.attrs.now a.count a.codes.now m.result _ m.ensures l.all l.n l.i l.invariant c.loop-i-test.false

@@ -1,0 +1,12 @@
+-- `compare::same_bytes` meets its contract: at each turn the answer is that of what is left of both.
+use Prim.Native.Nat.{◌-◌}
+use mathlib.Core.Path.{◌≡◌}
+use lib.ListN.{length, drop}
+use Rattle.laws.specs.Lists.{same_list}
+use Rattle.compare.proofs.same_bytes.Given as goal
+
+abbrev pub invariant-loop-k : goal.invariant-loop-k
+invariant-loop-k l = (length l.a ≡ length l.b) × (same_list (drop l.k l.a) (drop l.k l.b) ≡ same_list l.a l.b)
+
+abbrev pub decreases-loop-k : goal.decreases-loop-k
+decreases-loop-k l = length l.a - l.k

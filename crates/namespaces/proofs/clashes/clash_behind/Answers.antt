@@ -1,0 +1,41 @@
+-- `reader::clashes::clash_behind` meets its contract: at each turn the answer is that of the attributes that are left.
+use Prim.Native.Nat.{◌-◌}
+use mathlib.Core.Path.{refl, sym}
+use mathlib.Core.Logic.{⊎_elim}
+use native.Mathlib.Omega.{arith}
+use Rattle.reader.proofs.Any.{or_hit, or_miss}
+use Rattle.reader.proofs.Indexed.{at_most_le}
+use Rattle.reader.proofs.Clashing.{behind_turn, behind_past, behind_out}
+use Rattle.namespaces.proofs.clashes.clash_behind.Goals as goal
+
+pub loop-j-init : goal.loop-j-init
+loop-j-init c = (at_most_le 16 c.args.count _ c.at_most-most.ensures, omega arith, refl)
+
+pub returns-then-clash_at : goal.returns-then-clash_at
+returns-then-clash_at c =
+    let l = c in
+    let a = l.args in
+    or_hit _ _ _
+    (behind_turn _ a.spaces.now a.count _ l.at_most-most.ensures _ _ _ _ _ l.loop-j.j l.loop-j.invariant.2 c.loop-j-test.true _ c.clash_at.ensures)
+    c.if-clash_at.true
+
+pub loop-j-preserved : goal.loop-j-preserved
+loop-j-preserved c =
+    let l = c in
+    let b = l in
+    let most = l.at_most-most.ensures in
+    let test = c.loop-j-test.true in
+    let t =
+    ⊎_elim
+    (λ w. or_miss _ _ _ (behind_turn _ b.args.spaces.now b.args.count _ most _ _ _ _ _ l.loop-j.j l.loop-j.invariant.2 test _ w.1.ensures) w.2.left)
+    (λ w.
+    behind_past _ b.args.spaces.now b.args.count _ most _ _ _ _ _ l.loop-j.j l.loop-j.invariant.2 test
+    (b.requires.1 b.args.i l.loop-j.j (omega (arith, most)) (omega (arith, most)) (λ e. w.left (sym e))))
+    c.if-keys-j.branch in
+    (l.loop-j.invariant.0, omega arith, t)
+
+pub returns : goal.returns
+returns c =
+    let l = c in
+    let a = l.args in
+    behind_out a.attrs.now a.spaces.now a.count _ l.at_most-most.ensures a.s.now a.own.now a.outer.now a.i _ l.loop-j.j l.loop-j.invariant.2 c.loop-j-test.false

@@ -1,0 +1,27 @@
+-- `openings::weighing::weigh` meets its contract: the sum of what its callees count.
+use mathlib.Core.Path.{sym, ◌∙◌}
+use mathlib.Core.Logic.{⊎_elim}
+use Prim.Native.Nat.{◌+◌}
+use Rattle.openings.proofs.Deciding.{Numbers, numbers_none, weigh_heavy, weigh_light}
+use Rattle.attributes.specs.Attributes.{sorted_held}
+use Rattle.openings.proofs.weighing.weigh.Goals as goal
+
+pub returns-then-all-gt-UNITS : goal.returns-then-all-gt-UNITS
+returns-then-all-gt-UNITS c =
+    let a = c.args in
+    weigh_heavy a.index.now (sorted_held a.attributes.now a.n) a.n a.m a.count a.units a.words.now _ _ _
+    c.load_all-load.ensures.0 c.new_units-here.ensures.0 _ c.only.ensures c.if-all-gt-UNITS.true
+
+pub returns : goal.returns
+returns c =
+    let a = c.args in
+    let d = c.load_all-load.ensures in
+    let h = c.new_units-here.ensures.0 in
+    let first = a.units + c.load_all-load.result.units in
+    let numbered : Numbers a.count first a.words.now c.if-here-ne0.words =
+    ⊎_elim
+    (λ w es el et un. w.3 ∙ w.2.ensures es el et un)
+    (λ w es el et un. w.1 ∙ numbers_none a.count first a.words.now (sym h ∙ w.0.left) es el et un)
+    c.if-here-ne0.branch in
+    weigh_light a.index.now (sorted_held a.attributes.now a.n) a.n a.m a.count a.units a.words.now _ _ _
+    d.0 h c.if-all-gt-UNITS.false _ _ d.1 c.elements_count.ensures.0 numbered

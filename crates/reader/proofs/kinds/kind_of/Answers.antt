@@ -1,0 +1,16 @@
+-- `reader::kinds::kind_of` meets its contract, at each way out.
+use Rattle.laws.specs.Tests.{tests}
+use Rattle.reader.proofs.Names.{with_prefix, without_prefix}
+use Rattle.reader.proofs.kinds.kind_of.Goals as goal
+
+pub returns-then-same : goal.returns-then-same
+returns-then-same c = search (with_prefix, tests)
+
+pub returns-then-name : goal.returns-then-name
+returns-then-name c = search (with_prefix, tests)
+
+pub returns-then-same-2 : goal.returns-then-same-2
+returns-then-same-2 c = search (without_prefix, tests)
+
+pub returns : goal.returns
+returns c = search (without_prefix, tests)

@@ -1,0 +1,8 @@
+-- `first_word` gives a row's first word but for its unit.
+use mathlib.Core.Path.{refl}
+use Rattle.records.specs.Rows.{first_word}
+use Rattle.records.proofs.first_word.Goals as goal
+
+pub returns : goal.returns
+unfolding first_word
+returns c = refl

@@ -1,0 +1,8 @@
+-- `last_word` gives a row's last word.
+use mathlib.Core.Path.{refl}
+use Rattle.records.specs.Rows.{last_word}
+use Rattle.records.proofs.last_word.Goals as goal
+
+pub returns : goal.returns
+unfolding last_word
+returns c = refl

@@ -1,0 +1,14 @@
+-- `put_row_if` lays a row where it is due and fits.
+use mathlib.Core.Path.{sym, ◌∙◌}
+use Rattle.records.specs.Rows.{laid}
+use Rattle.records.proofs.Laid.{if_due, if_not}
+use Rattle.records.proofs.put_row_if.Goals as goal
+
+pub returns-then-due : goal.returns-then-due
+returns-then-due c =
+    let d = c in
+    let a = d.args in
+    d.put_row.ensures ∙ sym (if_due (laid a.out.now a.at) a.due a.r d.if-due.true)
+
+pub returns : goal.returns
+returns c = c.args in sym (if_not (laid a.out.now a.at) a.due a.r c.if-due.false)

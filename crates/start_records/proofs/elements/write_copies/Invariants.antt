@@ -1,0 +1,23 @@
+-- `write_copies` lays the rows of the element along each strand: those from the k-th on are left.
+use Prim.Native.Nat.{ℕ, ◌+◌, ◌-◌, ◌*◌, ◌≤◌}
+use mathlib.Core.Path.{◌≡◌}
+use mathlib.Core.List.{List, map}
+use lib.ListN.{length}
+use Rattle.laws.specs.Gather.{gather}
+use Rattle.records.specs.Rows.{laid, laid_rows}
+use Rattle.strands.specs.Entries.{entries_in}
+use Rattle.attributes.specs.Attributes.{attributes_in, all_sorted}
+use Rattle.strands.specs.Writing.{row_of, begun_body, whole_bodies, whole_records}
+use Rattle.start_records.proofs.ElementRows.{element_rows}
+use Rattle.start_records.proofs.elements.write_copies.Given as goal
+
+abbrev pub invariant-loop-k : goal.invariant-loop-k
+invariant-loop-k l =
+    (l.k ≤ l.count) × (length l.out ≡ length l.initial.out) × (l.used ≤ l.from + l.k * (32 * (l.n + 1)))
+    × ((sections : List ℕ) → (
+    let records = whole_records l.begun.tag (whole_bodies (begun_body l.begun) (all_sorted (attributes_in l.attributes) sections l.n)) in
+    laid_rows (laid l.out l.used) (element_rows records l.words l.schemas l.count l.k) ≡ laid_rows (laid l.initial.out l.from) (map row_of (gather records (entries_in l.words l.schemas l.count)))
+    ))
+
+abbrev pub decreases-loop-k : goal.decreases-loop-k
+decreases-loop-k l = l.count - l.k

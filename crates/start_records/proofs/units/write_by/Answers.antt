@@ -1,0 +1,31 @@
+-- `write_by` writes the unit of a rule that validates, and of another nothing.
+use native.Mathlib.Omega.{arith}
+use Rattle.records.specs.Rows.{laid}
+use Rattle.attributes.specs.Attributes.{attributes_in, sections_in, all_sorted}
+use Rattle.strands.specs.Writing.{members}
+use Rattle.start_records.proofs.UnitRows.{by_attach, by_unwrap, one_unit, by_validate}
+use Rattle.start_records.proofs.units.write_by.Goals as goal
+
+pub overflow_cast-unit : goal.overflow_cast-unit
+overflow_cast-unit c =
+    let a = c.args in
+    let l = members (all_sorted (attributes_in a.attributes.now) (sections_in a.attributes.now) a.n) a.j in
+    omega (arith, c.requires.2, one_unit a.tag l a.schema a.action c.enum_told-in-Validate-1.given.1)
+
+pub returns-in-Attach : goal.returns-in-Attach
+returns-in-Attach c =
+    let a = c.args in
+    let l = members (all_sorted (attributes_in a.attributes.now) (sections_in a.attributes.now) a.n) a.j in
+    by_attach a.tag l a.schema a.action c.enum_told-1.given.1 a.wrote.unit (laid a.out.now a.wrote.used)
+
+pub returns-in-Unwrap : goal.returns-in-Unwrap
+returns-in-Unwrap c =
+    let a = c.args in
+    let l = members (all_sorted (attributes_in a.attributes.now) (sections_in a.attributes.now) a.n) a.j in
+    by_unwrap a.tag l a.schema a.action c.enum_told-in-Unwrap-1.given.1 a.wrote.unit (laid a.out.now a.wrote.used)
+
+pub returns-in-Validate : goal.returns-in-Validate
+returns-in-Validate c =
+    let a = c.args in
+    let l = members (all_sorted (attributes_in a.attributes.now) (sections_in a.attributes.now) a.n) a.j in
+    by_validate a.tag l a.schema a.action c.enum_told-in-Validate-1.given.1 a.wrote.unit (laid a.out.now a.wrote.used) _ c.write_unit-used.ensures

@@ -1,0 +1,24 @@
+-- `write_unit` lays the rows of a unit, from open to close.
+use native.Mathlib.Omega.{arith}
+use Rattle.records.specs.Rows.{laid}
+use Rattle.attributes.specs.Attributes.{attributes_in, sections_in, all_sorted}
+use Rattle.strands.specs.Writing.{members}
+use Rattle.start_records.proofs.UnitRows.{unit_laid}
+use Rattle.start_records.proofs.units.write_unit.Goals as goal
+
+pub shape_of-out : goal.shape_of-out
+shape_of-out c = omega (arith, c.put_row.auto.0, c.put_row-d.auto.0, c.write_members-c.auto.1.1.1.1.0, c.put_row-b.auto.0, c.put_row-a.auto.0)
+
+pub returns : goal.returns
+returns c =
+    let a = c.args in
+    unit_laid a.unit a.schema a.tag (members (all_sorted (attributes_in a.attributes.now) (sections_in a.attributes.now) a.n) a.j)
+    (laid a.out.now a.from) _ _ _ _ _ _ _ _
+    c.put_row-a.ensures
+    c.plain_row.ensures
+    c.put_row-b.ensures
+    c.write_members-c.ensures
+    c.plain_row-2.ensures
+    c.put_row-d.ensures
+    c.plain_row-3.ensures
+    c.put_row.ensures

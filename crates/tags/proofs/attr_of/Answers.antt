@@ -1,0 +1,7 @@
+-- `lexer::tags::attr_of` meets its contract: each number is that of its place.
+use borrow.Author.Rules.{rules}
+use Rattle.lexer.proofs.Arrays.{attr_past}
+use Rattle.tags.proofs.attr_of.Goals as goal
+
+pub returns-then-k-ge16 : goal.returns-then-k-ge16
+returns-then-k-ge16 c = attr_past _ _ (search rules) c.if-k-ge16.true
