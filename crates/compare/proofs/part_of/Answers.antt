@@ -4,7 +4,10 @@ use Rattle.compare.proofs.Span.{past, rest, within, at_start, at_place}
 use Rattle.compare.proofs.part_of.Goals as goal
 
 pub returns-then-len-at : goal.returns-then-len-at
-returns-then-len-at c = let r = c.args in (past a.s.now a.at a.n (omega arith), at_start a.s a.at (omega arith)) in record { bytes = r.0; place = r.1 }
+returns-then-len-at c = let a = c.args in record {
+      bytes = past a.s.now a.at a.n (omega arith);
+      place = at_start a.s a.at (omega arith);
+    }
 
 pub returns-then-len-at-2-clause-bytes : goal.returns-then-len-at-2-clause-bytes
 returns-then-len-at-2-clause-bytes c = search (rest, at_place)

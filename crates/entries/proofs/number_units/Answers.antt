@@ -42,4 +42,4 @@ loop-j-preserved c =
     c.if-is_here.branch
 
 pub returns : goal.returns
-returns c = c.loop-j in numbering_end c.args.words.now c.args.n c.args.unit l.all l.u l.j l.invariant.4 c.loop-j-test.false
+returns c = let l = c.loop-j in numbering_end c.args.words.now c.args.n c.args.unit l.all l.u l.j l.invariant.4 c.loop-j-test.false

@@ -37,7 +37,7 @@ returns-then-k-ge16 c =
     let a = c.args in
     let l = c.loop-i in
     let m = c.mode_of-mode in
-    let z = some_full a.index.now a.class a.w m.result m.ensures.0 c.choose-c.result a.words.now a.schemas.now a.n l.strand-words l.schema-words l.k l.i l.invariant.9 l.invariant.8 c.loop-i-test.true c.if-k-ge16.true in
+    let z = some_full a.index.now a.class a.w m.result m.ensures.0 c.choose-c.result a.words.now a.schemas.now a.n l.strand_words l.schema_words l.k l.i l.invariant.9 l.invariant.8 c.loop-i-test.true c.if-k-ge16.true in
     (z.number, z.strands, z.marks)
 
 pub made_by-requires : goal.made_by-requires
@@ -66,11 +66,11 @@ loop-i-preserved c =
       p.size,
       l.invariant.3,
       l.invariant.4,
-      length-set l.strand-words l.k v.result ∙ l.invariant.5,
-      length-set l.schema-words l.k r.result.schema ∙ l.invariant.6,
+      length-set l.strand_words l.k v.result ∙ l.invariant.5,
+      length-set l.schema_words l.k r.result.schema ∙ l.invariant.6,
       omega arith,
       p,
-      some_one a.index.now a.class a.w m.result m.ensures.0 q.result a.words.now a.schemas.now a.n l.strand-words l.schema-words l.k l.i l.invariant.9 l.invariant.8 t f l.invariant.3 l.invariant.4 r.result r.ensures v.result v.ensures j c.next_rule-i.ensures,
+      some_one a.index.now a.class a.w m.result m.ensures.0 q.result a.words.now a.schemas.now a.n l.strand_words l.schema_words l.k l.i l.invariant.9 l.invariant.8 t f l.invariant.3 l.invariant.4 r.result r.ensures v.result v.ensures j c.next_rule-i.ensures,
     )
 
 pub returns : goal.returns
@@ -78,5 +78,5 @@ returns c =
     let a = c.args in
     let l = c.loop-i in
     let m = c.mode_of-mode in
-    let z = some_end a.index.now a.class a.w m.result m.ensures.0 c.choose-c.result a.words.now a.schemas.now a.n l.strand-words l.schema-words l.k l.i l.invariant.9 l.invariant.8 c.loop-i-test.false l.invariant.7 in
+    let z = some_end a.index.now a.class a.w m.result m.ensures.0 c.choose-c.result a.words.now a.schemas.now a.n l.strand_words l.schema_words l.k l.i l.invariant.9 l.invariant.8 c.loop-i-test.false l.invariant.7 in
     (z.number, z.strands, z.marks)

@@ -13,4 +13,4 @@ pub loop-i-preserved : goal.loop-i-preserved
 loop-i-preserved c = (omega arith, omega arith, search load_on)
 
 pub returns : goal.returns
-returns c = load_done c.args.table.now c.up_to-n.result c.loop-i.i _ _ c.loop-i.invariant.2 c.loop-i-test.false in search load_end
+returns c = let d = load_done c.args.table.now c.up_to-n.result c.loop-i.i _ _ c.loop-i.invariant.2 c.loop-i-test.false in search load_end

@@ -29,4 +29,4 @@ pub shape_of-out : goal.shape_of-out
 shape_of-out c = simp length-set
 
 pub returns : goal.returns
-returns c = c.args in word_stored a.out.now a.at a.w c.requires
+returns c = let a = c.args in word_stored a.out.now a.at a.w c.requires

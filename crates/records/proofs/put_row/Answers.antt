@@ -5,10 +5,10 @@ use Rattle.records.proofs.Laid.{row_late, row_put}
 use Rattle.records.proofs.put_row.Goals as goal
 
 pub returns-then-size-lt16 : goal.returns-then-size-lt16
-returns-then-size-lt16 c = c.args in sym (row_late a.out.now a.at a.r (omega arith))
+returns-then-size-lt16 c = let a = c.args in sym (row_late a.out.now a.at a.r (omega arith))
 
 pub returns-then-size-at : goal.returns-then-size-at
-returns-then-size-at c = c.args in sym (row_late a.out.now a.at a.r (omega arith))
+returns-then-size-at c = let a = c.args in sym (row_late a.out.now a.at a.r (omega arith))
 
 pub returns : goal.returns
 returns c =

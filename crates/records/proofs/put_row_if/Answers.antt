@@ -11,4 +11,4 @@ returns-then-due c =
     d.put_row.ensures ∙ sym (if_due (laid a.out.now a.at) a.due a.r d.if-due.true)
 
 pub returns : goal.returns
-returns c = c.args in sym (if_not (laid a.out.now a.at) a.due a.r c.if-due.false)
+returns c = let a = c.args in sym (if_not (laid a.out.now a.at) a.due a.r c.if-due.false)

@@ -8,7 +8,7 @@ use Rattle.records.proofs.Words.{words_rows, words_start, words_turn}
 use Rattle.records.proofs.put_words.Goals as goal
 
 pub loop-j-init : goal.loop-j-init
-loop-j-init c = c.args in (search rules, search rules, search rules, words_start a.words.now a.unit a.out.now a.at)
+loop-j-init c = let a = c.args in (search rules, search rules, search rules, words_start a.words.now a.unit a.out.now a.at)
 
 pub overflow_add-words : goal.overflow_add-words
 overflow_add-words c = omega (arith, c.requires.2 c.loop-j.j c.loop-j-test.true)

@@ -1,4 +1,5 @@
 -- `lexer::values::furthest_at` meets its contract: the words are taken from the last to the first.
+use mathlib.Core.List.{[]}
 use Rattle.lexer.proofs.References.{furthest_more, furthest_none}
 use Rattle.values.proofs.furthest_at.Goals as goal
 

@@ -22,7 +22,7 @@ past_5 : (c : tie.Else5) → Past c.before.before.before.before.before.before.be
 past_5 c x e = past_4 c.before.before.before x (passed _ _ _ _ _ _ c.before.common-at5.ensures c.if5.false x e)
 
 pub overflow_add-result-then-common_at-eq4-2 : goal.overflow_add-result-then-common_at-eq4-2
-overflow_add-result-then-common_at-eq4-2 c = c.args in omega (arith, found_in a.s.now _ a.at _ c.common_at.ensures (omega arith))
+overflow_add-result-then-common_at-eq4-2 c = let a = c.args in omega (arith, found_in a.s.now _ a.at _ c.common_at.ensures (omega arith))
 
 pub returns-then-common_at-eq4 : goal.returns-then-common_at-eq4
 unfolding reference_end
@@ -38,7 +38,7 @@ pub returns-then-common_at-eq6 : goal.returns-then-common_at-eq6
 returns-then-common_at-eq6 c = past_3 c _ (whole _ _ _ _ _ _ c.common_at-4.ensures c.if-common_at-eq6.true)
 
 pub overflow_add-result-then-common_at-eq6-2 : goal.overflow_add-result-then-common_at-eq6-2
-overflow_add-result-then-common_at-eq6-2 c = c.args in omega (arith, found_in a.s.now _ a.at _ c.common_at-5.ensures (omega arith))
+overflow_add-result-then-common_at-eq6-2 c = let a = c.args in omega (arith, found_in a.s.now _ a.at _ c.common_at-5.ensures (omega arith))
 
 pub returns-then-common_at-eq6-2 : goal.returns-then-common_at-eq6-2
 returns-then-common_at-eq6-2 c = past_4 c _ (whole _ _ _ _ _ _ c.common_at-5.ensures c.if-common_at-eq6-2.true)

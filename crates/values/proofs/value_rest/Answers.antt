@@ -18,7 +18,7 @@ pub returns-then-b-quote : goal.returns-then-b-quote
 returns-then-b-quote c = search machine
 
 pub loop-i-smaller-in-End : goal.loop-i-smaller-in-End
-loop-i-smaller-in-End c = c.args in omega (arith, reference_in a.s.now c.loop-i.i _ _ c.reference_end.ensures c.j-1.given.1, c.plain_end-i.ensures.0)
+loop-i-smaller-in-End c = let a = c.args in omega (arith, reference_in a.s.now c.loop-i.i _ _ c.reference_end.ensures c.j-1.given.1, c.plain_end-i.ensures.0)
 
 pub loop-i-preserved-in-End : goal.loop-i-preserved-in-End
 loop-i-preserved-in-End c = passed_on _ _ _ _ _ _ (plain_passed _ _ _ _ _ c.plain_end-i.ensures) (search reference_passed)

@@ -16,7 +16,7 @@ loop-i-init c =
     (long, begin_plain a.attrs.now a.count c.at_most-most.result c.at_most-most.ensures (attributes_in a.attributes.now) (sections_in a.attributes.now) (length-take-le 128 a.attributes.now (omega arith)) (length-drop 128 a.attributes.now ∙ omega arith))
 
 pub put_given-requires : goal.put_given-requires
-put_given-requires c = c.loop-i.invariant in omega (arith, c.loop-i-test.true, v.0, v.1.most_few)
+put_given-requires c = let v = c.loop-i.invariant in omega (arith, c.loop-i-test.true, v.0, v.1.most_few)
 
 pub overflow_add-all : goal.overflow_add-all
 overflow_add-all c = omega (arith, c.loop-i-test.true, c.loop-i.invariant.1.most_few)
@@ -25,7 +25,7 @@ pub offset_bounds-all-i : goal.offset_bounds-all-i
 offset_bounds-all-i c = omega (arith, c.loop-i-test.true, c.loop-i.invariant.1.most_few)
 
 pub bounds-all-i : goal.bounds-all-i
-bounds-all-i c = c.loop-i.invariant in search (rules, v.0, v.1.most_few)
+bounds-all-i c = let v = c.loop-i.invariant in search (rules, v.0, v.1.most_few)
 
 pub loop-i-preserved : goal.loop-i-preserved
 loop-i-preserved c =

@@ -3,7 +3,7 @@ use Rattle.attributes.proofs.Known.{placed_unlisted, placed_listed}
 use Rattle.attributes.proofs.held.placed.Goals as goal
 
 pub returns-then-class-eq255 : goal.returns-then-class-eq255
-returns-then-class-eq255 c = c.args in placed_unlisted a.class a.uri c.if-class-eq255.true
+returns-then-class-eq255 c = let a = c.args in placed_unlisted a.class a.uri c.if-class-eq255.true
 
 pub returns : goal.returns
-returns c = c.args in placed_listed a.class a.uri c.if-class-eq255.false
+returns c = let a = c.args in placed_listed a.class a.uri c.if-class-eq255.false

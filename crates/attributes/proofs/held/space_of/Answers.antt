@@ -18,10 +18,10 @@ known_class-requires-in-Open c =
     omega (arith, open_few _ _ c.f-in-Open-1.given.1 16 64 c.requires.1)
 
 pub returns-in-Nothing : goal.returns-in-Nothing
-returns-in-Nothing c = c.args in placed_nothing a.own.now a.outer.now a.bound a.known.now _ c.enum_told-1.given.1
+returns-in-Nothing c = let a = c.args in placed_nothing a.own.now a.outer.now a.bound a.known.now _ c.enum_told-1.given.1
 
 pub returns-in-Xml : goal.returns-in-Xml
-returns-in-Xml c = c.args in placed_xml a.own.now a.outer.now a.bound a.known.now _ c.enum_told-in-Xml-1.given.1
+returns-in-Xml c = let a = c.args in placed_xml a.own.now a.outer.now a.bound a.known.now _ c.enum_told-in-Xml-1.given.1
 
 pub returns-in-Own : goal.returns-in-Own
 returns-in-Own c =
@@ -34,4 +34,4 @@ returns-in-Open c =
     placed_open a.own.now a.outer.now a.bound a.known.now _ _ _ _ _ c.placed-in-Open.ensures c.f-in-Open-1.given.1 c.binding_in-b-in-Open.ensures c.known_class-in-Open.ensures
 
 pub returns-in-Unbound : goal.returns-in-Unbound
-returns-in-Unbound c = c.args in placed_unbound a.own.now a.outer.now a.bound a.known.now _ c.enum_told-in-Unbound-1.given.1
+returns-in-Unbound c = let a = c.args in placed_unbound a.own.now a.outer.now a.bound a.known.now _ c.enum_told-in-Unbound-1.given.1

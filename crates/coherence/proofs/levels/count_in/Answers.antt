@@ -5,4 +5,4 @@ use Rattle.coherence.proofs.CheckTurns.{count_past}
 use Rattle.coherence.proofs.levels.count_in.Goals as goal
 
 pub returns-then-k-ge-DEPTH : goal.returns-then-k-ge-DEPTH
-returns-then-k-ge-DEPTH c = c.args in count_past (level_names a.levels.now) a.k (each_long 3 0 a.levels.now) c.if-k-ge-DEPTH.true
+returns-then-k-ge-DEPTH c = let a = c.args in count_past (level_names a.levels.now) a.k (each_long 3 0 a.levels.now) c.if-k-ge-DEPTH.true

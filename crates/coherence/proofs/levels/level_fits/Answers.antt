@@ -9,7 +9,7 @@ use Rattle.coherence.proofs.CheckWays.{level_past, level_name, level_class, leve
 use Rattle.coherence.proofs.levels.level_fits.Goals as goal
 
 pub returns-then-k-ge-DEPTH : goal.returns-then-k-ge-DEPTH
-returns-then-k-ge-DEPTH c = c.args in level_past a.scene.now a.listed a.modes a.units (level_names a.levels.now) (level_spaces a.levels.now) (level_strands a.levels.now) a.k (each_long 4 3 a.levels.now) c.if-k-ge-DEPTH.true
+returns-then-k-ge-DEPTH c = let a = c.args in level_past a.scene.now a.listed a.modes a.units (level_names a.levels.now) (level_spaces a.levels.now) (level_strands a.levels.now) a.k (each_long 4 3 a.levels.now) c.if-k-ge-DEPTH.true
 
 pub returns-then-not-name_fits : goal.returns-then-not-name_fits
 returns-then-not-name_fits c = search level_name

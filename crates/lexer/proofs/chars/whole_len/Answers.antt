@@ -12,7 +12,7 @@ pub overflow_sub-result : goal.overflow_sub-result
 overflow_sub-result c = omega (arith, c.loop-i.invariant.far)
 
 pub returns-then-can_begin : goal.returns-then-can_begin
-returns-then-can_begin c = c.loop-i in whole_found _ _ _ l.i l.invariant c.loop-i-test.true _ c.next_form-f.ensures _ _ c.can_begin.ensures c.if-can_begin.true c.if-f-eq0.true
+returns-then-can_begin c = let l = c.loop-i in whole_found _ _ _ l.i l.invariant c.loop-i-test.true _ c.next_form-f.ensures _ _ c.can_begin.ensures c.if-can_begin.true c.if-f-eq0.true
 
 pub returns-then-f-eq0 : goal.returns-then-f-eq0
 returns-then-f-eq0 c = absurd (n refl)

@@ -20,7 +20,7 @@ pub returns-then-not-can_begin : goal.returns-then-not-can_begin
 returns-then-not-can_begin c = search reading_bad
 
 pub overflow_sub-i : goal.overflow_sub-i
-overflow_sub-i c = c.loop-i.invariant in omega (arith, r.low, r.long)
+overflow_sub-i c = let r = c.loop-i.invariant in omega (arith, r.low, r.long)
 
 pub returns-then-i-at-eq64 : goal.returns-then-i-at-eq64
 returns-then-i-at-eq64 c = search reading_long

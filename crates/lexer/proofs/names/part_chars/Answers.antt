@@ -13,13 +13,13 @@ pub returns-then-n-eq0 : goal.returns-then-n-eq0
 returns-then-n-eq0 c = c.loop-i.invariant
 
 pub overflow_add-i : goal.overflow_add-i
-overflow_add-i c = c.args in let l = c.loop-i in omega (arith, whole_fits _ a.s.now l.i _ c.loop-i-test.true c.next_len-n.ensures)
+overflow_add-i c = let a = c.args in let l = c.loop-i in omega (arith, whole_fits _ a.s.now l.i _ c.loop-i-test.true c.next_len-n.ensures)
 
 pub returns-then-i-at-gt64 : goal.returns-then-i-at-gt64
 returns-then-i-at-gt64 c = c.loop-i.invariant
 
 pub overflow_add-i-in-loop-i : goal.overflow_add-i-in-loop-i
-overflow_add-i-in-loop-i c = c.args in let l = c.loop-i in omega (arith, whole_fits _ a.s.now l.i _ c.loop-i-test.true c.next_len-n.ensures)
+overflow_add-i-in-loop-i c = let a = c.args in let l = c.loop-i in omega (arith, whole_fits _ a.s.now l.i _ c.loop-i-test.true c.next_len-n.ensures)
 
 pub loop-i-smaller : goal.loop-i-smaller
 loop-i-smaller c = omega (arith, c.if-n-eq0.false, c.loop-i-test.true)

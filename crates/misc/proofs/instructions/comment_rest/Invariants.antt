@@ -1,6 +1,7 @@
 -- `misc::instructions::comment_rest` meets its contract: at each turn the answer is the machine's from `i` on, its state the hyphens that stand before.
 use Prim.Native.Nat.{◌-◌, ◌≤◌}
 use mathlib.Core.Path.{◌≡◌}
+use mathlib.Core.List.{[]}
 use lib.ListN.{length, drop}
 use Rattle.laws.specs.Reading.{run}
 use Rattle.lexer.specs.Misc.{misc_state, comment_step, comment_rest}

@@ -1,6 +1,7 @@
 -- `misc::instructions::content_end` meets its contract: at each turn the answer is the machine's from `i` on, in the state 1 behind a ? and 0 else.
 use Prim.Native.Nat.{◌-◌}
 use mathlib.Core.Path.{◌≡◌}
+use mathlib.Core.List.{[]}
 use mathlib.Core.Bool.{cond}
 use lib.ListN.{length, drop}
 use Rattle.laws.specs.Reading.{run}

@@ -8,13 +8,13 @@ pub returns-then-at-s : goal.returns-then-at-s
 returns-then-at-s c = search declared_not
 
 pub bounds-s-2 : goal.bounds-s-2
-bounds-s-2 c = c.args in omega (arith, declared_room (length a.s.now) a.at c.if-at-s.false)
+bounds-s-2 c = let a = c.args in omega (arith, declared_room (length a.s.now) a.at c.if-at-s.false)
 
 pub bounds-s-3 : goal.bounds-s-3
-bounds-s-3 c = c.args in omega (arith, declared_room (length a.s.now) a.at c.if-at-s.false)
+bounds-s-3 c = let a = c.args in omega (arith, declared_room (length a.s.now) a.at c.if-at-s.false)
 
 pub bounds-s-4 : goal.bounds-s-4
-bounds-s-4 c = c.args in omega (arith, declared_room (length a.s.now) a.at c.if-at-s.false)
+bounds-s-4 c = let a = c.args in omega (arith, declared_room (length a.s.now) a.at c.if-at-s.false)
 
 pub returns : goal.returns
 returns c = search declared_here

@@ -1,5 +1,6 @@
 -- `reader::clashes::same_space` meets its contract, by what was found on the right.
 use mathlib.Core.Path.{refl}
+use mathlib.Core.List.{[]}
 use Rattle.compare.specs.Compare.{xml_uri}
 use Rattle.reader.specs.declared.Found.TheVariants as found
 use Rattle.reader.proofs.Uris.{uri_in_lem, on_the_right}

@@ -5,7 +5,7 @@ use Rattle.openings.proofs.LevelArrays.{part_fits, part_first, part_turn, part_l
 use Rattle.openings.proofs.arrays.part_levels.Goals as goal
 
 pub loop-k-init : goal.loop-k-init
-loop-k-init c = c.args in part_first a.levels.now a.numbers.now a.wide a.from c.all-1.given.0 c.requires.0 c.requires.1
+loop-k-init c = let a = c.args in part_first a.levels.now a.numbers.now a.wide a.from c.all-1.given.0 c.requires.0 c.requires.1
 
 pub copy-requires : goal.copy-requires
 copy-requires c = (omega (arith, c.loop-k.invariant.same_length, part_fits c.args.wide c.loop-k.at c.loop-k.k c.loop-k.invariant.at_is c.loop-k-test.true), omega (arith, c.all-1.given.0))

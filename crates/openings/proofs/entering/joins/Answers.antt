@@ -4,7 +4,7 @@ use Rattle.openings.proofs.Deciding.{by_class, by_uri}
 use Rattle.openings.proofs.entering.joins.Goals as goal
 
 pub returns-then-class-ne255 : goal.returns-then-class-ne255
-returns-then-class-ne255 c = c.args in by_class (level_spaces a.levels.now) a.level _ _ c.space_at-class.ensures _ c.if-class-ne255.true
+returns-then-class-ne255 c = let a = c.args in by_class (level_spaces a.levels.now) a.level _ _ c.space_at-class.ensures _ c.if-class-ne255.true
 
 pub returns : goal.returns
 returns c =

@@ -14,7 +14,7 @@ returns-then-depth-eq0 c =
     c.if-depth-eq0.true c.take_rules.ensures
 
 pub stay_all-requires : goal.stay_all-requires
-stay_all-requires c = c.requires.1 (omega (arith, c.if-depth-eq0.false)) in search (rules, few)
+stay_all-requires c = let few = c.requires.1 (omega (arith, c.if-depth-eq0.false)) in search (rules, few)
 
 pub returns-then-joins : goal.returns-then-joins
 returns-then-joins c =
@@ -23,7 +23,7 @@ returns-then-joins c =
     c.if-depth-eq0.false _ c.joins.ensures c.if-joins.true c.count_at-n.ensures (c.requires.1 (omega (arith, c.if-depth-eq0.false))) c.stay_all.ensures
 
 pub take_all-requires : goal.take_all-requires
-take_all-requires c = c.requires.1 (omega (arith, c.if-depth-eq0.false)) in search (rules, few)
+take_all-requires c = let few = c.requires.1 (omega (arith, c.if-depth-eq0.false)) in search (rules, few)
 
 pub returns : goal.returns
 returns c =

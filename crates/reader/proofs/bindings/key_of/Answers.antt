@@ -12,10 +12,10 @@ pub loop-i-init : goal.loop-i-init
 loop-i-init c = (omega arith, refl, c.if-n-gt7.false, omega arith, refl)
 
 pub overflow_mul-key : goal.overflow_mul-key
-overflow_mul-key c = c.loop-i in omega (arith, key_fits l.key l.i l.invariant.3 (omega arith))
+overflow_mul-key c = let l = c.loop-i in omega (arith, key_fits l.key l.i l.invariant.3 (omega arith))
 
 pub overflow_add-key : goal.overflow_add-key
-overflow_add-key c = c.loop-i in omega (arith, key_fits l.key l.i l.invariant.3 (omega arith), c.wide.ensures, c.shared_slice_known-in-loop-i-1.given l.i)
+overflow_add-key c = let l = c.loop-i in omega (arith, key_fits l.key l.i l.invariant.3 (omega arith), c.wide.ensures, c.shared_slice_known-in-loop-i-1.given l.i)
 
 pub loop-i-preserved : goal.loop-i-preserved
 loop-i-preserved c =
@@ -23,10 +23,10 @@ loop-i-preserved c =
     (omega arith, l.invariant.1, l.invariant.2, key_small l.key l.i _ l.invariant.3 (omega (arith, c.wide.ensures, c.shared_slice_known-in-loop-i-1.given l.i)), key_turn _ l.key l.i l.invariant.4 _ c.loop-i-test.true c.wide.ensures)
 
 pub overflow_mul-result : goal.overflow_mul-result
-overflow_mul-result c = c.loop-i in omega (arith, key_fits l.key l.i l.invariant.3 (omega arith))
+overflow_mul-result c = let l = c.loop-i in omega (arith, key_fits l.key l.i l.invariant.3 (omega arith))
 
 pub overflow_add-result : goal.overflow_add-result
-overflow_add-result c = c.loop-i in omega (arith, key_fits l.key l.i l.invariant.3 (omega arith))
+overflow_add-result c = let l = c.loop-i in omega (arith, key_fits l.key l.i l.invariant.3 (omega arith))
 
 pub returns : goal.returns
-returns c = c.loop-i in key_whole _ l.key l.i l.invariant.4 c.loop-i-test.false l.invariant.2
+returns c = let l = c.loop-i in key_whole _ l.key l.i l.invariant.4 c.loop-i-test.false l.invariant.2

@@ -3,7 +3,7 @@ use Rattle.start_records.proofs.Copies.{room_late, room_left}
 use Rattle.start_records.proofs.elements.has_room.Goals as goal
 
 pub returns-then-size-from : goal.returns-then-size-from
-returns-then-size-from c = c.args in room_late a.size a.from a.bytes c.if-size-from.true
+returns-then-size-from c = let a = c.args in room_late a.size a.from a.bytes c.if-size-from.true
 
 pub returns : goal.returns
-returns c = c.args in room_left a.size a.from a.bytes c.if-size-from.false
+returns c = let a = c.args in room_left a.size a.from a.bytes c.if-size-from.false

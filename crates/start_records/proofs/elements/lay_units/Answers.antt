@@ -15,4 +15,4 @@ loop-k-preserved c =
     (search rules, search rules, units_turn a.words.now a.rows.now l.all l.k _ _ l.invariant.2 (omega arith) c.target_of.ensures c.unit_word.ensures)
 
 pub returns : goal.returns
-returns c = c.loop-k in (l.invariant.2.before, λ k h. l.invariant.2.units k (omega arith))
+returns c = let l = c.loop-k in (l.invariant.2.before, λ k h. l.invariant.2.units k (omega arith))

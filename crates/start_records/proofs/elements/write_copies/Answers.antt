@@ -1,5 +1,6 @@
 -- `write_copies` lays the rows of the element along each strand: those from the k-th on are left.
 use Prim.Native.Nat.{◌+◌, ◌-◌, ◌*◌}
+use mathlib.Core.List.{[]}
 use native.Mathlib.Omega.{arith}
 use lib.ListN.{length}
 use Rattle.records.specs.Rows.{laid}

@@ -13,7 +13,7 @@ use Rattle.start_records.proofs.Copies.{elements_whole, bytes_few}
 use Rattle.start_records.proofs.elements.write_elements.Goals as goal
 
 pub overflow_mul-count : goal.overflow_mul-count
-overflow_mul-count c = c.requires in let a = c.args in omega (arith, bytes_few a.count a.n p.1 p.0)
+overflow_mul-count c = let p = c.requires in let a = c.args in omega (arith, bytes_few a.count a.n p.1 p.0)
 
 pub write_copies-requires : goal.write_copies-requires
 write_copies-requires c =

@@ -1,6 +1,6 @@
 -- `put_attribute_if` lays an attribute's two rows where they are due.
 use mathlib.Core.Path.{ap, ◌∙◌}
-use mathlib.Core.List.{map}
+use mathlib.Core.List.{[], map}
 use mathlib.Core.Bool.{cond}
 use native.Mathlib.Omega.{arith}
 use Rattle.records.specs.Rows.{laid, laid_rows}

@@ -1,7 +1,7 @@
 -- `write_members` lays the rows of a section's attributes: those from the k-th on are left.
 use Prim.Native.Nat.{ℕ, ◌-◌}
 use mathlib.Core.Path.{ap, ◌∙◌}
-use mathlib.Core.List.{map}
+use mathlib.Core.List.{[], map}
 use mathlib.Core.Bool.{cond}
 use borrow.Author.Rules.{rules}
 use lib.Dec.{eqb}
@@ -12,7 +12,7 @@ use Rattle.start_records.proofs.UnitRows.{kept_holds, kept_done, member_on}
 use Rattle.start_records.proofs.units.write_members.Goals as goal
 
 pub loop-k-init : goal.loop-k-init
-loop-k-init c = c.args in (search rules, kept_holds a.unit (sorted_in (attributes_in a.attributes.now) (sections_in a.attributes.now)) (λ (s : Sorted). eqb s.section a.j) a.n (laid a.out.now a.from))
+loop-k-init c = let a = c.args in (search rules, kept_holds a.unit (sorted_in (attributes_in a.attributes.now) (sections_in a.attributes.now)) (λ (s : Sorted). eqb s.section a.j) a.n (laid a.out.now a.from))
 
 pub loop-k-preserved : goal.loop-k-preserved
 loop-k-preserved c =

@@ -25,10 +25,10 @@ loop-j-init c =
     (omega arith, omega arith, sym (ap (total (event_count a.closes)) (words_none (level_strands a.levels.now) a.level) ∙ total_none (event_count a.closes)))
 
 pub strand_at-requires : goal.strand_at-requires
-strand_at-requires c = more c in search rules
+strand_at-requires c = let h = more c in search rules
 
 pub loop-j-smaller : goal.loop-j-smaller
-loop-j-smaller c = more c in search rules
+loop-j-smaller c = let h = more c in search rules
 
 pub loop-j-preserved : goal.loop-j-preserved
 loop-j-preserved c =

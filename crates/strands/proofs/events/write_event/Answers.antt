@@ -1,6 +1,6 @@
 -- `write_event` lays the rows of the strands: those of the first j after j turns.
 use mathlib.Core.Path.{sym, ap, ◌∙◌}
-use mathlib.Core.List.{◌∷◌, ◌++◌, map}
+use mathlib.Core.List.{[], ◌∷◌, ◌++◌, map}
 use Prim.Native.Nat.{ℕ, ◌-◌}
 use native.Mathlib.Omega.{arith}
 use borrow.Author.Rules.{rules}
@@ -14,7 +14,7 @@ use Rattle.strands.proofs.Delivered.{event_none, event_turn}
 use Rattle.strands.proofs.events.write_event.Goals as goal
 
 pub loop-j-init : goal.loop-j-init
-loop-j-init c = c.args in (search rules, search rules, event_none (body_of a.row) a.closes (laid a.out.now 0) _ (words_none (level_strands a.levels.now) a.level))
+loop-j-init c = let a = c.args in (search rules, search rules, event_none (body_of a.row) a.closes (laid a.out.now 0) _ (words_none (level_strands a.levels.now) a.level))
 
 pub loop-j-preserved : goal.loop-j-preserved
 loop-j-preserved c =

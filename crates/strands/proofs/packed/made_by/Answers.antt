@@ -21,4 +21,4 @@ returns-in-Unwrap c =
     made_unwrap (strand_in a.w) a.rule _ c.enum_told-in-Unwrap-1.given.1 c.aim_of-in-Unwrap.ensures
 
 pub returns-in-Validate : goal.returns-in-Validate
-returns-in-Validate c = c.args in made_validate (strand_in a.w) a.rule c.enum_told-in-Validate-1.given.1
+returns-in-Validate c = let a = c.args in made_validate (strand_in a.w) a.rule c.enum_told-in-Validate-1.given.1

@@ -49,4 +49,4 @@ loop-i-preserved c =
     )
 
 pub returns : goal.returns
-returns c = c.loop-i in keeps_end c.args.index.now c.choose-c.result l.i l.invariant.3 _ l.invariant.4 c.loop-i-test.false
+returns c = let l = c.loop-i in keeps_end c.args.index.now c.choose-c.result l.i l.invariant.3 _ l.invariant.4 c.loop-i-test.false

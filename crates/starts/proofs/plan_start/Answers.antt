@@ -1,0 +1,47 @@
+-- `starts::plan_start` meets its contract, by what reading the tag comes to.
+use Prim.Native.Nat.{◌+◌}
+use Rattle.table.specs.Table.{header_of}
+use Rattle.lexer.specs.Tags.{tag_at}
+use Rattle.strands.specs.Levels.{level_names, level_spaces, level_strands}
+use Rattle.sessions.specs.Sessions.{session_at}
+use Rattle.starts.proofs.StartTurns.{few_bound}
+use Rattle.starts.proofs.Classed.{start_met, start_read_lem, refused_read}
+use Rattle.starts.proofs.plan_start.Goals as goal
+
+pub read_start-requires : goal.read_start-requires
+read_start-requires c =
+    let b = c in
+    let a = b.args in
+    let h = b.requires in
+    (h.1, few_bound a.table.now (header_of a.table.now) a.index.now a.scene.now a.head (level_names a.levels.now) a.bindings.now (level_spaces a.levels.now) (level_strands a.levels.now) h.0.ready, h.0.beside.keys)
+
+pub plan_element-requires : goal.plan_element-requires
+plan_element-requires c =
+    let b = c in
+    let a = b.args in
+    let h = b.requires in
+    let z = session_at a.head a.levels.now a.bindings.now in
+    let w = c.read_start in
+    let r = w.ensures a.table.now a.index.now (level_names a.levels.now) (level_spaces a.levels.now) (level_strands a.levels.now) (header_of a.table.now) h.0.ready h.0.beside in
+    start_met a.table.now a.index.now a.scene.now z a.at (tag_at a.scene.now (a.at + 1)).answer _ _ _ _ w.result h.0.ready r _ c.started-1.given.1
+
+pub returns-in-Start : goal.returns-in-Start
+returns-in-Start c =
+    let b = c in
+    let a = b.args in
+    let h = b.requires in
+    let z = session_at a.head a.levels.now a.bindings.now in
+    let w = c.read_start in
+    let r = w.ensures a.table.now a.index.now (level_names a.levels.now) (level_spaces a.levels.now) (level_strands a.levels.now) (header_of a.table.now) h.0.ready h.0.beside in
+    let l = c.plan_element.new.1.1.1.1.1.1.1 in
+    start_read_lem a.table.now a.scene.now z a.at (tag_at a.scene.now (a.at + 1)).answer _ _ _ _ w.result r a.index.now l.1.1.1.1.1.0 l.1.1.1.1.1.1.0 l.1.1.1.1.0 l.0 _ c.started-1.given.1 c.plan_element.result c.plan_element.ensures
+
+pub returns-in-Refused : goal.returns-in-Refused
+returns-in-Refused c =
+    let b = c in
+    let a = b.args in
+    let h = b.requires in
+    let z = session_at a.head a.levels.now a.bindings.now in
+    let w = c.read_start in
+    let r = w.ensures a.table.now a.index.now (level_names a.levels.now) (level_spaces a.levels.now) (level_strands a.levels.now) (header_of a.table.now) h.0.ready h.0.beside in
+    refused_read a.table.now a.scene.now z a.at (tag_at a.scene.now (a.at + 1)).answer _ _ _ _ w.result r _ _ c.number-1.given.1

@@ -1,0 +1,25 @@
+-- `readings::read_start` meets its contract, by what reading the tag answers.
+use mathlib.Core.Path.{sym, ◌∙◌}
+use Rattle.sessions.specs.Sessions.{session_of}
+use Rattle.starts.proofs.TagReadings.{attrs_read, answer_read, stopped_read}
+use Rattle.starts.proofs.readings.read_start.Goals as goal
+
+pub returns-in-Got : goal.returns-in-Got
+returns-in-Got c =
+    let a = c.args in
+    let r = c.start_tag in
+    let t = c.tag-1.given in
+    let e = sym r.ensures.0 ∙ t.1 in
+    λ table index levels spaces strands header w b.
+    answer_read table a.scene.now (session_of a.head levels a.bindings.now spaces strands) a.at _ _ _ _ _ _ e
+    (c.read_meaning.ensures table index levels spaces strands header w b e (attrs_read a.scene.now a.at _ a.attrs.now _ w.short e r.ensures.1))
+
+pub returns-in-Stopped : goal.returns-in-Stopped
+returns-in-Stopped c =
+    let a = c.args in
+    let r = c.start_tag in
+    let x = c.x-1.given in
+    λ table index levels spaces strands header w b.
+    let z = session_of a.head levels a.bindings.now spaces strands in
+    answer_read table a.scene.now z a.at _ _ _ _ _ _ (sym r.ensures.0 ∙ x.1)
+    (stopped_read table a.scene.now z a.at x.0.0 _ _ _ _ _ a.known.now c.number_of.ensures c.place_of.ensures b)

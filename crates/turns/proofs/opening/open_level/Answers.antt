@@ -1,0 +1,42 @@
+-- `opening::open_level` meets its contract: 25, or the records and the level laid down.
+use mathlib.Core.Path.{refl, sym, ap, ◌∙◌, subst}
+use Prim.Native.Nat.{ℕ}
+use Rattle.attributes.specs.Attributes.{attributes_in, sections_in}
+use Rattle.openings.specs.Openings.{Openable}
+use Rattle.strands.specs.Levels.{level_names, level_spaces, level_strands}
+use Rattle.strands.specs.declared.Begun.{Begun}
+use Rattle.sessions.specs.Turns.{step_in}
+use Rattle.sessions.specs.declared.Turn.{Turn}
+use Rattle.turns.proofs.OpeningTurns.{full_start, room_start}
+use Rattle.turns.proofs.opening.open_level.Goals as goal
+
+pub returns-then-out-decided : goal.returns-then-out-decided
+returns-then-out-decided c =
+    let a = c.args in record {
+      by_index = λ table s p ready as-planned.
+          ap (λ (r : Turn). step_in r a.levels.now a.bindings.now a.out.now) c.stop.ensures
+          ∙ full_start table a.index.now s a.own.now a.words.now a.schemas.now a.attributes.now a.started a.placing a.decided a.head (level_names a.levels.now) a.bindings.now (level_spaces a.levels.now) (level_strands a.levels.now) p
+          ready as-planned a.out.now c.if-out-decided.true;
+      levels_unchanged = refl;
+    }
+
+pub write_start-requires : goal.write_start-requires
+write_start-requires c =
+    let a = c.args in
+    subst (λ (n : ℕ). Openable a.index.now (attributes_in a.attributes.now) (sections_in a.attributes.now) a.words.now a.schemas.now n a.head.units a.decided)
+    (sym (ap (λ (b : Begun). b.tag) c.begun_of.ensures)) c.requires.1
+
+pub lay_level-requires : goal.lay_level-requires
+lay_level-requires c = let p = c.requires in (p.0, p.1.few_strands)
+
+pub returns : goal.returns
+returns c =
+    let a = c.args in
+    let l = (c.lay_level.ensures.bindings_after, c.lay_level.ensures.levels_unchanged) in record {
+      by_index = λ table s p ready as-planned.
+          room_start table a.index.now s a.own.now a.words.now a.schemas.now a.attributes.now a.started a.placing a.decided a.head (level_names a.levels.now) a.bindings.now (level_spaces a.levels.now) (level_strands a.levels.now) p
+          ready as-planned a.out.now c.begun_of.result c.begun_of.ensures
+          c.lay_level.result _ _ _ _ _ _ c.if-out-decided.false c.write_start.ensures
+          (l.0 table a.index.now s a.schemas.now a.attributes.now p ready as-planned);
+      levels_unchanged = l.1;
+    }
