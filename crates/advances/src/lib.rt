@@ -1,4 +1,6 @@
 // So many steps, until one's number is not 0, of any session: what is judged first, and the loop.
+#![tactic(auto)]
+
 ghost use Rattle.std.specs.Prelude.{◌≡◌, true, ◌≤◌, length};
 ghost use Rattle.table.specs.Table.{header_of, standard};
 ghost use Rattle.table.specs.Judge.{Accepted};

@@ -1,4 +1,6 @@
 // Ask first, then commit, of a session's numbers and arrays: what a step would come to; a step where the session is the one that was asked about.
+#![tactic(auto)]
+
 ghost use Rattle.std.specs.Prelude.{◌≡◌, true, false, ◌&&◌, ◌≤◌, ℕ, length, List};
 ghost use Rattle.table.specs.Table.{table_of, decode, header_of, standard};
 ghost use Rattle.table.specs.Judge.{Accepted};

@@ -1,4 +1,6 @@
 // The attributes of a tag that are no declarations: their namespaces, and the sections that they form.
+#![tactic(auto)]
+
 pub mod held;
 pub mod sections;
 

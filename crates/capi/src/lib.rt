@@ -1,4 +1,6 @@
 // The dispatcher for hosts written in C, C++, Rust or Python: include/calcivorne.h is the manual.
+#![tactic(auto)]
+
 ghost use Rattle.std.specs.Prelude.{◌≡◌, cond, ◌≤◌, length, ltb};
 ghost use Rattle.laws.specs.Over.{overwrite};
 ghost use Rattle.table.specs.Table.{standard};

@@ -1,3 +1,5 @@
 // Which bytes can begin a character of a set.
+#![tactic(auto)]
+
 pub mod forms;
 pub mod sets;

@@ -1,4 +1,6 @@
 // Number 20 of a session's arrays: may these levels and bindings stand over this table and scene?
+#![tactic(auto)]
+
 mod bindings;
 mod levels;
 mod names;

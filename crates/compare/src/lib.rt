@@ -1,4 +1,6 @@
 // Bytes compared with bytes, and with the fixed byte strings that document 01 names.
+#![tactic(auto)]
+
 ghost use Rattle.std.specs.Prelude.{◌≡◌, ◌≤◌, length};
 ghost use Rattle.laws.specs.Lists.{same_list};
 ghost use Rattle.compare.specs.Compare.{span_of, span_start, place_in, xml_uri, xmlns_uri};

@@ -1,4 +1,6 @@
 // Dispatches scene.xml by rules.bin: a line for each record, then the last step's number and place, the events and the records.
+#![tactic(auto)]
+
 ghost use Rattle.std.specs.Prelude.{◌≤◌, length};
 
 use dispatcher::Session;

@@ -1,4 +1,6 @@
 // The dispatcher: a session, its steps, one and many, and a run.
+#![tactic(auto)]
+
 pub mod offers;
 
 ghost use Rattle.std.specs.Prelude.{◌≡◌, ◌+◌, ◌*◌, ◌≤◌, length};

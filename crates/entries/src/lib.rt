@@ -1,4 +1,6 @@
 // The strands of an element that starts: those of its parent, or what their rules make at a new section.
+#![tactic(auto)]
+
 ghost use Rattle.std.specs.Prelude.{◌≡◌, List, [], ◌∷◌, map, ◌+◌, ◌≤◌, ◌<◌, length, take};
 ghost use Rattle.laws.specs.Members.{All};
 ghost use Rattle.table.specs.Table.{standard, fallback};

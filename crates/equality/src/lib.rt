@@ -1,4 +1,6 @@
 // Do two sessions' arrays hold the same? Places past the counts do not count.
+#![tactic(auto)]
+
 mod bindings;
 mod levels;
 

@@ -1,4 +1,6 @@
 // Prints what the reader sees of scene.xml: a line for each event and for each attribute, then the last number and place.
+#![tactic(auto)]
+
 mod print;
 mod walk;
 

@@ -1,4 +1,6 @@
 // The forecast: how much a run writes and holds, worked out without an output. For hosts too: include/calcivorne.h is the manual.
+#![tactic(auto)]
+
 pub mod figures;
 
 ghost use Rattle.std.specs.Prelude.{◌≡◌};

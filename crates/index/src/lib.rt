@@ -1,4 +1,6 @@
 // The rules of a table unpacked once, so that those of a mode, kind and class are found without a search over all.
+#![tactic(auto)]
+
 ghost use Rattle.std.specs.Prelude.{◌≡◌, cond, ◌<◌, eqb};
 ghost use Rattle.table.specs.Index.{bucket_of, up_to, index_of, next_rule, word_in, bucket, chosen_of};
 

@@ -1,4 +1,6 @@
 // The judge: whether bytes are a rule table.
+#![tactic(auto)]
+
 ghost use Rattle.std.specs.Prelude.{◌≡◌, ℕ, ◌-◌, ◌≤◌, ◌<◌, List, drop, get_or};
 ghost use Rattle.laws.specs.Lists.{same_list, any, all, any_pair, tabulate};
 ghost use Rattle.table.specs.Table.{word_at, words_of, fields_of, uris_from, uris_of};

@@ -1,4 +1,6 @@
 // Bytes to tags and texts: names, references, values, attributes, tags. Prefixes are looked up by the layer above.
+#![tactic(auto)]
+
 pub mod chars;
 pub mod names;
 pub mod stops;

@@ -1,1 +1,2 @@
 // The reference model and the stream of events: definitions in specs/, theorems in proofs/. No code.
+#![tactic(auto)]

@@ -1,4 +1,6 @@
 // What a tag means: its element's namespace and its attributes', and its declarations; numbers 5 and 6.
+#![tactic(auto)]
+
 pub mod clashes;
 pub mod declarations;
 pub mod spaces;

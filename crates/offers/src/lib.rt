@@ -1,4 +1,6 @@
 // Ask and commit for hosts written in C, C++, Rust or Python: include/calcivorne.h is the manual.
+#![tactic(auto)]
+
 mod bytes;
 
 ghost use Rattle.std.specs.Prelude.{◌≡◌, cond, ◌≤◌, length};

@@ -1,4 +1,6 @@
 // An element that opens, over arrays of numbers: its strands, its units and records counted and written, its level laid down. And the levels of a session in one array.
+#![tactic(auto)]
+
 pub mod arrays;
 pub mod entering;
 pub mod levels;

@@ -1,4 +1,6 @@
 // Tags to events: declarations, prefixes looked up, numbers 4, 5 and 6, and the scopes of open elements.
+#![tactic(auto)]
+
 pub mod bindings;
 pub mod kinds;
 pub mod scopes;

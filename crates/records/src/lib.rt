@@ -1,4 +1,6 @@
 // A record's 16 bytes, laid into a lent output.
+#![tactic(auto)]
+
 ghost use Rattle.std.specs.Prelude.{◌≡◌, ℕ, ◌+◌, ◌*◌, ◌^◌, ◌≤◌, ◌<◌, length, get_or};
 ghost use Rattle.laws.specs.Over.{overwrite};
 ghost use Rattle.laws.specs.Lists.{tabulate};

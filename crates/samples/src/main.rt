@@ -1,4 +1,6 @@
 // Runs samples D and E and those that are only run, and looks URIs up; prints what they give, each under a heading.
+#![tactic(auto)]
+
 mod lookups;
 mod scenes;
 mod steps;

@@ -1,4 +1,6 @@
 // A session's numbers and limits, and what one event's work hands on.
+#![tactic(auto)]
+
 pub mod checks;
 
 ghost use Rattle.std.specs.Prelude.{◌≡◌};

@@ -1,4 +1,6 @@
 // A start as it comes next: its tag read, 21 and 22, what it makes decided.
+#![tactic(auto)]
+
 mod decisions;
 mod readings;
 

@@ -1,4 +1,6 @@
 // One step of a coherent session under an accepted table: what comes next, and then its turn, written or counted.
+#![tactic(auto)]
+
 ghost use Rattle.std.specs.Prelude.{◌≡◌, []};
 ghost use Rattle.table.specs.Table.{decode};
 ghost use Rattle.strands.specs.Levels.{level_free};

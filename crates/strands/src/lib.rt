@@ -1,4 +1,6 @@
 // The strands of an element, its attribute sections, and the records of an event, over arrays of numbers.
+#![tactic(auto)]
+
 pub mod counts;
 pub mod events;
 pub mod levels;

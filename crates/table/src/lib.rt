@@ -1,4 +1,6 @@
 // The rule table: its fields and the class of a URI.
+#![tactic(auto)]
+
 pub mod uris;
 pub mod words;
 

@@ -1,4 +1,6 @@
 // Attributes and tags, as bytes.
+#![tactic(auto)]
+
 ghost use Rattle.std.specs.Prelude.{◌≡◌, [], ◌*◌, ◌<◌, length};
 ghost use Rattle.laws.specs.Over.{overwrite};
 ghost use Rattle.lexer.specs.Attrs.{attr_numbers, laid, attr_in};

@@ -1,4 +1,6 @@
 // One event's turn: a text and an end, decided as they come next; a text, an end and a start, written or counted.
+#![tactic(auto)]
+
 pub mod ends;
 pub mod opening;
 pub mod planning;

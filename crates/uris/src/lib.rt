@@ -1,4 +1,6 @@
 // The URI of a record's class and span: where it stands, and its bytes.
+#![tactic(auto)]
+
 ghost use Rattle.std.specs.Prelude.{◌≡◌, ◌+◌, length, leb};
 ghost use Rattle.uris.specs.Uris.{uri_span_of, uri_part, uri_place};
 

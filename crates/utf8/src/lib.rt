@@ -1,4 +1,5 @@
 // Characters in UTF-8 and sets of code points: definitions in specs/, the decision which bytes can begin a character in proofs/. Types, and no functions.
+#![tactic(auto)]
 
 // Code points, the first and the last.
 #[derive(Clone, Copy)]

@@ -1,4 +1,6 @@
 // References, values and texts.
+#![tactic(auto)]
+
 ghost use Rattle.std.specs.Prelude.{◌≡◌, cond, not, ◌&&◌, ◌≤◌, ltb, eqb, drop};
 ghost use Rattle.lexer.specs.Shortcuts.{is_char};
 ghost use Rattle.lexer.specs.Values.{references, common, furthest, no_reference, reference_end, closes, value_from, value_end, text_end};

@@ -1,1 +1,2 @@
 // Worked examples that take long to compute: the vectors of the figures, of ask and commit.
+#![tactic(auto)]
