@@ -23,7 +23,7 @@ plan_element-requires c =
     let z = session_at a.head a.levels.now a.bindings.now in
     let w = c.read_start in
     let r = w.ensures a.table.now a.index.now (level_names a.levels.now) (level_spaces a.levels.now) (level_strands a.levels.now) (header_of a.table.now) h.0.ready h.0.beside in
-    start_met a.table.now a.index.now a.scene.now z a.at (tag_at a.scene.now (a.at + 1)).answer _ _ _ _ w.result h.0.ready r _ c.started-1.given.1
+    start_met a.table.now a.index.now a.scene.now z a.at (tag_at a.scene.now (a.at + 1)).answer _ _ _ _ w.result h.0.ready r _ c.in-Start.is
 
 pub returns-in-Start : goal.returns-in-Start
 returns-in-Start c =
@@ -34,7 +34,7 @@ returns-in-Start c =
     let w = c.read_start in
     let r = w.ensures a.table.now a.index.now (level_names a.levels.now) (level_spaces a.levels.now) (level_strands a.levels.now) (header_of a.table.now) h.0.ready h.0.beside in
     let l = c.plan_element.new.1.1.1.1.1.1.1 in
-    start_read_lem a.table.now a.scene.now z a.at (tag_at a.scene.now (a.at + 1)).answer _ _ _ _ w.result r a.index.now l.1.1.1.1.1.0 l.1.1.1.1.1.1.0 l.1.1.1.1.0 l.0 _ c.started-1.given.1 c.plan_element.result c.plan_element.ensures
+    start_read_lem a.table.now a.scene.now z a.at (tag_at a.scene.now (a.at + 1)).answer _ _ _ _ w.result r a.index.now l.1.1.1.1.1.0 l.1.1.1.1.1.1.0 l.1.1.1.1.0 l.0 _ c.in-Start.is c.plan_element.result c.plan_element.ensures
 
 pub returns-in-Refused : goal.returns-in-Refused
 returns-in-Refused c =
@@ -44,4 +44,4 @@ returns-in-Refused c =
     let z = session_at a.head a.levels.now a.bindings.now in
     let w = c.read_start in
     let r = w.ensures a.table.now a.index.now (level_names a.levels.now) (level_spaces a.levels.now) (level_strands a.levels.now) (header_of a.table.now) h.0.ready h.0.beside in
-    refused_read a.table.now a.scene.now z a.at (tag_at a.scene.now (a.at + 1)).answer _ _ _ _ w.result r _ _ c.number-1.given.1
+    refused_read a.table.now a.scene.now z a.at (tag_at a.scene.now (a.at + 1)).answer _ _ _ _ w.result r _ _ c.in-Refused.is

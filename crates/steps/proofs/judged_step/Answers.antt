@@ -14,27 +14,27 @@ plan_event-requires c = c.requires
 pub open_level-requires : goal.open_level-requires
 open_level-requires c =
     let a = c.args in
-    let f = start_as a.table.now a.index.now a.scene.now (session_at a.head a.levels.now a.bindings.now) _ _ _ _ _ c.plan_event.result c.plan_event.ensures.0 _ _ _ c.started-1.given.1 in
+    let f = start_as a.table.now a.index.now a.scene.now (session_at a.head a.levels.now a.bindings.now) _ _ _ _ _ c.plan_event.result c.plan_event.ensures.0 _ _ _ c.in-Start.is in
     (start_roomy a.table.now a.index.now a.scene.now a.head a.levels.now a.bindings.now _ _ _ _ _ _ _ _ f, f.openable)
 
 pub text_event-requires : goal.text_event-requires
 text_event-requires c =
     let a = c.args in
-    let f = text_as a.table.now a.index.now a.scene.now (session_at a.head a.levels.now a.bindings.now) _ _ _ _ _ c.plan_event.result c.plan_event.ensures.0 _ _ c.at-1.given.1 in
+    let f = text_as a.table.now a.index.now a.scene.now (session_at a.head a.levels.now a.bindings.now) _ _ _ _ _ c.plan_event.result c.plan_event.ensures.0 _ _ c.in-Text.is in
     let n = text_needs a.table.now a.index.now a.scene.now a.known.now a.head a.levels.now a.bindings.now c.requires f.1 in
     (n.0, n.1, n.2, f.2, f.3)
 
 pub end_event-requires : goal.end_event-requires
 end_event-requires c =
     let a = c.args in
-    let f = end_as a.table.now a.index.now a.scene.now (session_at a.head a.levels.now a.bindings.now) _ _ _ _ _ c.plan_event.result c.plan_event.ensures.0 _ _ _ c.part-1.given.1 in
+    let f = end_as a.table.now a.index.now a.scene.now (session_at a.head a.levels.now a.bindings.now) _ _ _ _ _ c.plan_event.result c.plan_event.ensures.0 _ _ _ c.in-End.is in
     let n = text_needs a.table.now a.index.now a.scene.now a.known.now a.head a.levels.now a.bindings.now c.requires f.1 in
     (n.0, n.1, n.2, class_small a.table.now a.index.now a.scene.now a.known.now a.head a.levels.now a.bindings.now c.requires f.1, f.2, f.3)
 
 pub end_event-requires-in-Awaited : goal.end_event-requires-in-Awaited
 end_event-requires-in-Awaited c =
     let a = c.args in
-    let f = awaited_as a.table.now a.index.now a.scene.now (session_at a.head a.levels.now a.bindings.now) _ _ _ _ _ c.plan_event.result c.plan_event.ensures.0 _ _ c.part-in-Awaited-1.given.1 in
+    let f = awaited_as a.table.now a.index.now a.scene.now (session_at a.head a.levels.now a.bindings.now) _ _ _ _ _ c.plan_event.result c.plan_event.ensures.0 _ _ c.in-Awaited.is in
     let n = text_needs a.table.now a.index.now a.scene.now a.known.now a.head a.levels.now a.bindings.now c.requires f.1 in
     (n.0, n.1, n.2, class_small a.table.now a.index.now a.scene.now a.known.now a.head a.levels.now a.bindings.now c.requires f.1, f.2, f.3)
 
@@ -45,7 +45,7 @@ returns-in-Start c =
     let z = session_at a.head a.levels.now a.bindings.now in
     let p = plan_of (decode a.table.now) s z in
     let e = c.plan_event.ensures in
-    let f = start_as a.table.now a.index.now s z _ _ _ _ p c.plan_event.result e.0 _ _ _ c.started-1.given.1 in record {
+    let f = start_as a.table.now a.index.now s z _ _ _ _ p c.plan_event.result e.0 _ _ _ c.in-Start.is in record {
       fact = planned_turn a.table.now s _ z e.1 p e.2 a.out.now _ (c.open_level.ensures.by_index a.table.now s p c.requires.ready f);
       levels_unchanged = c.open_level.ensures.levels_unchanged;
     }
@@ -57,7 +57,7 @@ returns-in-Text c =
     let z = session_at a.head a.levels.now a.bindings.now in
     let p = plan_of (decode a.table.now) s z in
     let e = c.plan_event.ensures in
-    let f = text_as a.table.now a.index.now s z _ _ _ _ p c.plan_event.result e.0 _ _ c.at-1.given.1 in record {
+    let f = text_as a.table.now a.index.now s z _ _ _ _ p c.plan_event.result e.0 _ _ c.in-Text.is in record {
       fact = planned_turn a.table.now s _ z e.1 p e.2 a.out.now _ (c.text_event.ensures (decode a.table.now) s a.bindings.now ∙ ap (λ (q : Plan). planned q z a.out.now) (sym f.0));
       levels_unchanged = refl;
     }
@@ -69,7 +69,7 @@ returns-in-End c =
     let z = session_at a.head a.levels.now a.bindings.now in
     let p = plan_of (decode a.table.now) s z in
     let e = c.plan_event.ensures in
-    let f = end_as a.table.now a.index.now s z _ _ _ _ p c.plan_event.result e.0 _ _ _ c.part-1.given.1 in record {
+    let f = end_as a.table.now a.index.now s z _ _ _ _ p c.plan_event.result e.0 _ _ _ c.in-End.is in record {
       fact = planned_turn a.table.now s _ z e.1 p e.2 a.out.now _ (c.end_event.ensures (decode a.table.now) s a.bindings.now ∙ ap (λ (q : Plan). planned q z a.out.now) (sym f.0));
       levels_unchanged = refl;
     }
@@ -81,7 +81,7 @@ returns-in-Awaited c =
     let z = session_at a.head a.levels.now a.bindings.now in
     let p = plan_of (decode a.table.now) s z in
     let e = c.plan_event.ensures in
-    let f = awaited_as a.table.now a.index.now s z _ _ _ _ p c.plan_event.result e.0 _ _ c.part-in-Awaited-1.given.1 in record {
+    let f = awaited_as a.table.now a.index.now s z _ _ _ _ p c.plan_event.result e.0 _ _ c.in-Awaited.is in record {
       fact = planned_turn a.table.now s _ z e.1 p e.2 a.out.now _ (c.end_event-in-Awaited.ensures (decode a.table.now) s a.bindings.now ∙ ap (λ (q : Plan). planned q z a.out.now) (sym f.0));
       levels_unchanged = refl;
     }
@@ -93,7 +93,7 @@ returns-in-Finished c =
     let z = session_at a.head a.levels.now a.bindings.now in
     let p = plan_of (decode a.table.now) s z in
     let e = c.plan_event.ensures in
-    let f = finished_as a.table.now a.index.now s z _ _ _ _ p c.plan_event.result e.0 c.enum_told-1.given.1 in record {
+    let f = finished_as a.table.now a.index.now s z _ _ _ _ p c.plan_event.result e.0 c.in-Finished.is in record {
       fact = planned_turn a.table.now s _ z e.1 p e.2 a.out.now _ (stop_planned a.head a.levels.now a.bindings.now a.out.now c.stop.result 9 (length s) c.stop.ensures (λ x. absurd (omega arith)) p (ap (λ (q : Plan). planned q z a.out.now) f));
       levels_unchanged = refl;
     }
@@ -105,7 +105,7 @@ returns-in-Refused c =
     let z = session_at a.head a.levels.now a.bindings.now in
     let p = plan_of (decode a.table.now) s z in
     let e = c.plan_event.ensures in
-    let f = refused_as a.table.now a.index.now s z _ _ _ _ p c.plan_event.result e.0 _ _ c.number-1.given.1 in record {
+    let f = refused_as a.table.now a.index.now s z _ _ _ _ p c.plan_event.result e.0 _ _ c.in-Refused.is in record {
       fact = planned_turn a.table.now s _ z e.1 p e.2 a.out.now _ (stop_planned a.head a.levels.now a.bindings.now a.out.now c.stop-in-Refused.result _ _ c.stop-in-Refused.ensures f.1 p (ap (λ (q : Plan). planned q z a.out.now) f.0));
       levels_unchanged = refl;
     }

@@ -35,32 +35,32 @@ returns-then-head c =
 pub plan_start-requires : goal.plan_start-requires
 plan_start-requires c =
     let a = c.args in
-    (c.requires, start_begins a.scene.now a.head c.begin_at.result c.begin_at.ensures _ c.at-1.given.1)
+    (c.requires, start_begins a.scene.now a.head c.begin_at.result c.begin_at.ensures _ c.in-Start.is)
 
 pub plan_end-requires : goal.plan_end-requires
 plan_end-requires c =
     let a = c.args in
-    let k = end_begins a.scene.now a.head c.begin_at.result c.begin_at.ensures _ c.at-in-End-1.given.1 in
+    let k = end_begins a.scene.now a.head c.begin_at.result c.begin_at.ensures _ c.in-End.is in
     (innermost a.table.now (header_of a.table.now) a.index.now a.scene.now a.head (level_names a.levels.now) a.bindings.now (level_spaces a.levels.now) (level_strands a.levels.now) c.requires.ready k.0, k.1)
 
 pub plan_text-requires : goal.plan_text-requires
 plan_text-requires c =
     let a = c.args in
-    (c.requires.ready.short, (text_begins a.scene.now a.head c.begin_at.result c.begin_at.ensures _ c.at-in-Text-1.given.1).1)
+    (c.requires.ready.short, (text_begins a.scene.now a.head c.begin_at.result c.begin_at.ensures _ c.in-Text.is).1)
 
 pub returns-in-Start : goal.returns-in-Start
 returns-in-Start c =
     let a = c.args in
     let s = a.scene.now in
     let e = c.plan_start.ensures in
-    begun_planned a.table.now a.index.now s a.head a.levels.now a.bindings.now c.if-head.false (begin.Start _) c.begin_at.result c.begin_at.ensures c.at-1.given.1 _ _ _ _ _ c.plan_start.result e.0 e.1 e.2
+    begun_planned a.table.now a.index.now s a.head a.levels.now a.bindings.now c.if-head.false (begin.Start _) c.begin_at.result c.begin_at.ensures c.in-Start.is _ _ _ _ _ c.plan_start.result e.0 e.1 e.2
 
 pub returns-in-End : goal.returns-in-End
 returns-in-End c =
     let a = c.args in
     let s = a.scene.now in
     let z = session_at a.head a.levels.now a.bindings.now in
-    begun_planned a.table.now a.index.now s a.head a.levels.now a.bindings.now c.if-head.false (begin.End _) c.begin_at.result c.begin_at.ensures c.at-in-End-1.given.1 a.known.now a.own.now a.words.now a.schemas.now a.attributes.now c.plan_end.result
+    begun_planned a.table.now a.index.now s a.head a.levels.now a.bindings.now c.if-head.false (begin.End _) c.begin_at.result c.begin_at.ensures c.in-End.is a.known.now a.own.now a.words.now a.schemas.now a.attributes.now c.plan_end.result
     (c.plan_end.ensures a.table.now a.index.now a.own.now a.words.now a.schemas.now a.attributes.now a.bindings.now)
     c.requires.beside (end_beside (decode a.table.now) a.table.now s a.known.now z c.requires.beside _ (end_tag_at s (_ + 2)))
 
@@ -69,8 +69,8 @@ returns-in-Text c =
     let a = c.args in
     let s = a.scene.now in
     let z = session_at a.head a.levels.now a.bindings.now in
-    let k = text_begins a.scene.now a.head c.begin_at.result c.begin_at.ensures _ c.at-in-Text-1.given.1 in
-    begun_planned a.table.now a.index.now s a.head a.levels.now a.bindings.now c.if-head.false (begin.Text _) c.begin_at.result c.begin_at.ensures c.at-in-Text-1.given.1 a.known.now a.own.now a.words.now a.schemas.now a.attributes.now c.plan_text.result
+    let k = text_begins a.scene.now a.head c.begin_at.result c.begin_at.ensures _ c.in-Text.is in
+    begun_planned a.table.now a.index.now s a.head a.levels.now a.bindings.now c.if-head.false (begin.Text _) c.begin_at.result c.begin_at.ensures c.in-Text.is a.known.now a.own.now a.words.now a.schemas.now a.attributes.now c.plan_text.result
     (c.plan_text.ensures a.table.now a.index.now a.own.now a.words.now a.schemas.now a.attributes.now z k.0)
     c.requires.beside (text_beside (decode a.table.now) a.table.now s a.known.now z c.requires.beside _ (text_end s _))
 
@@ -78,13 +78,13 @@ pub returns-in-Finished : goal.returns-in-Finished
 returns-in-Finished c =
     let a = c.args in
     let s = a.scene.now in
-    begun_planned a.table.now a.index.now s a.head a.levels.now a.bindings.now c.if-head.false begin.Finished c.begin_at.result c.begin_at.ensures c.enum_told-1.given.1 a.known.now a.own.now a.words.now a.schemas.now a.attributes.now planned.Finished refl c.requires.beside c.requires.beside
+    begun_planned a.table.now a.index.now s a.head a.levels.now a.bindings.now c.if-head.false begin.Finished c.begin_at.result c.begin_at.ensures c.in-Finished.is a.known.now a.own.now a.words.now a.schemas.now a.attributes.now planned.Finished refl c.requires.beside c.requires.beside
 
 pub returns-in-Stopped : goal.returns-in-Stopped
 returns-in-Stopped c =
     let a = c.args in
     let s = a.scene.now in
     let z = session_at a.head a.levels.now a.bindings.now in
-    begun_planned a.table.now a.index.now s a.head a.levels.now a.bindings.now c.if-head.false (begin.Stopped c.x-1.given.0.0) c.begin_at.result c.begin_at.ensures c.x-1.given.1 a.known.now a.own.now a.words.now a.schemas.now a.attributes.now c.stopped.result
-    (stopped_planned a.table.now a.index.now s z a.own.now a.words.now a.schemas.now a.attributes.now c.stopped.result _ c.x-1.given.0.0 c.stopped.ensures refl)
+    begun_planned a.table.now a.index.now s a.head a.levels.now a.bindings.now c.if-head.false (begin.Stopped c.in-Stopped.x) c.begin_at.result c.begin_at.ensures c.in-Stopped.is a.known.now a.own.now a.words.now a.schemas.now a.attributes.now c.stopped.result
+    (stopped_planned a.table.now a.index.now s z a.own.now a.words.now a.schemas.now a.attributes.now c.stopped.result _ c.in-Stopped.x c.stopped.ensures refl)
     c.requires.beside c.requires.beside

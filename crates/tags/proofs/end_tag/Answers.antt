@@ -6,15 +6,15 @@ use Rattle.tags.proofs.end_tag.Goals as goal
 
 pub returns-in-End-want : goal.returns-in-End-want
 unfolding end_tag_at
-returns-in-End-want c = by_name _ _ _ _ _ _ c.name_at.ensures c.name-1.given.1
-    (by_read _ _ _ _ _ _ c.spaces_end.ensures c.i-1.given.1
-    (by_read _ _ _ _ _ _ c.want.ensures c.next-1.given.1 refl))
+returns-in-End-want c = by_name _ _ _ _ _ _ c.name_at.ensures c.in-Got.is
+    (by_read _ _ _ _ _ _ c.spaces_end.ensures c.in-End.is
+    (by_read _ _ _ _ _ _ c.want.ensures c.in-End-want.is refl))
 
 pub returns-in-Stopped-want : goal.returns-in-Stopped-want
 unfolding end_tag_at
-returns-in-Stopped-want c = by_name _ _ _ _ _ _ c.name_at.ensures c.name-1.given.1
-    (by_read _ _ _ _ _ _ c.spaces_end.ensures c.i-1.given.1
-    (by_read _ _ _ _ _ _ c.want.ensures c.x-1.given.1 refl))
+returns-in-Stopped-want c = by_name _ _ _ _ _ _ c.name_at.ensures c.in-Got.is
+    (by_read _ _ _ _ _ _ c.spaces_end.ensures c.in-End.is
+    (by_read _ _ _ _ _ _ c.want.ensures c.in-Stopped-want.is refl))
 
 pub returns-in-Stopped-spaces_end : goal.returns-in-Stopped-spaces_end
 unfolding end_tag_at

@@ -6,12 +6,12 @@ use Rattle.tags.proofs.equals_end.Goals as goal
 
 pub returns-in-End-want : goal.returns-in-End-want
 unfolding equals_end
-returns-in-End-want c = by_read _ _ _ _ _ _ c.spaces_end.ensures c.i-1.given.1
-    (by_read _ _ _ _ _ _ c.want.ensures c.j-1.given.1 c.spaces_end-in-End-want.ensures)
+returns-in-End-want c = by_read _ _ _ _ _ _ c.spaces_end.ensures c.in-End.is
+    (by_read _ _ _ _ _ _ c.want.ensures c.in-End-want.is c.spaces_end-in-End-want.ensures)
 
 pub returns-in-Stopped-want : goal.returns-in-Stopped-want
 unfolding equals_end
-returns-in-Stopped-want c = by_read _ _ _ _ _ _ c.spaces_end.ensures c.i-1.given.1 (by_read _ _ _ _ _ _ c.want.ensures c.x-1.given.1 refl)
+returns-in-Stopped-want c = by_read _ _ _ _ _ _ c.spaces_end.ensures c.in-End.is (by_read _ _ _ _ _ _ c.want.ensures c.in-Stopped-want.is refl)
 
 pub returns-in-Stopped : goal.returns-in-Stopped
 unfolding equals_end

@@ -13,11 +13,11 @@ pub loop-i-smaller : goal.loop-i-smaller
 loop-i-smaller c =
     let l = c.loop-i in
     let d = c in
-    omega (arith, char_in _ _ _ _ _ d.char_end.ensures c.j-1.given.1, c.loop-i-test.true)
+    omega (arith, char_in _ _ _ _ _ d.char_end.ensures c.in-End.is, c.loop-i-test.true)
 
 pub loop-i-preserved : goal.loop-i-preserved
 loop-i-preserved c =
     let l = c.loop-i in
     let d = c in
-    let j = char_in _ _ _ _ _ d.char_end.ensures c.j-1.given.1 in
-    (omega (arith, j, l.invariant.0), high_passed _ _ _ _ l.i l.invariant.1 d.loop-i-test.true d.if-b-lt128.false d.if-b-quote.false _ d.char_end.ensures _ c.j-1.given.1)
+    let j = char_in _ _ _ _ _ d.char_end.ensures c.in-End.is in
+    (omega (arith, j, l.invariant.0), high_passed _ _ _ _ l.i l.invariant.1 d.loop-i-test.true d.if-b-lt128.false d.if-b-quote.false _ d.char_end.ensures _ c.in-End.is)

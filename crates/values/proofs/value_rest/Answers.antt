@@ -8,6 +8,8 @@ use Rattle.lexer.specs.Values.{value_from}
 use Rattle.lexer.proofs.ValueLaws.{closes_behind}
 use Rattle.lexer.proofs.CharTurns.{text_taken, text_refused, text_high}
 use Rattle.lexer.proofs.Passing.{plain_passed, text_closes, text_stops, text_passed, reference_in, char_in, reference_passed, reference_stops, passed_on}
+use mathlib.Core.Bool.{not}
+use mathlib.Core.Path.{ap}
 use Rattle.values.proofs.value_rest.Goals as goal
 
 pub loop-i-init : goal.loop-i-init
@@ -18,7 +20,7 @@ pub returns-then-b-quote : goal.returns-then-b-quote
 returns-then-b-quote c = search machine
 
 pub loop-i-smaller-in-End : goal.loop-i-smaller-in-End
-loop-i-smaller-in-End c = let a = c.args in omega (arith, reference_in a.s.now c.loop-i.i _ _ c.reference_end.ensures c.j-1.given.1, c.plain_end-i.ensures.0)
+loop-i-smaller-in-End c = let a = c.args in omega (arith, reference_in a.s.now c.loop-i.i _ _ c.reference_end.ensures c.in-End.is, c.plain_end-i.ensures.0)
 
 pub loop-i-preserved-in-End : goal.loop-i-preserved-in-End
 loop-i-preserved-in-End c = passed_on _ _ _ _ _ _ (plain_passed _ _ _ _ _ c.plain_end-i.ensures) (search reference_passed)
@@ -41,7 +43,7 @@ returns-then-not-is_text c =
     let l = c.loop-i in
     let a = c.args in
     let lt = c.loop-i-test.true in
-    text_stops _ a.s.now a.at a.quote l.i l.invariant lt c.if-b-quote.false c.if-b-eq38.false _ c.is_closing.ensures c.if-is_closing.false _ (text_refused a.s.now l.i lt c.if-b-lt128.true _ c.is_text.ensures c.if-not-is_text.true) _ refl
+    text_stops _ a.s.now a.at a.quote l.i l.invariant lt c.if-b-quote.false c.if-b-eq38.false _ c.is_closing.ensures c.if-is_closing.false _ (text_refused a.s.now l.i lt c.if-b-lt128.true _ c.is_text.ensures (ap not c.if-not-is_text.true)) _ refl
 
 pub loop-i-smaller-then-b-lt128 : goal.loop-i-smaller-then-b-lt128
 loop-i-smaller-then-b-lt128 c = omega (arith, c.plain_end-i-then-b-lt128.ensures.0, c.loop-i-test.true)
@@ -52,10 +54,10 @@ loop-i-preserved-then-b-lt128 c =
     let a = c.args in
     let lt = c.loop-i-test.true in
     passed_on _ _ _ _ _ _ (plain_passed _ _ _ _ _ c.plain_end-i-then-b-lt128.ensures)
-    (text_passed _ a.s.now a.at a.quote l.i l.invariant lt c.if-b-quote.false c.if-b-eq38.false _ c.is_closing.ensures c.if-is_closing.false _ (text_taken a.s.now l.i lt c.if-b-lt128.true _ c.is_text.ensures c.if-not-is_text.false) _ refl)
+    (text_passed _ a.s.now a.at a.quote l.i l.invariant lt c.if-b-quote.false c.if-b-eq38.false _ c.is_closing.ensures c.if-is_closing.false _ (text_taken a.s.now l.i lt c.if-b-lt128.true _ c.is_text.ensures (ap not c.if-not-is_text.false)) _ refl)
 
 pub loop-i-smaller : goal.loop-i-smaller
-loop-i-smaller c = omega (arith, c.plain_end-i-in-End-char_end.ensures.0, c.high_end.ensures.0, c.loop-i-test.true, char_in _ _ _ _ _ c.char_end.ensures c.j-in-End-char_end-1.given.1)
+loop-i-smaller c = omega (arith, c.plain_end-i-in-End-char_end.ensures.0, c.high_end.ensures.0, c.loop-i-test.true, char_in _ _ _ _ _ c.char_end.ensures c.in-End-char_end.is)
 
 pub loop-i-preserved : goal.loop-i-preserved
 loop-i-preserved c =
@@ -63,14 +65,14 @@ loop-i-preserved c =
     let a = c.args in
     let lt = c.loop-i-test.true in
     passed_on _ _ _ _ _ _ (plain_passed _ _ _ _ _ c.plain_end-i-in-End-char_end.ensures ∙ c.high_end.ensures.1)
-    (text_passed _ a.s.now a.at a.quote l.i l.invariant lt c.if-b-quote.false c.if-b-eq38.false _ c.is_closing.ensures c.if-is_closing.false _ (text_high a.s.now l.i lt c.if-b-lt128.false _ c.char_end.ensures) _ c.j-in-End-char_end-1.given.1)
+    (text_passed _ a.s.now a.at a.quote l.i l.invariant lt c.if-b-quote.false c.if-b-eq38.false _ c.is_closing.ensures c.if-is_closing.false _ (text_high a.s.now l.i lt c.if-b-lt128.false _ c.char_end.ensures) _ c.in-End-char_end.is)
 
 pub returns-in-Stopped-char_end : goal.returns-in-Stopped-char_end
 returns-in-Stopped-char_end c =
     let l = c.loop-i in
     let a = c.args in
     let lt = c.loop-i-test.true in
-    text_stops _ a.s.now a.at a.quote l.i l.invariant lt c.if-b-quote.false c.if-b-eq38.false _ c.is_closing.ensures c.if-is_closing.false _ (text_high a.s.now l.i lt c.if-b-lt128.false _ c.char_end.ensures) _ c.x-in-Stopped-char_end-1.given.1
+    text_stops _ a.s.now a.at a.quote l.i l.invariant lt c.if-b-quote.false c.if-b-eq38.false _ c.is_closing.ensures c.if-is_closing.false _ (text_high a.s.now l.i lt c.if-b-lt128.false _ c.char_end.ensures) _ c.in-Stopped-char_end.is
 
 pub returns : goal.returns
 returns c = search machine

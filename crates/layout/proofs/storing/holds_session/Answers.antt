@@ -1,7 +1,6 @@
 -- `layout::storing::holds_session` meets its contract.
 use mathlib.Core.Path.{sym, ◌∙◌}
 use native.Mathlib.Omega.{arith}
-use borrow.Author.Tests.{not-true, not-false}
 use Rattle.layout.proofs.Holding.{not_version, not_closed, not_awaited, not_padding, not_level, last_test}
 use Rattle.layout.proofs.storing.holds_session.Goals as goal
 
@@ -16,12 +15,12 @@ returns-then-b-gt1-2 c = not_awaited c.args.b.now c.if-b-ne1.false (omega arith)
 
 pub returns-then-not-no_padding : goal.returns-then-not-no_padding
 returns-then-not-no_padding c =
-    not_padding c.args.b.now c.if-b-ne1.false (omega arith) (omega arith) (sym c.no_padding.ensures ∙ not-true _ c.if-not-no_padding.true)
+    not_padding c.args.b.now c.if-b-ne1.false (omega arith) (omega arith) (sym c.no_padding.ensures ∙ c.if-not-no_padding.true)
 
 pub returns-then-not-no_level_padding : goal.returns-then-not-no_level_padding
 returns-then-not-no_level_padding c =
-    not_level c.args.b.now c.if-b-ne1.false (omega arith) (omega arith) (sym c.no_padding.ensures ∙ not-false _ c.if-not-no_padding.false) (sym c.no_level_padding.ensures ∙ not-true _ c.if-not-no_level_padding.true)
+    not_level c.args.b.now c.if-b-ne1.false (omega arith) (omega arith) (sym c.no_padding.ensures ∙ c.if-not-no_padding.false) (sym c.no_level_padding.ensures ∙ c.if-not-no_level_padding.true)
 
 pub returns : goal.returns
 returns c =
-    last_test c.args.b.now c.if-b-ne1.false (omega arith) (omega arith) (sym c.no_padding.ensures ∙ not-false _ c.if-not-no_padding.false) (sym c.no_level_padding.ensures ∙ not-false _ c.if-not-no_level_padding.false) _ c.strands_pack.ensures
+    last_test c.args.b.now c.if-b-ne1.false (omega arith) (omega arith) (sym c.no_padding.ensures ∙ c.if-not-no_padding.false) (sym c.no_level_padding.ensures ∙ c.if-not-no_level_padding.false) _ c.strands_pack.ensures

@@ -2,7 +2,6 @@
 use mathlib.Core.Path.{sym, ap, ◌∙◌}
 use Prim.Native.Nat.{ℕ, ◌+◌, ◌*◌}
 use native.Mathlib.Omega.{arith}
-use borrow.Author.Tests.{not-true, not-false}
 use lib.Dec.{eqb}
 use Rattle.layout.specs.Layout.{word4, packs}
 use Rattle.layout.proofs.Packs.{zero_packs}
@@ -13,7 +12,7 @@ pub returns-then-not-words_pack : goal.returns-then-not-words_pack
 returns-then-not-words_pack c =
     let a = c.args in
     first_fail (λ (j : ℕ). packs (word4 a.b.now (a.at + 4 * j))) (λ (j : ℕ). packs (word4 a.b.now (a.at + 16 + 4 * j))) 4 12
-    (λ j h. ap (λ (at : ℕ). packs (word4 a.b.now at)) (omega arith)) (sym c.words_pack.ensures ∙ not-true _ c.if-not-words_pack.true)
+    (λ j h. ap (λ (at : ℕ). packs (word4 a.b.now at)) (omega arith)) (sym c.words_pack.ensures ∙ c.if-not-words_pack.true)
 
 pub returns-then-words_zero : goal.returns-then-words_zero
 returns-then-words_zero c =
@@ -21,11 +20,11 @@ returns-then-words_zero c =
     let last : ℕ → ℕ = λ (j : ℕ). word4 a.b.now (a.at + 16 + 4 * j) in
     sym (asked_less (λ (j : ℕ). eqb (last j) 0) (λ (j : ℕ). packs (last j)) 12 (λ j. zero_packs (last j)) (sym c.words_zero.ensures ∙ c.if-words_zero.true))
     ∙ then_last (λ (j : ℕ). packs (word4 a.b.now (a.at + 4 * j))) (λ (j : ℕ). packs (last j)) 4 12
-    (λ j h. ap (λ (at : ℕ). packs (word4 a.b.now at)) (omega arith)) (sym c.words_pack.ensures ∙ not-false _ c.if-not-words_pack.false)
+    (λ j h. ap (λ (at : ℕ). packs (word4 a.b.now at)) (omega arith)) (sym c.words_pack.ensures ∙ c.if-not-words_pack.false)
 
 pub returns : goal.returns
 returns c =
     let a = c.args in
     c.words_pack-2.ensures
     ∙ then_last (λ (j : ℕ). packs (word4 a.b.now (a.at + 4 * j))) (λ (j : ℕ). packs (word4 a.b.now (a.at + 16 + 4 * j))) 4 12
-    (λ j h. ap (λ (at : ℕ). packs (word4 a.b.now at)) (omega arith)) (sym c.words_pack.ensures ∙ not-false _ c.if-not-words_pack.false)
+    (λ j h. ap (λ (at : ℕ). packs (word4 a.b.now at)) (omega arith)) (sym c.words_pack.ensures ∙ c.if-not-words_pack.false)

@@ -2,7 +2,6 @@
 use mathlib.Core.Path.{refl, sym, ap, ◌∙◌}
 use Prim.Native.Nat.{ℕ, ◌+◌, ◌-◌, ◌*◌}
 use native.Mathlib.Omega.{arith}
-use borrow.Author.Tests.{not-true, not-false}
 use Rattle.laws.proofs.Lists.{all_done}
 use Rattle.layout.specs.Layout.{word4, packs, strand_at}
 use Rattle.layout.proofs.Tested.{asked, some_fail, some_pass}
@@ -16,7 +15,7 @@ returns-then-not-level_packs c =
     let b = c.args.b.now in
     let l = c.loop-k in
     some_fail (λ (i : ℕ). packs (word4 b (strand_at i))) (λ (j : ℕ). packs (word4 b (1064 + 96 * l.k + 32 + 4 * j))) (16 * l.k) 16 1024 (asked (λ (i : ℕ). packs (word4 b (strand_at i))) 0 1024) l.invariant.1 (omega arith)
-    (λ j h. ap (λ (at : ℕ). packs (word4 b at)) (omega arith)) (sym c.level_packs.ensures ∙ not-true _ c.if-not-level_packs.true)
+    (λ j h. ap (λ (at : ℕ). packs (word4 b at)) (omega arith)) (sym c.level_packs.ensures ∙ c.if-not-level_packs.true)
 
 pub loop-k-preserved : goal.loop-k-preserved
 loop-k-preserved c =
@@ -24,7 +23,7 @@ loop-k-preserved c =
     let l = c.loop-k in (
       omega arith,
       some_pass (λ (i : ℕ). packs (word4 b (strand_at i))) (λ (j : ℕ). packs (word4 b (1064 + 96 * l.k + 32 + 4 * j))) (16 * l.k) 16 1024 (asked (λ (i : ℕ). packs (word4 b (strand_at i))) 0 1024) l.invariant.1 (omega arith)
-          (λ j h. ap (λ (at : ℕ). packs (word4 b at)) (omega arith)) (16 * (l.k + 1)) (omega arith) (sym c.level_packs.ensures ∙ not-false _ c.if-not-level_packs.false),
+          (λ j h. ap (λ (at : ℕ). packs (word4 b at)) (omega arith)) (16 * (l.k + 1)) (omega arith) (sym c.level_packs.ensures ∙ c.if-not-level_packs.false),
     )
 
 pub returns : goal.returns

@@ -4,6 +4,8 @@ use mathlib.Core.Path.{refl, ◌∙◌}
 use native.Mathlib.Omega.{arith}
 use Rattle.laws.specs.Tests.{untold, untold'}
 use Rattle.lexer.proofs.Parts.{part_none, part_here, part_out, part_first, part_stop, part_on}
+use mathlib.Core.Bool.{not}
+use mathlib.Core.Path.{ap}
 use Rattle.lexer.proofs.names.part_end.Goals as goal
 
 pub returns-then-len-at : goal.returns-then-len-at
@@ -19,13 +21,13 @@ pub loop-i-init : goal.loop-i-init
 loop-i-init c =
     let r = c.room_end-end.ensures in
     let a = c.args in
-    (refl, omega arith, omega (arith, r.0), r.1, r.2, part_first a.s.now a.at c.if-len-at.false (untold' _ _ c.is_start.ensures c.if-not-is_start.false))
+    (refl, omega arith, omega (arith, r.0), r.1, r.2, part_first a.s.now a.at c.if-len-at.false (untold' _ _ c.is_start.ensures (ap not c.if-not-is_start.false)))
 
 pub returns-then-s-i-lt128 : goal.returns-then-s-i-lt128
 returns-then-s-i-lt128 c =
     let a = c.args in
     let l = c.loop-i in
-    part_stop a.s.now a.at l.i l.invariant.1 l.invariant.5 (omega arith) c.if-s-i-lt128.true (untold _ _ c.is_name.ensures c.if-not-is_name.true)
+    part_stop a.s.now a.at l.i l.invariant.1 l.invariant.5 (omega arith) c.if-s-i-lt128.true (untold _ _ c.is_name.ensures (ap not c.if-not-is_name.true))
 
 pub part_rest-requires-then-not-is_name : goal.part_rest-requires-then-not-is_name
 part_rest-requires-then-not-is_name c = (omega arith, omega arith)
@@ -37,7 +39,7 @@ pub loop-i-preserved : goal.loop-i-preserved
 loop-i-preserved c =
     let a = c.args in
     let l = c.loop-i in
-    (l.invariant.0, omega arith, omega arith, l.invariant.3, l.invariant.4, part_on a.s.now a.at l.i l.invariant.1 l.invariant.5 (omega arith) (omega arith) (untold' _ _ c.is_name.ensures c.if-not-is_name.false))
+    (l.invariant.0, omega arith, omega arith, l.invariant.3, l.invariant.4, part_on a.s.now a.at l.i l.invariant.1 l.invariant.5 (omega arith) (omega arith) (untold' _ _ c.is_name.ensures (ap not c.if-not-is_name.false)))
 
 pub returns-then-len-i : goal.returns-then-len-i
 returns-then-len-i c = part_out _ _ _ c.loop-i.invariant.5 (omega (arith, c.if-len-i.true, c.loop-i.invariant.0))

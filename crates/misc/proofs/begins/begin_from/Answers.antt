@@ -12,7 +12,7 @@ pub returns-in-Event : goal.returns-in-Event
 returns-in-Event c = search begin_event
 
 pub loop-b-smaller : goal.loop-b-smaller
-loop-b-smaller c = omega (arith, misc_onward _ _ _ _ _ c.ahead_at.ensures _ c.j-1.given.1)
+loop-b-smaller c = omega (arith, misc_onward _ _ _ _ _ c.ahead_at.ensures _ c.in-Misc.is)
 
 pub loop-b-preserved : goal.loop-b-preserved
 loop-b-preserved c = search begin_misc

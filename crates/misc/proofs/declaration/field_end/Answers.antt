@@ -7,14 +7,14 @@ use Rattle.misc.proofs.declaration.field_end.Goals as goal
 pub returns-in-End-equals_end : goal.returns-in-End-equals_end
 unfolding field_end
 returns-in-End-equals_end c =
-    by_read _ _ _ _ _ _ c.field_word_end.ensures c.i-1.given.1
-    (by_read _ _ _ _ _ _ c.equals_end.ensures c.j-1.given.1 c.quoted_end.ensures)
+    by_read _ _ _ _ _ _ c.field_word_end.ensures c.in-End.is
+    (by_read _ _ _ _ _ _ c.equals_end.ensures c.in-End-equals_end.is c.quoted_end.ensures)
 
 pub returns-in-Stopped-equals_end : goal.returns-in-Stopped-equals_end
 unfolding field_end
 returns-in-Stopped-equals_end c =
-    by_read _ _ _ _ _ _ c.field_word_end.ensures c.i-1.given.1
-    (by_read _ _ _ _ _ _ c.equals_end.ensures c.x-1.given.1 refl)
+    by_read _ _ _ _ _ _ c.field_word_end.ensures c.in-End.is
+    (by_read _ _ _ _ _ _ c.equals_end.ensures c.in-Stopped-equals_end.is refl)
 
 pub returns-in-Stopped : goal.returns-in-Stopped
 unfolding field_end

@@ -4,7 +4,6 @@ use mathlib.Core.Path.{refl}
 use native.Mathlib.Omega.{arith}
 use Rattle.laws.specs.Reading.{machine}
 use Rattle.lexer.specs.Misc.{comment_rest}
-use borrow.Author.Tests.{not-true, not-false}
 use Rattle.lexer.proofs.Passing.{char_in}
 use Rattle.lexer.proofs.CharTurns.{char_taken, char_refused}
 use Rattle.misc.proofs.FreeTurns.{hyphen_goes, comment_stops, comment_passed}
@@ -29,28 +28,28 @@ pub returns-then-not-is_char : goal.returns-then-not-is_char
 returns-then-not-is_char c =
     let l = c.loop-i in
     let lt = c.loop-i-test.true in
-    let r = char_refused _ l.i lt c.if-b-lt128.true _ c.is_char.ensures (not-true _ c.if-not-is_char.true) in
+    let r = char_refused _ l.i lt c.if-b-lt128.true _ c.is_char.ensures c.if-not-is_char.true in
     comment_stops _ _ l.hyphens l.i l.invariant.1 lt c.if-hyphens-eq2.false c.if-b-eq45.false _ r _ refl
 
 pub loop-i-preserved-then-b-lt128 : goal.loop-i-preserved-then-b-lt128
 loop-i-preserved-then-b-lt128 c =
     let l = c.loop-i in
     let lt = c.loop-i-test.true in
-    let r = char_taken _ l.i lt c.if-b-lt128.true _ c.is_char.ensures (not-false _ c.if-not-is_char.false) in
+    let r = char_taken _ l.i lt c.if-b-lt128.true _ c.is_char.ensures c.if-not-is_char.false in
     (omega arith, comment_passed _ _ l.hyphens l.i l.invariant.1 lt c.if-hyphens-eq2.false c.if-b-eq45.false _ r _ refl)
 
 pub loop-i-smaller : goal.loop-i-smaller
-loop-i-smaller c = omega (arith, char_in _ _ _ _ _ c.char_end.ensures c.j-1.given.1, c.loop-i-test.true)
+loop-i-smaller c = omega (arith, char_in _ _ _ _ _ c.char_end.ensures c.in-End.is, c.loop-i-test.true)
 
 pub loop-i-preserved : goal.loop-i-preserved
 loop-i-preserved c =
     let l = c.loop-i in
-    (omega arith, comment_passed _ _ l.hyphens l.i l.invariant.1 c.loop-i-test.true c.if-hyphens-eq2.false c.if-b-eq45.false _ c.char_end.ensures _ c.j-1.given.1)
+    (omega arith, comment_passed _ _ l.hyphens l.i l.invariant.1 c.loop-i-test.true c.if-hyphens-eq2.false c.if-b-eq45.false _ c.char_end.ensures _ c.in-End.is)
 
 pub returns-in-Stopped : goal.returns-in-Stopped
 returns-in-Stopped c =
     let l = c.loop-i in
-    comment_stops _ _ l.hyphens l.i l.invariant.1 c.loop-i-test.true c.if-hyphens-eq2.false c.if-b-eq45.false _ c.char_end.ensures _ c.x-1.given.1
+    comment_stops _ _ l.hyphens l.i l.invariant.1 c.loop-i-test.true c.if-hyphens-eq2.false c.if-b-eq45.false _ c.char_end.ensures _ c.in-Stopped.is
 
 pub returns : goal.returns
 returns c = search machine

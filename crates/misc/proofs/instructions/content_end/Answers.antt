@@ -4,7 +4,6 @@ use mathlib.Core.Path.{refl}
 use native.Mathlib.Omega.{arith}
 use Rattle.laws.specs.Reading.{machine}
 use Rattle.lexer.specs.Misc.{content_end}
-use borrow.Author.Tests.{not-true, not-false}
 use Rattle.lexer.proofs.Passing.{char_in}
 use Rattle.lexer.proofs.CharTurns.{char_taken, char_refused}
 use Rattle.misc.proofs.MiscTurns.{behind_flag}
@@ -22,28 +21,28 @@ pub returns-then-not-is_char : goal.returns-then-not-is_char
 returns-then-not-is_char c =
     let l = c.loop-i in
     let lt = c.loop-i-test.true in
-    let r = char_refused _ l.i lt c.if-b-lt128.true _ c.is_char.ensures (not-true _ c.if-not-is_char.true) in
+    let r = char_refused _ l.i lt c.if-b-lt128.true _ c.is_char.ensures c.if-not-is_char.true in
     content_stops _ _ l.behind l.i l.invariant lt c.if-behind-b.false _ r _ refl
 
 pub loop-i-preserved-then-b-lt128 : goal.loop-i-preserved-then-b-lt128
 loop-i-preserved-then-b-lt128 c =
     let l = c.loop-i in
     let lt = c.loop-i-test.true in
-    let r = char_taken _ l.i lt c.if-b-lt128.true _ c.is_char.ensures (not-false _ c.if-not-is_char.false) in
+    let r = char_taken _ l.i lt c.if-b-lt128.true _ c.is_char.ensures c.if-not-is_char.false in
     content_passed _ _ l.behind l.i l.invariant lt c.if-behind-b.false _ r _ refl
 
 pub loop-i-smaller : goal.loop-i-smaller
-loop-i-smaller c = omega (arith, char_in _ _ _ _ _ c.char_end.ensures c.j-1.given.1, c.loop-i-test.true)
+loop-i-smaller c = omega (arith, char_in _ _ _ _ _ c.char_end.ensures c.in-End.is, c.loop-i-test.true)
 
 pub loop-i-preserved : goal.loop-i-preserved
 loop-i-preserved c =
     let l = c.loop-i in
-    content_passed _ _ l.behind l.i l.invariant c.loop-i-test.true c.if-behind-b.false _ c.char_end.ensures _ c.j-1.given.1
+    content_passed _ _ l.behind l.i l.invariant c.loop-i-test.true c.if-behind-b.false _ c.char_end.ensures _ c.in-End.is
 
 pub returns-in-Stopped : goal.returns-in-Stopped
 returns-in-Stopped c =
     let l = c.loop-i in
-    content_stops _ _ l.behind l.i l.invariant c.loop-i-test.true c.if-behind-b.false _ c.char_end.ensures _ c.x-1.given.1
+    content_stops _ _ l.behind l.i l.invariant c.loop-i-test.true c.if-behind-b.false _ c.char_end.ensures _ c.in-Stopped.is
 
 pub returns : goal.returns
 returns c = search machine

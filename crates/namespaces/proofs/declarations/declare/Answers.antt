@@ -23,7 +23,7 @@ returns-in-Refused c =
     let l = p.loop-i in
     let r = c.declare_one in
     refused _ _ p.at_most-most.result _ _ l.all l.n l.i l.invariant.2 c.loop-i-test.true _ c.attr_in.ensures r.result r.new.1.1.0 r.ensures
-    c.enum_told-1.given.1
+    c.in-Refused.is
 
 pub loop-i-preserved : goal.loop-i-preserved
 loop-i-preserved c =
@@ -32,7 +32,7 @@ loop-i-preserved c =
     let r = c.declare_one in
     let t =
     turn _ _ p.at_most-most.result _ _ l.all l.n l.i l.invariant.2 c.loop-i-test.true _ c.attr_in.ensures r.result r.new.1.1.0 r.ensures _
-    c.m-1.given.1 r.auto.1.1.0 in
+    c.in-Own.is r.auto.1.1.0 in
     (l.invariant.0, l.invariant.1, t)
 
 pub returns : goal.returns

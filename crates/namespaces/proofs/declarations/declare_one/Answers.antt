@@ -7,20 +7,20 @@ use Rattle.namespaces.proofs.declarations.declare_one.Goals as goal
 
 pub returns-in-Plain : goal.returns-in-Plain
 returns-in-Plain c =
-    as_kind _ _ _ _ _ _ _ _ c.kind_of.ensures c.enum_told-1.given.1 (keep_none _ _ _)
+    as_kind _ _ _ _ _ _ _ _ c.kind_of.ensures c.in-Plain.is (keep_none _ _ _)
 
 pub returns-in-Prefixed : goal.returns-in-Prefixed
 returns-in-Prefixed c =
-    as_kind _ _ _ _ _ _ _ _ c.kind_of.ensures c.enum_told-in-Prefixed-1.given.1 (keep_none _ _ _)
+    as_kind _ _ _ _ _ _ _ _ c.kind_of.ensures c.in-Prefixed.is (keep_none _ _ _)
 
 pub returns-in-Default : goal.returns-in-Default
 returns-in-Default c =
     let k = c.keep_binding.ensures in
-    as_kind _ _ _ _ _ _ _ _ c.kind_of.ensures c.enum_told-in-Default-1.given.1
+    as_kind _ _ _ _ _ _ _ _ c.kind_of.ensures c.in-Default.is
     (keep_one _ _ _ _ _ _ _ (ap (binding (span 0 0)) c.span_between-uri.ensures) k.0 k.1)
 
 pub returns-in-Declares : goal.returns-in-Declares
 returns-in-Declares c =
     let k = c.keep_binding-in-Declares.ensures in
-    as_kind _ _ _ _ _ _ _ _ c.kind_of.ensures c.enum_told-in-Declares-1.given.1
+    as_kind _ _ _ _ _ _ _ _ c.kind_of.ensures c.in-Declares.is
     (keep_one _ _ _ _ _ _ _ (rw (c.span_between-prefix.ensures, c.span_between-uri.ensures)) k.0 k.1)

@@ -8,6 +8,7 @@ use Rattle.lexer.specs.Attrs.{attr_in}
 use Rattle.reader.specs.Known.{plain_attr}
 use Rattle.reader.proofs.Indexed.{at_most_le}
 use Rattle.reader.proofs.Plain.{all_begin}
+use mathlib.Core.Bool.{not}
 use Rattle.reader.proofs.kinds.all_plain.Goals as goal
 
 pub at_most-most-requires : goal.at_most-most-requires
@@ -33,7 +34,7 @@ is_plain-requires c = search rules
 pub returns-then-not-is_plain : goal.returns-then-not-is_plain
 returns-then-not-is_plain c =
     let l = c in
-    all_not _ l.loop-i.i _ _ _ l.loop-i.invariant.1 c.loop-i-test.true (untold _ _ (c.is_plain.ensures ∙ ap (plain_attr _) c.attr_in.ensures) c.if-not-is_plain.true)
+    all_not _ l.loop-i.i _ _ _ l.loop-i.invariant.1 c.loop-i-test.true (untold _ _ (c.is_plain.ensures ∙ ap (plain_attr _) c.attr_in.ensures) (ap not c.if-not-is_plain.true))
 
 -- src/kinds.rt:123:9
 
@@ -50,7 +51,7 @@ loop-i-smaller c = search rules
 pub loop-i-preserved : goal.loop-i-preserved
 loop-i-preserved c =
     let l = c in
-    (l.loop-i.invariant.0, all_on _ l.loop-i.i _ _ _ l.loop-i.invariant.1 c.loop-i-test.true (untold' _ _ (c.is_plain.ensures ∙ ap (plain_attr _) c.attr_in.ensures) c.if-not-is_plain.false))
+    (l.loop-i.invariant.0, all_on _ l.loop-i.i _ _ _ l.loop-i.invariant.1 c.loop-i-test.true (untold' _ _ (c.is_plain.ensures ∙ ap (plain_attr _) c.attr_in.ensures) (ap not c.if-not-is_plain.false)))
 
 -- src/kinds.rt:114:1
 

@@ -11,6 +11,7 @@ use Rattle.strands.specs.Writing.{sorted_bodies}
 use Rattle.start_records.proofs.ElementRows.{element_none, element_laid}
 use Rattle.start_records.proofs.KeptCopies.{start_copied}
 use borrow.Author.Rules.{rules}
+use mathlib.Core.Bool.{not}
 use Rattle.start_records.proofs.elements.copy_element.Goals as goal
 
 pub returns-then-not-delivers : goal.returns-then-not-delivers
@@ -18,7 +19,7 @@ returns-then-not-delivers c =
     let a = c.args in
     let d = c.delivers in
     let l = all_sorted (attributes_in a.attributes.now) (sections_in a.attributes.now) a.n in
-    (omega arith, λ begun h. element_none a.index.now a.tag begun l a.w a.schema d.result d.ensures (laid a.out.now a.from) c.if-not-delivers.true)
+    (omega arith, λ begun h. element_none a.index.now a.tag begun l a.w a.schema d.result d.ensures (laid a.out.now a.from) (ap not c.if-not-delivers.true))
 
 pub put_words-requires : goal.put_words-requires
 put_words-requires c =
@@ -50,6 +51,6 @@ returns c =
     let w = if_within a.out.now a.from _ _ _ _ c.put_row_if-a.ensures in
     let k = c.copy_kept.ensures in (
       omega (arith, k.0),
-      λ begun h. element_laid a.index.now a.tag begun l a.w a.schema d.result d.ensures c.if-not-delivers.false t.result c.mode_of-mode.result c.is_here.result t.ensures c.mode_of-mode.ensures.0 c.is_here.ensures
+      λ begun h. element_laid a.index.now a.tag begun l a.w a.schema d.result d.ensures (ap not c.if-not-delivers.false) t.result c.mode_of-mode.result c.is_here.result t.ensures c.mode_of-mode.ensures.0 c.is_here.ensures
           (laid a.out.now a.from) _ _ _ c.put_row_if-a.ensures (start_copied a.rows.now begun (gather sorted_bodies l) t.result _ _ _ _ h m (omega arith) c.put_words.ensures) (k.1 begun t.result h m),
     )

@@ -3,6 +3,8 @@ use Rattle.records.specs.Rows.{laid}
 use Rattle.attributes.specs.Attributes.{attributes_in, sections_in, all_sorted}
 use Rattle.strands.specs.Writing.{begun_body}
 use Rattle.start_records.proofs.ElementRows.{element_none, element_laid}
+use mathlib.Core.Bool.{not}
+use mathlib.Core.Path.{ap}
 use Rattle.start_records.proofs.elements.write_element.Goals as goal
 
 pub returns-then-not-delivers : goal.returns-then-not-delivers
@@ -10,13 +12,13 @@ returns-then-not-delivers c =
     let a = c.args in
     let d = c.delivers in
     let l = all_sorted (attributes_in a.attributes.now) (sections_in a.attributes.now) a.n in
-    element_none a.index.now a.begun.tag (begun_body a.begun) l a.w a.schema d.result d.ensures (laid a.out.now a.from) c.if-not-delivers.true
+    element_none a.index.now a.begun.tag (begun_body a.begun) l a.w a.schema d.result d.ensures (laid a.out.now a.from) (ap not c.if-not-delivers.true)
 
 pub returns : goal.returns
 returns c =
     let a = c.args in
     let d = c.delivers in
     let l = all_sorted (attributes_in a.attributes.now) (sections_in a.attributes.now) a.n in
-    element_laid a.index.now a.begun.tag (begun_body a.begun) l a.w a.schema d.result d.ensures c.if-not-delivers.false
+    element_laid a.index.now a.begun.tag (begun_body a.begun) l a.w a.schema d.result d.ensures (ap not c.if-not-delivers.false)
     c.target_of-unit.result c.mode_of.result c.is_here.result c.target_of-unit.ensures c.mode_of.ensures.0 c.is_here.ensures
     (laid a.out.now a.from) _ _ _ c.put_row_if-a.ensures c.put_row-b.ensures c.write_kept.ensures

@@ -42,14 +42,14 @@ plan_named-requires c =
     let a = b.args in
     let i = b.requires.0 in
     let r = c.end_tag in
-    let t = tag_inside a.scene.now (a.at + 2) _ r.result r.ensures c.tag-1.given.1 in
+    let t = tag_inside a.scene.now (a.at + 2) _ r.result r.ensures c.in-Got.is in
     (i, omega (arith, i.short, t.0), omega (arith, i.short, t.1))
 
 pub returns-in-Got : goal.returns-in-Got
 returns-in-Got c = λ (table index own words schemas attributes bindings : List ℕ).
     let a = c.args in
     let r = c.end_tag in
-    end_planned table index a.scene.now (session_at a.head a.levels.now bindings) own words schemas attributes c.plan_named.result a.at r.result _ r.ensures c.tag-1.given.1 (c.plan_named.ensures table index own words schemas attributes bindings)
+    end_planned table index a.scene.now (session_at a.head a.levels.now bindings) own words schemas attributes c.plan_named.result a.at r.result _ r.ensures c.in-Got.is (c.plan_named.ensures table index own words schemas attributes bindings)
 
 pub returns-in-Stopped : goal.returns-in-Stopped
 returns-in-Stopped c = λ (table index own words schemas attributes bindings : List ℕ).
