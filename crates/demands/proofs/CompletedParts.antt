@@ -538,6 +538,7 @@ stands s w rest at (inr (inl q)) e = rw (e, q, common_none rest)
 stands s w rest at (inr (inr (inl q))) e = rw (e, q, common_none rest)
 stands s w rest at (inr (inr (inr (inl q)))) e = rw (e, q, common_none rest)
 stands s w rest at (inr (inr (inr (inr (inl q))))) e = rw (e, q, common_none rest)
+stands s w rest at (inr (inr (inr (inr (inr q))))) e = elim q [ ]
 
 reference_few : (w : List ℕ) → In w references → (1 ≤ length w) × (length w ≤ 6)
 reference_few w (inl q) = rw q (omega arith)
@@ -545,6 +546,7 @@ reference_few w (inr (inl q)) = rw q (omega arith)
 reference_few w (inr (inr (inl q))) = rw q (omega arith)
 reference_few w (inr (inr (inr (inl q)))) = rw q (omega arith)
 reference_few w (inr (inr (inr (inr (inl q))))) = rw q (omega arith)
+reference_few w (inr (inr (inr (inr (inr q))))) = elim q [ ]
 
 -- a scene that ends inside a reference
 reference_completed : (s : List ℕ) (at : ℕ) → at < length s → reference_end s at ≡ read.Stopped Cut → Rest reference_end s at 5

@@ -9,7 +9,6 @@ use Rattle.lexer.specs.Characters.{with_byte}
 use Rattle.lexer.specs.declared.Stop.TheVariants.{Bad, Long, Cut}
 use Rattle.lexer.specs.declared.Read.{Read}
 use Rattle.lexer.specs.declared.Read.TheVariants as read
-use Rattle.lexer.specs.declared.Name.{Name}
 use Rattle.lexer.specs.declared.Named.{Named}
 use Rattle.lexer.specs.declared.Named.TheVariants as named
 

@@ -1,5 +1,5 @@
 -- More bytes behind a scene change nothing of what is said of spans inside it: bytes, kinds, declarations, namespaces, what a tag means, `Held`.
-use Prim.Native.Nat.{ℕ, ◌-◌}
+use Prim.Native.Nat.{ℕ}
 use mathlib.Core.Path.{◌≡◌, refl, ap, ap₂, ◌∙◌}
 use mathlib.Core.List.{List, [], ◌∷◌, ◌++◌}
 use mathlib.Core.Bool.{cond, ◌&&◌}

@@ -2,7 +2,7 @@
 --     declarations_in                        what the attributes declare
 --     look_held, prefix_held, element_held   what is found of a prefix is one of the bindings
 --     resolved_held, meaning_held            the attributes, and the whole
-use Prim.Native.Nat.{ℕ, ◌+◌, ◌-◌}
+use Prim.Native.Nat.{ℕ}
 use mathlib.Core.Path.{◌≡◌, refl}
 use mathlib.Core.List.{List, [], ◌∷◌, ◌++◌}
 use mathlib.Core.Bool.{false, cond, ◌||◌}

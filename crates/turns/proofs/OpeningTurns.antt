@@ -2,7 +2,7 @@
 --     start_plan_lem                           what is left where 21 and 22 are passed
 --     begun_body_lem, begun_at                 what the starts along the strands have in common
 --     laid_start, full_start, room_start   the level laid down; 25; the records with it
-use Prim.Native.Nat.{ℕ, ◌+◌, ◌*◌, ◌-◌, ◌/◌, ◌≤◌, ◌<◌}
+use Prim.Native.Nat.{ℕ, ◌*◌, ◌-◌, ◌/◌, ◌≤◌, ◌<◌}
 use mathlib.Core.Path.{◌≡◌, refl, sym, ap, subst, ◌∙◌}
 use mathlib.Core.List.{List, [], ◌∷◌, ◌++◌, map, map-map}
 use native.Mathlib.Omega.{arith}

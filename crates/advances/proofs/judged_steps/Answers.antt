@@ -6,22 +6,12 @@ use lib.ListN.{length, take, drop}
 use Rattle.laws.proofs.Over.{part_whole_lem, part_back}
 use Rattle.table.specs.Table.{decode}
 use Rattle.sessions.specs.Sessions.{session_at}
+use Rattle.sessions.specs.Stepping.{Step}
+use Rattle.sessions.specs.Turns.{step_in}
 use Rattle.sessions.proofs.SoundCoherent.{sound_coherent}
 use Rattle.advances.proofs.RunTurns.{Turned, loop_sound, going_first, going_turned, going_last}
 use Rattle.advances.proofs.judged_steps.Goals as goal
-
-turned : (c : tie.After-judged-step invariant-loop decreases-loop) → (
-    let a = c.before.before.before.before.before.before.before.before.before.before.before.before.before.before.before.before.args in
-    let l = c.before.before.before.before.before.before.before.before.before.before.before.before.loop in
-    Turned a.table.now a.scene.now (session_at a.from a.levels.now a.bindings.now) a.out.now a.most l.out l.used l.events l.records (stepped c))
-turned c =
-    let a = c.before.before.before.before.before.before.before.before.before.before.before.before.before.before.before.before.args in
-    let l = c.before.before.before.before.before.before.before.before.before.before.before.before.loop in
-    let p = c.before.before.before.before.before.before.before.before.before.before.before.before.before.before.before.before.requires.ready in
-    let z₀ = session_at a.from a.levels.now a.bindings.now in
-    let z = session_at l.head l.levels l.bindings in
-    going_turned a.table.now a.scene.now z₀ a.out.now a.most z l.out l.used l.events l.records l.invariant.0 c.before.before.before.before.before.before.before.before.before.before.before.loop-test.true p.accepted p.short
-    (take (length l.out - l.used) (drop l.used l.out)) (part_whole_lem l.out l.used) (stepped c) c.judged-step.ensures.0.0
+use Rattle.advances.proofs.judged_steps.Goals.{After-judged_step-turn}
 
 pub loop-events-init : goal.loop-events-init
 loop-events-init c =
@@ -48,22 +38,40 @@ judged_step-turn-requires c =
     }
 
 -- a turn: the step that was handed back, and what it makes of the loop
+abbrev stepped : After-judged_step-turn → Step
+stepped c =
+    let after = c.judged_step-turn.new in
+    step_in c.judged_step-turn.result after.levels after.bindings after.out
 
-pub returns-then-number-ne0 : goal.returns-then-number-ne0
-returns-then-number-ne0 c =
-    let l = c.loop-events in record {
-      out_after = (turned c).stops _ (part_back l.out l.used (stepped c).output) c.if-number-ne0.true;
-      levels_unchanged = c.judged_step-turn.ensures.levels_unchanged ∙ l.invariant.2;
-    }
+turned : (c : After-judged_step-turn) → (
+    let a = c.args in
+    let l = c.loop-events in
+    Turned a.table.now a.scene.now (session_at a.from a.levels.now a.bindings.now) a.out.now a.most l.out l.used l.events l.records (stepped c))
+turned c =
+    let a = c.args in
+    let l = c.loop-events in
+    let p = c.requires.ready in
+    let z₀ = session_at a.from a.levels.now a.bindings.now in
+    let z = session_at l.head l.levels l.bindings in
+    going_turned a.table.now a.scene.now z₀ a.out.now a.most z l.out l.used l.events l.records l.invariant.0 c.loop-events-test.true p.accepted p.short
+    (take (length l.out - l.used) (drop l.used l.out)) (part_whole_lem l.out l.used) (stepped c) c.judged_step-turn.ensures.fact.0
+
+pub returns-then-number-ne0-clause-out_after : goal.returns-then-number-ne0-clause-out_after
+returns-then-number-ne0-clause-out_after c =
+    let l = c.loop-events in
+    (turned (goal.at.returns-then-number-ne0-clause-out_after c).After-judged_step-turn).stops _ (part_back l.out l.used (stepped (goal.at.returns-then-number-ne0-clause-out_after c).After-judged_step-turn).output) c.if-number-ne0.true
+
+pub returns-then-number-ne0-clause-levels_unchanged : goal.returns-then-number-ne0-clause-levels_unchanged
+returns-then-number-ne0-clause-levels_unchanged c = c.judged_step-turn.ensures.levels_unchanged ∙ c.loop-events.invariant.2
 
 pub overflow_mul-used : goal.overflow_mul-used
-overflow_mul-used c = omega (arith, (turned c).room, c.loop-events.invariant.0.same_length, c.well_formed)
+overflow_mul-used c = omega (arith, (turned (goal.at.overflow_mul-used c).After-judged_step-turn).room, c.loop-events.invariant.0.same_length, c.well_formed)
 
 pub overflow_add-used : goal.overflow_add-used
-overflow_add-used c = omega (arith, (turned c).room, c.loop-events.invariant.0.same_length, c.well_formed)
+overflow_add-used c = omega (arith, (turned (goal.at.overflow_add-used c).After-judged_step-turn).room, c.loop-events.invariant.0.same_length, c.well_formed)
 
 pub overflow_add-records : goal.overflow_add-records
-overflow_add-records c = omega (arith, (turned c).room, c.loop-events.invariant.0.same_length, c.loop-events.invariant.0.counted, c.well_formed)
+overflow_add-records c = omega (arith, (turned (goal.at.overflow_add-records c).After-judged_step-turn).room, c.loop-events.invariant.0.same_length, c.loop-events.invariant.0.counted, c.well_formed)
 
 pub overflow_add-events : goal.overflow_add-events
 overflow_add-events c = omega (arith, c.loop-events-test.true, c.well_formed)
@@ -74,7 +82,7 @@ loop-events-smaller c = omega (arith, c.loop-events-test.true)
 pub loop-events-preserved : goal.loop-events-preserved
 loop-events-preserved c =
     let l = c.loop-events in
-    ((turned c).goes _ (part_back l.out l.used (stepped c).output) c.if-number-ne0.false, c.judged_step-turn.ensures.fact.1, c.judged_step-turn.ensures.levels_unchanged ∙ l.invariant.2)
+    ((turned (goal.at.loop-events-preserved c).After-judged_step-turn).goes _ (part_back l.out l.used (stepped (goal.at.loop-events-preserved c).After-judged_step-turn).output) c.if-number-ne0.false, c.judged_step-turn.ensures.fact.1, c.judged_step-turn.ensures.levels_unchanged ∙ l.invariant.2)
 
 pub returns : goal.returns
 returns c =

@@ -41,4 +41,4 @@ judged_steps-requires c =
     let p = c.requires in
     let z = session_at a.from a.levels.now a.bindings.now in
     let r = from_ready a.table.now a.scene.now a.header z p.1 p.0 p.2 c.coherent.result c.coherent.ensures c.load-index.result (ap not c.if-not-coherent.false) c.load-index.ensures in
-    from_loop a.table.now a.header c.load-index.result a.scene.now a.from a.levels.now a.bindings.now r c.opened-2-1.given.0 _ _ c.put_keys.ensures c.put_classes.ensures
+    from_loop a.table.now a.header c.load-index.result a.scene.now a.from a.levels.now a.bindings.now r (omega arith) _ _ c.put_keys.ensures c.put_classes.ensures

@@ -1,8 +1,7 @@
 -- `strands::entries::new_units` meets its contract: what is counted are the strands so far whose unit opens here.
 use mathlib.Core.Path.{◌≡◌, sym, ap, ◌∙◌}
-use mathlib.Core.Logic.{⊎_elim}
 use mathlib.Core.Bool.{cond}
-use Prim.Native.Nat.{ℕ, ◌-◌, ◌<◌}
+use Prim.Native.Nat.{ℕ, ◌<◌}
 use native.Mathlib.Omega.{arith}
 use borrow.Author.Rules.{rules}
 use lib.ListN.{length, take}
@@ -11,9 +10,10 @@ use Rattle.strands.specs.Packed.{strand_in}
 use Rattle.strands.specs.Entries.{here_count}
 use Rattle.entries.proofs.UnitNumbers.{here_yes, here_no}
 use Rattle.entries.proofs.new_units.Goals as goal
+use Rattle.entries.proofs.new_units.Goals.{then-is_here, else-is_here}
 
 pub loop-j-init : goal.loop-j-init
-loop-j-init c = (omega arith, search rules, c.all-1.given.0, omega arith, sym (total_none (λ (w : ℕ). cond (strand_in w).here 1 0)))
+loop-j-init c = (omega arith, search rules, omega arith, omega arith, sym (total_none (λ (w : ℕ). cond (strand_in w).here 1 0)))
 
 pub loop-j-preserved : goal.loop-j-preserved
 loop-j-preserved c =
@@ -22,10 +22,10 @@ loop-j-preserved c =
     let t = c.loop-j-test.true in
     let b = c.is_here in
     let h : l.j < length x = omega (arith, l.invariant.1, l.invariant.2, t) in
-    ⊎_elim
-    (λ w. (omega arith, l.invariant.1, l.invariant.2, omega (arith, l.invariant.3, w.1), w.1 ∙ here_yes x l.j l.k l.invariant.4 h b.result b.ensures w.0.taken))
-    (λ w. (omega arith, l.invariant.1, l.invariant.2, omega (arith, l.invariant.3, w.1), w.1 ∙ here_no x l.j l.k l.invariant.4 h b.result b.ensures w.0.left))
-    c.if-is_here.branch
+    elim c.if-is_here.branch [
+      | then-is_here w ↦ (omega arith, l.invariant.1, l.invariant.2, omega (arith, l.invariant.3, w.k-is), w.k-is ∙ here_yes x l.j l.k l.invariant.4 h b.result b.ensures w.if-is_here.true)
+      | else-is_here w ↦ (omega arith, l.invariant.1, l.invariant.2, omega (arith, l.invariant.3, w.k-is), w.k-is ∙ here_no x l.j l.k l.invariant.4 h b.result b.ensures w.if-is_here.false)
+    ]
 
 pub returns : goal.returns
 returns c =

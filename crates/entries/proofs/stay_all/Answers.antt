@@ -1,6 +1,5 @@
 -- `strands::entries::stay_all` meets its contract: what is laid and what is left are the level's strands, which stay.
 use mathlib.Core.Path.{◌∙◌}
-use Prim.Native.Nat.{◌-◌}
 use native.Mathlib.Omega.{arith}
 use borrow.Author.Rules.{rules}
 use lib.ListN.{length-set}
@@ -11,9 +10,7 @@ use Rattle.entries.proofs.stay_all.Goals as goal
 pub loop-j-init : goal.loop-j-init
 loop-j-init c =
     let a = c.args in
-    let lw = c.strand_words-1.given.0.1 in
-    let ls = c.schema_words-1.given.0.1 in
-    (omega arith, search rules, search rules, lw, ls, lw, ls, stay_start (level_strands a.levels.now) a.level a.n a.words.now a.schemas.now a.words.now a.schemas.now)
+    (omega arith, search rules, search rules, omega arith, omega arith, omega arith, omega arith, stay_start (level_strands a.levels.now) a.level a.n a.words.now a.schemas.now a.words.now a.schemas.now)
 
 pub loop-j-preserved : goal.loop-j-preserved
 loop-j-preserved c =

@@ -1,5 +1,4 @@
 -- `strands::entries::take_all` meets its contract: what is laid and what the strands behind make are all that the level makes.
-use Prim.Native.Nat.{◌-◌}
 use native.Mathlib.Omega.{arith}
 use borrow.Author.Rules.{rules}
 use Rattle.strands.specs.Levels.{level_strands}
@@ -17,7 +16,7 @@ returns-then-more-gt16 c =
     let l = c.loop-j in
     let w = c.strand_at-w in
     let r = c.take_rules-more in
-    take_over (level_strands a.levels.now) a.level a.n a.words.now a.schemas.now l.words l.schemas a.index.now a.class l.k l.j l.invariant.4 c.loop-j-test.true w.result w.ensures r.new.1.1.1.0 r.new.1.1.1.1.0 r.result
+    take_over (level_strands a.levels.now) a.level a.n a.words.now a.schemas.now l.words l.schemas a.index.now a.class l.k l.j l.invariant.4 c.loop-j-test.true w.result w.ensures r.new.words r.new.schemas r.result
     (record { number = r.ensures.0; strands = r.ensures.1; marks = r.ensures.2 })
     c.if-more-gt16.true
 
@@ -31,7 +30,7 @@ loop-j-preserved c =
       c.if-more-gt16.false,
       l.invariant.2,
       l.invariant.3,
-      take_more (level_strands a.levels.now) a.level a.n a.words.now a.schemas.now l.words l.schemas a.index.now a.class l.k l.j l.invariant.4 c.loop-j-test.true w.result w.ensures r.new.1.1.1.0 r.new.1.1.1.1.0 r.result
+      take_more (level_strands a.levels.now) a.level a.n a.words.now a.schemas.now l.words l.schemas a.index.now a.class l.k l.j l.invariant.4 c.loop-j-test.true w.result w.ensures r.new.words r.new.schemas r.result
           (record { number = r.ensures.0; strands = r.ensures.1; marks = r.ensures.2 })
           c.if-more-gt16.false,
     )

@@ -1,5 +1,6 @@
 -- `strands::entries::take_fallback` meets its contract.
 use Rattle.entries.proofs.Taking.{fallback_next, one_full, one_laid}
+use native.Mathlib.Omega.{arith}
 use Rattle.entries.proofs.take_fallback.Goals as goal
 
 pub returns-then-n-ge16 : goal.returns-then-n-ge16
@@ -15,5 +16,5 @@ pub returns : goal.returns
 returns c =
     let a = c.args in
     let f = c.fallback_of-rule in
-    let z = one_laid a.w a.mode a.words.now a.schemas.now a.n c.if-n-ge16.false c.strand_words-1.given.0.1 c.schema_words-1.given.0.1 f.result f.ensures c.made_by.result c.made_by.ensures in
+    let z = one_laid a.w a.mode a.words.now a.schemas.now a.n c.if-n-ge16.false (omega arith) (omega arith) f.result f.ensures c.made_by.result c.made_by.ensures in
     (z.number, z.strands, z.marks)

@@ -1,10 +1,8 @@
 -- `strands::entries::take_rules` meets its contract: what is laid and what the rules that are left make are all that the strand makes.
 use mathlib.Core.Path.{◌≡◌, ◌∙◌}
-use Prim.Native.Nat.{◌-◌}
 use native.Mathlib.Omega.{arith}
 use borrow.Author.Rules.{rules}
 use lib.ListN.{length, length-set}
-use Rattle.strands.specs.Entries.{made_by}
 use Rattle.strands.proofs.Ruled.{at_first, at_next, next_on}
 use Rattle.entries.proofs.Taking.{rule_next, none_taken, some_start, some_full, some_end, some_one}
 use Rattle.entries.proofs.take_rules.Goals as goal
@@ -18,18 +16,19 @@ returns-then-c-i c =
     let m = c.mode_of-mode in
     let q = c.choose-c in
     let f = c.take_fallback in
-    let z = none_taken a.index.now a.class a.w m.result m.ensures.0 q.result c.rules-1.given.0 q.ensures a.words.now a.schemas.now a.n c.if-c-i.true f.new.1.1.0 f.new.1.1.1.0 f.result (record { number = f.ensures.0; strands = f.ensures.1; marks = f.ensures.2 }) in
+    let s : length a.index.now ≡ 256 = omega arith in
+    let z = none_taken a.index.now a.class a.w m.result m.ensures.0 q.result s q.ensures a.words.now a.schemas.now a.n c.if-c-i.true f.new.words f.new.schemas f.result (record { number = f.ensures.0; strands = f.ensures.1; marks = f.ensures.2 }) in
     (z.number, z.strands, z.marks)
 
 pub loop-i-init : goal.loop-i-init
 loop-i-init c =
     let a = c.args in
-    let s : length a.index.now ≡ 256 = c.rules-1.given.0 in
+    let s : length a.index.now ≡ 256 = omega arith in
     let m = c.mode_of-mode in
     let q = c.choose-c in
     let p = at_first a.index.now m.result 0 a.class q.result s q.ensures in
-    let lw = c.strand_words-1.given.0.1 in
-    let ls = c.schema_words-1.given.0.1 in
+    let lw : length a.words.now ≡ 16 = omega arith in
+    let ls : length a.schemas.now ≡ 16 = omega arith in
     (p.few, p.inside, s, lw, ls, lw, ls, search rules, p, some_start a.index.now a.class a.w m.result m.ensures.0 q.result s q.ensures a.words.now a.schemas.now a.n c.if-c-i.false)
 
 pub returns-then-k-ge16 : goal.returns-then-k-ge16

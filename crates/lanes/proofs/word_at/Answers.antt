@@ -3,7 +3,8 @@ use Rattle.std.proofs.Common.{arith}
 use Rattle.lanes.proofs.Words.{eight_at}
 use Rattle.lanes.proofs.word_at.Goals as goal
 
-pub returns : goal.returns
-returns c =
-    let a = c.args in
-    let q = eight_at a.s.now a.i (omega arith) in let r = rw q (c.word_of.ensures.number, c.word_of.ensures.bytes) in record { number = r.0; bytes = r.1 }
+pub returns-clause-number : goal.returns-clause-number
+returns-clause-number c = rw (eight_at c.args.s.now c.args.i (omega arith)) c.word_of.ensures.number
+
+pub returns-clause-bytes : goal.returns-clause-bytes
+returns-clause-bytes c = rw (eight_at c.args.s.now c.args.i (omega arith)) c.word_of.ensures.bytes

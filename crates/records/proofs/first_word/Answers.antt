@@ -5,4 +5,4 @@ use Rattle.records.proofs.first_word.Goals as goal
 
 pub returns : goal.returns
 unfolding first_word
-returns c = refl
+returns c uri_at uri_len = refl

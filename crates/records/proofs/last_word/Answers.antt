@@ -5,4 +5,4 @@ use Rattle.records.proofs.last_word.Goals as goal
 
 pub returns : goal.returns
 unfolding last_word
-returns c = refl
+returns c kind class at = refl

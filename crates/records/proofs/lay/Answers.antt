@@ -1,7 +1,7 @@
 -- `lay` lays the bytes over the output: the first j of them after j turns.
 use mathlib.Core.Path.{sym, ap, ◌∙◌}
 use mathlib.Core.List.{List}
-use Prim.Native.Nat.{ℕ, ◌+◌, ◌-◌}
+use Prim.Native.Nat.{ℕ, ◌+◌}
 use native.Mathlib.Omega.{arith}
 use borrow.Author.Rules.{rules}
 use lib.ListN.{get_or, set}
@@ -20,11 +20,11 @@ loop-j-preserved c =
       search rules,
       search rules,
       search rules,
-      ap (λ (o : List ℕ). set o (a.at + l.j) (get_or a.t3 l.j 0)) l.invariant.3 ∙ over_copy a.out.now a.at a.t3 l.j 0 (omega arith) (omega arith),
+      ap (λ (o : List ℕ). set o (a.at + l.j) (get_or a.b l.j 0)) l.invariant.3 ∙ over_copy a.out.now a.at a.b l.j 0 (omega arith) (omega arith),
     )
 
 pub returns : goal.returns
 returns c =
     let l = c.loop-j in
     let a = c.args in
-    l.invariant.3 ∙ ap (overwrite a.out.now a.at) (take_all l.j a.t3 (omega arith))
+    l.invariant.3 ∙ ap (overwrite a.out.now a.at) (take_all l.j a.b (omega arith))

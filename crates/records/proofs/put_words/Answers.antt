@@ -1,5 +1,4 @@
 -- `put_words` lays rows kept as words: the first j of them after j turns.
-use Prim.Native.Nat.{◌-◌}
 use mathlib.Core.Path.{◌≡◌, ap, ◌∙◌}
 use native.Mathlib.Omega.{arith}
 use borrow.Author.Rules.{rules}

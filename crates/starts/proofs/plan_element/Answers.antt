@@ -1,70 +1,59 @@
 -- `starts::plan_element` meets its contract: 21, 22, or what is decided.
 use Prim.Native.Nat.{ℕ, ◌+◌, ◌<◌}
 use mathlib.Core.Path.{subst, ◌∙◌}
-use mathlib.Core.Logic.{⊎_elim}
 use native.Mathlib.Omega.{arith}
 use Rattle.table.specs.Table.{decode, header_of}
 use Rattle.strands.specs.Levels.{level_names, level_spaces, level_strands}
 use Rattle.sessions.specs.Sessions.{session_at}
 use Rattle.starts.proofs.StartTurns.{few_bound, decidable, deep_plan, bound_plan}
 use Rattle.starts.proofs.Classed.{Classed, classed, unclassed, refused_planned, decided_refused, decided_start, found_few, names_few}
-use borrow.Author.Rules.{rules}
 use Rattle.starts.proofs.plan_element.Goals as goal
-
-known_classed : (c : tie.Joined3) → (
-    let a = c.before.before.before.before.before.before.before.args in
-    Classed a.table.now a.scene.now a.own.now a.attrs.now a.codes.now c.if3.known (session_at a.head a.levels.now a.bindings.now) a.started
-    )
-known_classed c =
-    let b = c.before.before.before.before.before.before.before in
-    let a = b.args in
-    let h = b.requires in
-    let z = session_at a.head a.levels.now a.bindings.now in
-    ⊎_elim
-    (λ w. classed a.table.now a.index.now a.scene.now a.known.now c.if3.known a.own.now a.attrs.now a.codes.now w.1.result a.head (level_names a.levels.now) a.bindings.now (level_spaces a.levels.now) (level_strands a.levels.now) a.started h.0 h.1 w.1.ensures (w.5 ∙ w.4.ensures))
-    (λ w. unclassed a.table.now a.index.now a.scene.now a.known.now c.if3.known a.own.now a.attrs.now a.codes.now z a.started h.0 h.1 w.0.left w.1)
-    c.if3.branch
+use Rattle.starts.proofs.plan_element.Goals.{Joined-owned-ne0, then-owned-ne0, else-owned-ne0}
 
 pub returns-then-head-ge-DEPTH : goal.returns-then-head-ge-DEPTH
 returns-then-head-ge-DEPTH c =
-    let b = c in
-    let a = b.args in
+    let a = c.args in
     let z = session_at a.head a.levels.now a.bindings.now in
-    refused_planned a.table.now a.scene.now a.known.now z 21 a.started.at _ b.requires.0.beside (deep_plan (decode a.table.now) a.scene.now z _ _ a.started.tag.next c.if-head-ge-DEPTH.true) (λ e. omega arith)
+    refused_planned a.table.now a.scene.now a.known.now z 21 a.started.at _ c.requires.0.beside (deep_plan (decode a.table.now) a.scene.now z _ _ a.started.tag.next c.if-head-ge-DEPTH.true) (λ e. omega arith)
 
 pub overflow_add-head : goal.overflow_add-head
 overflow_add-head c =
-    let b = c in
-    let a = b.args in
-    let h = b.requires in
+    let a = c.args in
+    let h = c.requires in
     omega (arith, few_bound a.table.now (header_of a.table.now) a.index.now a.scene.now a.head (level_names a.levels.now) a.bindings.now (level_spaces a.levels.now) (level_strands a.levels.now) h.0.ready, h.1.told.owned_is, h.1.told.few_own)
 
 pub returns-then-head-owned-gt-BINDINGS : goal.returns-then-head-owned-gt-BINDINGS
 returns-then-head-owned-gt-BINDINGS c =
-    let b = c in
-    let a = b.args in
-    let h = b.requires in
+    let a = c.args in
+    let h = c.requires in
     let z = session_at a.head a.levels.now a.bindings.now in
     refused_planned a.table.now a.scene.now a.known.now z 22 a.started.at _ h.0.beside
     (bound_plan (decode a.table.now) a.scene.now z _ _ a.started.tag.next c.if-head-ge-DEPTH.false (subst (λ (n : ℕ). 64 < a.head.bound + n) h.1.told.owned_is c.if-head-owned-gt-BINDINGS.true)) (λ e. omega arith)
 
-pub put_classes-requires : goal.put_classes-requires
-put_classes-requires c = search rules
-
 -- where the classes of its declarations are laid, or it has none
+known_classed : (c : Joined-owned-ne0) → (
+    let a = c.args in
+    Classed a.table.now a.scene.now a.own.now a.attrs.now a.codes.now c.if-owned-ne0.known (session_at a.head a.levels.now a.bindings.now) a.started
+    )
+known_classed c =
+    let a = c.args in
+    let h = c.requires in
+    let z = session_at a.head a.levels.now a.bindings.now in
+    elim c.if-owned-ne0.branch [
+      | then-owned-ne0 w ↦ classed a.table.now a.index.now a.scene.now a.known.now c.if-owned-ne0.known a.own.now a.attrs.now a.codes.now w.header_of.result a.head (level_names a.levels.now) a.bindings.now (level_spaces a.levels.now) (level_strands a.levels.now) a.started h.0 h.1 w.header_of.ensures (w.known-is ∙ w.put_classes.ensures)
+      | else-owned-ne0 w ↦ unclassed a.table.now a.index.now a.scene.now a.known.now c.if-owned-ne0.known a.own.now a.attrs.now a.codes.now z a.started h.0 h.1 w.if-owned-ne0.false w.known-is
+    ]
 
 pub space_of-placing-requires : goal.space_of-placing-requires
 space_of-placing-requires c =
-    let b = c in
-    let a = b.args in
-    let h = b.requires in
+    let a = c.args in
+    let h = c.requires in
     found_few a.table.now a.index.now a.scene.now a.known.now a.own.now a.attrs.now a.codes.now a.head (level_names a.levels.now) a.bindings.now (level_spaces a.levels.now) (level_strands a.levels.now) a.started h.0 h.1
 
 pub decide-decided-requires : goal.decide-decided-requires
 decide-decided-requires c =
-    let b = c in
-    let a = b.args in
-    let h = b.requires in
+    let a = c.args in
+    let h = c.requires in
     let d = decidable a.table.now (header_of a.table.now) a.index.now a.scene.now a.head (level_names a.levels.now) a.bindings.now (level_spaces a.levels.now) (level_strands a.levels.now) h.0.ready c.if-head-ge-DEPTH.false in (
       d.0,
       d.1,
@@ -76,11 +65,10 @@ decide-decided-requires c =
 
 pub returns-then-decided-ne0 : goal.returns-then-decided-ne0
 returns-then-decided-ne0 c =
-    let b = c in
-    let a = b.args in
-    let h = b.requires in
+    let a = c.args in
+    let h = c.requires in
     let z = session_at a.head a.levels.now a.bindings.now in
-    let k = known_classed c in
+    let k = known_classed (goal.at.returns-then-decided-ne0 c).Joined-owned-ne0 in
     let w = c.space_of-placing.ensures a.table.now (header_of a.table.now) a.scene.now a.started.owned (names_few a.table.now h.0.ready.accepted) k.beside.classes k.own_classes h.1.found_within in
     let d = c.decide-decided.ensures a.table.now (header_of a.table.now) h.0.ready k.beside k.own_classes k.met w in
     decided_refused a.table.now a.scene.now a.own.now a.attrs.now a.codes.now _ z a.started k
@@ -89,14 +77,13 @@ returns-then-decided-ne0 c =
 
 pub returns : goal.returns
 returns c =
-    let b = c in
-    let a = b.args in
-    let h = b.requires in
+    let a = c.args in
+    let h = c.requires in
     let z = session_at a.head a.levels.now a.bindings.now in
-    let k = known_classed c in
+    let k = known_classed (goal.at.returns c).Joined-owned-ne0 in
     let w = c.space_of-placing.ensures a.table.now (header_of a.table.now) a.scene.now a.started.owned (names_few a.table.now h.0.ready.accepted) k.beside.classes k.own_classes h.1.found_within in
     let d = c.decide-decided.ensures a.table.now (header_of a.table.now) h.0.ready k.beside k.own_classes k.met w in
-    let l = c.decide-decided.new.1.1.1.1.1.1.1.1.1.1.1 in
+    let l = c.decide-decided.new in
     decided_start a.table.now a.scene.now a.own.now a.attrs.now a.codes.now _ z a.started k
     c.if-head-ge-DEPTH.false c.if-head-owned-gt-BINDINGS.false
-    a.index.now l.0 l.1.0 _ _ c.decide-decided.result h.0.ready w d c.if-decided-ne0.false
+    a.index.now l.words l.schemas _ _ c.decide-decided.result h.0.ready w d c.if-decided-ne0.false

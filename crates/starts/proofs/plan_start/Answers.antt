@@ -10,16 +10,14 @@ use Rattle.starts.proofs.plan_start.Goals as goal
 
 pub read_start-requires : goal.read_start-requires
 read_start-requires c =
-    let b = c in
-    let a = b.args in
-    let h = b.requires in
+    let a = c.args in
+    let h = c.requires in
     (h.1, few_bound a.table.now (header_of a.table.now) a.index.now a.scene.now a.head (level_names a.levels.now) a.bindings.now (level_spaces a.levels.now) (level_strands a.levels.now) h.0.ready, h.0.beside.keys)
 
 pub plan_element-requires : goal.plan_element-requires
 plan_element-requires c =
-    let b = c in
-    let a = b.args in
-    let h = b.requires in
+    let a = c.args in
+    let h = c.requires in
     let z = session_at a.head a.levels.now a.bindings.now in
     let w = c.read_start in
     let r = w.ensures a.table.now a.index.now (level_names a.levels.now) (level_spaces a.levels.now) (level_strands a.levels.now) (header_of a.table.now) h.0.ready h.0.beside in
@@ -27,20 +25,18 @@ plan_element-requires c =
 
 pub returns-in-Start : goal.returns-in-Start
 returns-in-Start c =
-    let b = c in
-    let a = b.args in
-    let h = b.requires in
+    let a = c.args in
+    let h = c.requires in
     let z = session_at a.head a.levels.now a.bindings.now in
     let w = c.read_start in
     let r = w.ensures a.table.now a.index.now (level_names a.levels.now) (level_spaces a.levels.now) (level_strands a.levels.now) (header_of a.table.now) h.0.ready h.0.beside in
-    let l = c.plan_element.new.1.1.1.1.1.1.1 in
-    start_read_lem a.table.now a.scene.now z a.at (tag_at a.scene.now (a.at + 1)).answer _ _ _ _ w.result r a.index.now l.1.1.1.1.1.0 l.1.1.1.1.1.1.0 l.1.1.1.1.0 l.0 _ c.in-Start.is c.plan_element.result c.plan_element.ensures
+    let l = c.plan_element.new in
+    start_read_lem a.table.now a.scene.now z a.at (tag_at a.scene.now (a.at + 1)).answer _ _ _ _ w.result r a.index.now l.words l.schemas l.attributes l.known _ c.in-Start.is c.plan_element.result c.plan_element.ensures
 
 pub returns-in-Refused : goal.returns-in-Refused
 returns-in-Refused c =
-    let b = c in
-    let a = b.args in
-    let h = b.requires in
+    let a = c.args in
+    let h = c.requires in
     let z = session_at a.head a.levels.now a.bindings.now in
     let w = c.read_start in
     let r = w.ensures a.table.now a.index.now (level_names a.levels.now) (level_spaces a.levels.now) (level_strands a.levels.now) (header_of a.table.now) h.0.ready h.0.beside in

@@ -1,6 +1,5 @@
 -- `lexer::tags::attrs_from` meets its contract: at each turn the answer is that of the attributes stored and of those from `at` on.
 use borrow.Author.Rules.{rules}
-use Prim.Native.Nat.{◌-◌}
 use native.Mathlib.Omega.{arith}
 use Rattle.lexer.proofs.Inside.{attribute_in}
 use Rattle.lexer.proofs.Filled.{start, closed, stopped, seventeenth, refused, more}

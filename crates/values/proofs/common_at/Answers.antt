@@ -1,5 +1,4 @@
 -- `lexer::values::common_at` meets its contract: at each turn the bytes that are counted and those that are left to count are all of them.
-use Prim.Native.Nat.{◌-◌}
 use native.Mathlib.Omega.{arith}
 use Rattle.lexer.proofs.Common.{common_start, common_done, common_out, common_miss, common_more}
 use Rattle.values.proofs.common_at.Goals as goal

@@ -1,6 +1,5 @@
 -- `lexer::values::value_rest` meets its contract: at each turn the answer is that of what is left.
 use mathlib.Core.Path.{refl, ◌∙◌}
-use Prim.Native.Nat.{◌-◌}
 use native.Mathlib.Omega.{arith}
 use Rattle.laws.specs.Reading.{machine}
 use Rattle.laws.specs.Tests.{told}

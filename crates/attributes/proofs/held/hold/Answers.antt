@@ -1,17 +1,18 @@
 -- `strands::attributes::hold` meets its contract: what is held and what is left are the attributes that are no declarations.
 use mathlib.Core.Path.{refl, ap, ◌∙◌}
-use mathlib.Core.Logic.{⊎_elim}
-use Prim.Native.Nat.{◌-◌, ◌<◌}
+use mathlib.Core.Bool.{not}
+use Prim.Native.Nat.{◌<◌}
 use native.Mathlib.Omega.{arith}
 use lib.ListN.{get_or}
 use Rattle.reader.specs.Stored.{Coded, is_declaration}
 use Rattle.attributes.proofs.Known.{code_within, coded_at_lem, begin_holds, turn_over, turn_put, ended_holds}
 use Rattle.attributes.proofs.held.hold.Goals as goal
+use Rattle.attributes.proofs.held.hold.Goals.{then-not-is_declaration, else-not-is_declaration}
 
 pub loop-i-init : goal.loop-i-init
 loop-i-init c =
     let a = c.args in
-    begin_holds a.s.now a.own.now a.outer.now a.bound a.known.now a.attrs.now a.count a.codes.now _ _ c.at_most-most.ensures c.all-1.given.0.1
+    begin_holds a.s.now a.own.now a.outer.now a.bound a.known.now a.attrs.now a.count a.codes.now _ _ c.at_most-most.ensures (omega arith)
 
 pub space_of-space-requires : goal.space_of-space-requires
 space_of-space-requires c =
@@ -35,12 +36,12 @@ loop-i-preserved c =
     let h = c.loop-i-test.true in
     let r = c.attr_in-a in
     let e = c.is_declaration.ensures ∙ ap is_declaration c.kind_of.ensures in
-    ⊎_elim
-    (λ w.
-    turn_put a.s.now a.own.now a.outer.now a.bound a.known.now a.attrs.now a.count a.codes.now m.result _ m.ensures l.all l.n l.i l.invariant h r.result r.ensures c.is_declaration.result e w.0.taken
-    (get_or a.codes.now l.i 0) refl w.2.result w.2.ensures w.3.result w.3.ensures c.if-not-is_declaration.all (w.8 ∙ w.5.ensures) c.if-not-is_declaration.n w.9)
-    (λ w. turn_over a.s.now a.own.now a.outer.now a.bound a.known.now a.attrs.now a.count a.codes.now m.result _ m.ensures l.all l.n l.i l.invariant h r.result r.ensures c.is_declaration.result e w.0.left c.if-not-is_declaration.all w.1 c.if-not-is_declaration.n w.2)
-    c.if-not-is_declaration.branch
+    elim c.if-not-is_declaration.branch [
+      | then-not-is_declaration w ↦
+          turn_put a.s.now a.own.now a.outer.now a.bound a.known.now a.attrs.now a.count a.codes.now m.result _ m.ensures l.all l.n l.i l.invariant h r.result r.ensures c.is_declaration.result e (ap not w.if-not-is_declaration.true)
+          (get_or a.codes.now l.i 0) refl w.found_in.result w.found_in.ensures w.space_of-space.result w.space_of-space.ensures c.if-not-is_declaration.all (w.all-is ∙ w.put_given.ensures) c.if-not-is_declaration.n w.n-is
+      | else-not-is_declaration w ↦ turn_over a.s.now a.own.now a.outer.now a.bound a.known.now a.attrs.now a.count a.codes.now m.result _ m.ensures l.all l.n l.i l.invariant h r.result r.ensures c.is_declaration.result e (ap not w.if-not-is_declaration.false) c.if-not-is_declaration.all w.all-is c.if-not-is_declaration.n w.n-is
+    ]
 
 pub returns : goal.returns
 returns c =

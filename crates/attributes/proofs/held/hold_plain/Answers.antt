@@ -1,6 +1,5 @@
 -- `attributes::held::hold_plain` meets its contract: after each turn one more attribute is held, with section 0.
 use mathlib.Core.Path.{refl, ◌∙◌}
-use Prim.Native.Nat.{◌-◌}
 use native.Mathlib.Omega.{arith}
 use borrow.Author.Rules.{rules}
 use lib.ListN.{length-drop}
@@ -12,8 +11,7 @@ use Rattle.attributes.proofs.held.hold_plain.Goals as goal
 pub loop-i-init : goal.loop-i-init
 loop-i-init c =
     let a = c.args in
-    let long = c.all-1.given.0.1 in
-    (long, begin_plain a.attrs.now a.count c.at_most-most.result c.at_most-most.ensures (attributes_in a.attributes.now) (sections_in a.attributes.now) (length-take-le 128 a.attributes.now (omega arith)) (length-drop 128 a.attributes.now ∙ omega arith))
+    (omega arith, begin_plain a.attrs.now a.count c.at_most-most.result c.at_most-most.ensures (attributes_in a.attributes.now) (sections_in a.attributes.now) (length-take-le 128 a.attributes.now (omega arith)) (length-drop 128 a.attributes.now ∙ omega arith))
 
 pub put_given-requires : goal.put_given-requires
 put_given-requires c = let v = c.loop-i.invariant in omega (arith, c.loop-i-test.true, v.0, v.1.most_few)

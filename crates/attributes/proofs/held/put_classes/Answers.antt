@@ -1,6 +1,5 @@
 -- `strands::attributes::put_classes` meets its contract: after each turn one more class is laid.
 use mathlib.Core.Path.{ap, ◌∙◌}
-use Prim.Native.Nat.{◌-◌}
 use native.Mathlib.Omega.{arith}
 use lib.ListN.{length-set}
 use Rattle.table.specs.Table.{Table, table_of, class_of}
@@ -12,7 +11,7 @@ use Rattle.attributes.proofs.held.put_classes.Goals as goal
 pub loop-k-init : goal.loop-k-init
 loop-k-init c =
     let a = c.args in
-    (omega arith, c.all-1.given.0.1, c.all-1.given.0.1, classes_none (table_of a.table.now a.header) a.s.now a.bindings.now _ a.from)
+    (omega arith, omega arith, omega arith, classes_none (table_of a.table.now a.header) a.s.now a.bindings.now _ a.from)
 
 pub overflow_add-all : goal.overflow_add-all
 overflow_add-all c = omega (arith, c.loop-k-test.true, c.requires)

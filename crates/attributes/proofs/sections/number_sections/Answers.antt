@@ -2,8 +2,8 @@
 use mathlib.Core.Path.{◌≡◌, refl, sym, ap, subst, ◌∙◌}
 use mathlib.Core.List.{List}
 use mathlib.Core.Bool.{cond}
-use mathlib.Core.Logic.{inl, inr, ⊎_elim}
-use Prim.Native.Nat.{ℕ, ◌+◌, ◌-◌}
+use mathlib.Core.Logic.{inl, inr}
+use Prim.Native.Nat.{ℕ, ◌+◌}
 use native.Mathlib.Omega.{arith}
 use lib.ListN.{length, length-set, length-drop}
 use lib.Seq.{take-set-le, drop-set-add}
@@ -13,6 +13,7 @@ use Rattle.reader.specs.Stored.{stored_space}
 use Rattle.attributes.specs.Attributes.{namespace_of, given_in, attributes_in, sections_in, stays_with, number_among, numbered_in}
 use Rattle.attributes.proofs.Numbering.{Numbering, begin, turn, number_few, namespace_at, all_numbered}
 use Rattle.attributes.proofs.sections.number_sections.Goals as goal
+use Rattle.attributes.proofs.sections.number_sections.Goals.{then-m-c, else-m-c}
 
 at_first : (s own outer : List ℕ) (e : Namespace) (l l₀ : List ℕ) (m i r : ℕ) → l ≡ l₀ → (sections : List ℕ)
     → r ≡ cond (stays_with s e (namespace_of own outer (given_in l i).code)) 0 (number_among s (namespace_of own outer (given_in l i).code) (m + 1) (tabulate (numbered_in own outer l sections) 0 i))
@@ -50,7 +51,7 @@ loop-i-preserved c =
           (sym (ap sections_in p.0 ∙ drop-set-add 128 l.attributes l.i r.result))
           (turn a.s.now (stored_space a.own.now a.outer.now a.element) (namespace_at a.own.now a.outer.now (attributes_in a.attributes.now)) (sections_in a.attributes.now) (sections_in l.attributes) l.m l.i v.3 (omega (arith, room, c.loop-i-test.true, c.requires, p.1, v.1)) r.result
           (at_first a.s.now a.own.now a.outer.now (stored_space a.own.now a.outer.now a.element) (attributes_in l.attributes) (attributes_in a.attributes.now) l.m l.i r.result v.2 (sections_in l.attributes) r.ensures) c.if-m-c.m
-          (⊎_elim (λ w. inl (w.0.taken, w.1)) (λ w. inr (w.0.left, w.1)) c.if-m-c.branch)),
+          (elim c.if-m-c.branch [ then-m-c w ↦ inl (w.if-m-c.true, w.m-is) | else-m-c w ↦ inr (w.if-m-c.false, w.m-is) ])),
     )
 
 pub returns : goal.returns

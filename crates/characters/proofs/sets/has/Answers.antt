@@ -1,5 +1,4 @@
 -- `characters::sets::has` meets its contract: it goes over the rows, and at each turn the rows that are left say what all say.
-use Prim.Native.Nat.{◌-◌}
 use Rattle.characters.proofs.Rows.{row_of, rows_in, rows_start, row_met, row_passed, rows_done}
 use Rattle.characters.proofs.sets.has.Goals as goal
 

@@ -1,5 +1,4 @@
 -- `bindings::bindings_fit` meets its contract: at each turn the answer is that of the bindings from the k-th on.
-use Prim.Native.Nat.{◌-◌}
 use Rattle.coherence.proofs.CheckWays.{bindings_start, bindings_not, bindings_on, bindings_done}
 use Rattle.coherence.proofs.bindings.bindings_fit.Goals as goal
 

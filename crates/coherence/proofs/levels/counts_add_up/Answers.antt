@@ -1,5 +1,4 @@
 -- `levels::counts_add_up` meets its contract: what is left of the bound, and the counts so far, are the bound.
-use Prim.Native.Nat.{◌-◌}
 use native.Mathlib.Omega.{arith}
 use Rattle.coherence.proofs.CheckTurns.{counts_start, counts_over, counts_on, counts_end}
 use Rattle.coherence.proofs.levels.counts_add_up.Goals as goal

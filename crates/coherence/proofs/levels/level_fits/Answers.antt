@@ -31,5 +31,5 @@ returns c =
     let a = c.args in
     let n = c.count_at-n.result in
     let m : 24 * a.k + 8 + n - (24 * a.k + 8) ≡ n = omega arith in
-    let part = ap (λ (i : ℕ). take i (drop (24 * a.k + 8) a.levels.now)) m ∙ strand_part a.levels.now a.k n c.all-1.given.0 (omega (arith, c.if-k-ge-DEPTH.false)) c.if-n-gt-STRANDS.false in
+    let part = ap (λ (i : ℕ). take i (drop (24 * a.k + 8) a.levels.now)) m ∙ strand_part a.levels.now a.k n (omega arith) (omega (arith, c.if-k-ge-DEPTH.false)) c.if-n-gt-STRANDS.false in
     search (level_strands_lem, part)

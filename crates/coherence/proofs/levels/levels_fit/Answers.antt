@@ -1,5 +1,4 @@
 -- `levels::levels_fit` meets its contract: at each turn the answer is that of the levels from the k-th on.
-use Prim.Native.Nat.{◌-◌}
 use Rattle.coherence.proofs.CheckWays.{levels_start, levels_not, levels_on, levels_done}
 use Rattle.coherence.proofs.levels.levels_fit.Goals as goal
 

@@ -1,5 +1,4 @@
 -- `levels::strands_fit` meets its contract: at each turn the answer is that of the strands that are left.
-use Prim.Native.Nat.{◌-◌}
 use mathlib.Core.Path.{refl}
 use Rattle.coherence.proofs.CheckTurns.{strands_done, strands_not, strands_on}
 use Rattle.coherence.proofs.levels.strands_fit.Goals as goal

@@ -1,5 +1,4 @@
 -- `names::ends_whole` meets its contract: at each turn the machine that the bytes cut is where `i` is, and `f` is what a character that is not whole says.
-use Prim.Native.Nat.{◌-◌}
 use Rattle.coherence.proofs.NameChecks.{whole_quick, cutting_starts, cutting_on, cutting_whole, cutting_ends}
 use Rattle.coherence.proofs.names.ends_whole.Goals as goal
 

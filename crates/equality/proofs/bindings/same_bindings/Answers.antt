@@ -1,5 +1,4 @@
 -- `bindings::same_bindings` meets its contract: at each turn the answer is that of the bindings from the k-th on.
-use Prim.Native.Nat.{◌-◌}
 use Rattle.equality.proofs.Each.{rows_start, rows_done, rows_out, rows_on}
 use Rattle.equality.proofs.bindings.same_bindings.Goals as goal
 

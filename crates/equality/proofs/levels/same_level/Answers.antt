@@ -29,6 +29,6 @@ returns c =
     let a = c.args in
     let n = c.count_at-n.result in
     let few : n ≤ 16 = omega (arith, c.count_at-n.ensures, c.requires) in
-    let one = words_part a.levels.now a.k n c.words-1.given.0 c.requires.0 few in
-    let other = words_part a.other.now a.k n c.others-1.given.0 c.requires.0 few in
+    let one = words_part a.levels.now a.k n (omega arith) c.requires.0 few in
+    let other = words_part a.other.now a.k n (omega arith) c.requires.0 few in
     search (level_strands_lem, one, other)

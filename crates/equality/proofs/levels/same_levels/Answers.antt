@@ -1,5 +1,4 @@
 -- `levels::same_levels` meets its contract: at each turn the answer is that of the levels from the k-th on.
-use Prim.Native.Nat.{◌-◌}
 use native.Mathlib.Omega.{arith}
 use Rattle.strands.specs.Levels.{level_spaces}
 use Rattle.equality.proofs.Each.{rows_start, rows_done, rows_out, rows_on}

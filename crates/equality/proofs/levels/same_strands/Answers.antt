@@ -1,5 +1,4 @@
 -- `levels::same_strands` meets its contract: at each turn the answer is that of the strands that are left.
-use Prim.Native.Nat.{◌-◌}
 use mathlib.Core.Path.{refl}
 use Rattle.equality.proofs.Turns.{strands_unlike, strands_done, strands_out, strands_on}
 use Rattle.equality.proofs.levels.same_strands.Goals as goal

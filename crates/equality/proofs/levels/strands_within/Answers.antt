@@ -1,5 +1,4 @@
 -- `levels::strands_within` meets its contract: at each turn the answer is that of the levels from the k-th on.
-use Prim.Native.Nat.{◌-◌}
 use Rattle.strands.specs.Levels.{level_spaces}
 use Rattle.equality.proofs.Turns.{within_start, within_done, within_out, within_on}
 use Rattle.equality.proofs.levels.strands_within.Goals as goal

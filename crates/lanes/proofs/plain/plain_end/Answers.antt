@@ -1,5 +1,5 @@
 -- `lanes::plain::plain_end` meets its contract: each turn passes over plain bytes.
-use Rattle.std.proofs.Common.{◌-◌, le_refl, arith}
+use Rattle.std.proofs.Common.{le_refl, arith}
 use Rattle.lanes.proofs.PlainLaws.{none_passed, some_passed, all_passed}
 use Rattle.lanes.proofs.plain.plain_end.Goals as goal
 

@@ -11,7 +11,7 @@ use Rattle.layout.proofs.storing.put_levels.Goals as goal
 pub loop-k-init : goal.loop-k-init
 loop-k-init c =
     let l = c.args.levels.now in
-    (omega arith, c.all-1.given.0, refl, levels_start (level_names l) (level_spaces l) (level_strands l) (each_long 3 0 l) (each_long 4 3 l) (each_long 16 8 l) c.args.b.now)
+    (omega arith, omega arith, refl, levels_start (level_names l) (level_spaces l) (level_strands l) (each_long 3 0 l) (each_long 4 3 l) (each_long 16 8 l) c.args.b.now)
 
 pub loop-k-preserved : goal.loop-k-preserved
 loop-k-preserved c =

@@ -1,5 +1,4 @@
 -- `lexer::chars::broken_end` meets its contract: at each turn the answer is the machine's from `i` on.
-use Prim.Native.Nat.{◌-◌}
 use Rattle.lexer.proofs.CharTurns.{held_first, held_out, held_bad, held_whole, held_on}
 use Rattle.lexer.proofs.chars.broken_end.Goals as goal
 

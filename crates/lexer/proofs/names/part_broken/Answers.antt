@@ -1,5 +1,4 @@
 -- `lexer::names::part_broken` meets its contract: at each turn the answer is the machine's from `i` on, with the bytes of a character that is not whole.
-use Prim.Native.Nat.{◌-◌}
 use native.Mathlib.Omega.{arith}
 use Rattle.lexer.proofs.Parts.{reading_starts, reading_cut, reading_ends, reading_bad, reading_long, reading_on, reading_whole}
 use Rattle.lexer.proofs.names.part_broken.Goals as goal

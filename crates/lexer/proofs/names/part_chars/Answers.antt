@@ -1,5 +1,4 @@
 -- `lexer::names::part_chars` meets its contract: a character that stands whole within the 64 bytes changes no answer.
-use Prim.Native.Nat.{◌-◌}
 use mathlib.Core.Path.{refl}
 use native.Mathlib.Omega.{arith}
 use Rattle.lexer.proofs.CharTurns.{whole_fits}

@@ -1,5 +1,4 @@
 -- `lexer::names::part_end` meets its contract: at each turn the answer is the machine's from `i` on, where a character begins.
-use Prim.Native.Nat.{◌-◌}
 use mathlib.Core.Path.{refl, ◌∙◌}
 use native.Mathlib.Omega.{arith}
 use Rattle.laws.specs.Tests.{untold, untold'}

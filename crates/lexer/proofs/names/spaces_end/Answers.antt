@@ -1,5 +1,4 @@
 -- `lexer::names::spaces_end` meets its contract: at each turn the answer is the machine's from `i` on.
-use Prim.Native.Nat.{◌-◌}
 use mathlib.Core.Path.{refl}
 use Rattle.laws.specs.Reading.{machine}
 use Rattle.lexer.specs.Names.{spaces_end}

@@ -1,12 +1,11 @@
 -- `reader::clashes::clash_behind` meets its contract: at each turn the answer is that of the attributes that are left.
-use Prim.Native.Nat.{◌-◌}
 use mathlib.Core.Path.{refl, sym}
-use mathlib.Core.Logic.{⊎_elim}
 use native.Mathlib.Omega.{arith}
 use Rattle.reader.proofs.Any.{or_hit, or_miss}
 use Rattle.reader.proofs.Indexed.{at_most_le}
 use Rattle.reader.proofs.Clashing.{behind_turn, behind_past, behind_out}
 use Rattle.namespaces.proofs.clashes.clash_behind.Goals as goal
+use Rattle.namespaces.proofs.clashes.clash_behind.Goals.{then-keys-j+else-clash_at, else-keys-j}
 
 pub loop-j-init : goal.loop-j-init
 loop-j-init c = (at_most_le 16 c.args.count _ c.at_most-most.ensures, omega arith, refl)
@@ -21,18 +20,20 @@ returns-then-clash_at c =
 
 pub loop-j-preserved : goal.loop-j-preserved
 loop-j-preserved c =
-    let l = c in
-    let b = l in
-    let most = l.at_most-most.ensures in
+    let a = c.args in
+    let l = c.loop-j in
+    let most = c.at_most-most.ensures in
     let test = c.loop-j-test.true in
-    let t =
-    ⊎_elim
-    (λ w. or_miss _ _ _ (behind_turn _ b.args.spaces.now b.args.count _ most _ _ _ _ _ l.loop-j.j l.loop-j.invariant.2 test _ w.1.ensures) w.2.left)
-    (λ w.
-    behind_past _ b.args.spaces.now b.args.count _ most _ _ _ _ _ l.loop-j.j l.loop-j.invariant.2 test
-    (b.requires.1 b.args.i l.loop-j.j (omega (arith, most)) (omega (arith, most)) (λ e. w.left (sym e))))
-    c.if-keys-j.branch in
-    (l.loop-j.invariant.0, omega arith, t)
+    elim c.if-keys-j.branch [
+      | then-keys-j+else-clash_at w ↦
+          (l.invariant.0, omega arith, or_miss _ _ _ (behind_turn _ a.spaces.now a.count _ most _ _ _ _ _ l.j l.invariant.2 test _ w.clash_at.ensures) w.if-clash_at.false)
+      | else-keys-j w ↦ (
+        l.invariant.0,
+        omega arith,
+        behind_past _ a.spaces.now a.count _ most _ _ _ _ _ l.j l.invariant.2 test
+            (c.requires.1 a.i l.j (omega (arith, most)) (omega (arith, most)) (λ e. w.if-keys-j.false (sym e))),
+      )
+    ]
 
 pub returns : goal.returns
 returns c =

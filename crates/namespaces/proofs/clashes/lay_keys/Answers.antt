@@ -1,5 +1,5 @@
 -- `reader::clashes::lay_keys` meets its contract: the keys that are stored are the last bytes of names that have one.
-use Prim.Native.Nat.{ℕ, ◌-◌}
+use Prim.Native.Nat.{ℕ}
 use native.Mathlib.Omega.{arith}
 use borrow.Author.Count.{below_none}
 use lib.ListN.{length-set}

@@ -1,5 +1,4 @@
 -- `reader::clashes::twice` meets its contract: at each turn the answer is that of the attributes that are left.
-use Prim.Native.Nat.{◌-◌}
 use mathlib.Core.Path.{refl}
 use native.Mathlib.Omega.{arith}
 use Rattle.reader.specs.Stored.{twice_in}

@@ -1,5 +1,5 @@
 -- `reader::spaces::clear_codes` meets its contract: the first places hold 0.
-use Prim.Native.Nat.{ℕ, ◌-◌}
+use Prim.Native.Nat.{ℕ}
 use mathlib.Core.Path.{◌≡◌, sym, ap, ◌∙◌}
 use native.Mathlib.Omega.{arith}
 use lib.ListN.{replicate, length-set}
@@ -10,7 +10,7 @@ use Rattle.reader.proofs.Plain.{clear_turn}
 use Rattle.namespaces.proofs.spaces.clear_codes.Goals as goal
 
 pub loop-i-init : goal.loop-i-init
-loop-i-init c = (c.all-1.given.0.1, c.all-1.given.0.1, at_most_le 16 c.args.count _ c.at_most-most.ensures, omega arith, sym (numbers_none _))
+loop-i-init c = (omega arith, omega arith, at_most_le 16 c.args.count _ c.at_most-most.ensures, omega arith, sym (numbers_none _))
 
 pub loop-i-preserved : goal.loop-i-preserved
 loop-i-preserved c =

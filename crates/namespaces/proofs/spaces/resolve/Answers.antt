@@ -1,5 +1,5 @@
 -- `reader::spaces::resolve` meets its contract: the numbers that are held and those of what is left are the tag's.
-use Prim.Native.Nat.{◌-◌, ◌≤◌}
+use Prim.Native.Nat.{◌≤◌}
 use mathlib.Core.Path.{refl, sym, ◌∙◌, subst}
 use native.Mathlib.Omega.{arith}
 use lib.ListN.{length}
@@ -11,7 +11,7 @@ use Rattle.namespaces.proofs.spaces.resolve.Goals as goal
 pub loop-i-init : goal.loop-i-init
 loop-i-init c =
     let count = c.args.count in
-    (c.all-1.given.0.1, at_most_le 16 count _ c.at_most-most.ensures, begin _ _ _ _ _ _ _ _ _ count refl c.at_most-most.ensures)
+    (omega arith, at_most_le 16 count _ c.at_most-most.ensures, begin _ _ _ _ _ _ _ _ _ count refl c.at_most-most.ensures)
 
 pub returns-then-is_unbound : goal.returns-then-is_unbound
 returns-then-is_unbound c =

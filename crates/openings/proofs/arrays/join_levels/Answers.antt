@@ -1,29 +1,28 @@
 -- `arrays::join_levels` meets its contract: the first k levels are joined.
-use Prim.Native.Nat.{◌-◌}
 use native.Mathlib.Omega.{arith}
 use Rattle.openings.proofs.LevelArrays.{join_first, join_turn, join_last}
 use Rattle.openings.proofs.arrays.join_levels.Goals as goal
 
 pub loop-k-init : goal.loop-k-init
-loop-k-init c = join_first _ _ _ _ c.all-1.given.0.1
+loop-k-init c = join_first _ _ _ _ (omega arith)
 
 pub copy-requires : goal.copy-requires
-copy-requires c = (omega (arith, c.loop-k.invariant.long), omega (arith, c.threes-1.given.0))
+copy-requires c = (omega (arith, c.loop-k.invariant.long), omega arith)
 
 pub copy-requires-in-loop-k : goal.copy-requires-in-loop-k
-copy-requires-in-loop-k c = (omega (arith, c.loop-k.invariant.long), omega (arith, c.fours-1.given.0))
+copy-requires-in-loop-k c = (omega (arith, c.loop-k.invariant.long), omega arith)
 
 pub copy-requires-in-loop-k-2 : goal.copy-requires-in-loop-k-2
-copy-requires-in-loop-k-2 c = (omega (arith, c.loop-k.invariant.long), omega (arith, c.sixteens-1.given.0))
+copy-requires-in-loop-k-2 c = (omega (arith, c.loop-k.invariant.long), omega arith)
 
 pub loop-k-preserved : goal.loop-k-preserved
 loop-k-preserved c =
     let a = c.args in
     let l = c.loop-k in
-    join_turn _ a.names.now a.spaces.now a.strands.now c.threes-1.given.0 c.fours-1.given.0 c.sixteens-1.given.0 l.all _ _ _ l.k l.invariant c.loop-k-test.true c.copy.ensures c.copy-in-loop-k.ensures c.copy-in-loop-k-2.ensures
+    join_turn _ a.names.now a.spaces.now a.strands.now (omega arith) (omega arith) (omega arith) l.all _ _ _ l.k l.invariant c.loop-k-test.true c.copy.ensures c.copy-in-loop-k.ensures c.copy-in-loop-k-2.ensures
 
 pub returns : goal.returns
 returns c =
     let a = c.args in
     let l = c.loop-k in
-    join_last _ a.names.now a.spaces.now a.strands.now c.threes-1.given.0 c.fours-1.given.0 c.sixteens-1.given.0 l.all l.k l.invariant c.loop-k-test.false
+    join_last _ a.names.now a.spaces.now a.strands.now (omega arith) (omega arith) (omega arith) l.all l.k l.invariant c.loop-k-test.false

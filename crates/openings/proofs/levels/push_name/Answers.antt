@@ -1,6 +1,7 @@
 -- `openings::levels::push_name` meets its contract: three stores are one part overwritten.
 use Prim.Native.Nat.{◌*◌}
 use native.Mathlib.Omega.{arith}
+use borrow.Author.Rules.{rules}
 use lib.ListN.{length-set}
 use Rattle.openings.proofs.Stores.{level_set}
 use Rattle.openings.proofs.levels.push_name.Goals as goal
@@ -17,4 +18,4 @@ returns c =
     let y = c.narrow-2 in
     let z = c.narrow-3 in
     let a = c.args in
-    (level_set a.levels.now (24 * a.depth) x.result y.result z.result a.name.at a.name.len a.owned (omega arith) x.ensures y.ensures z.ensures (omega arith), c.all-1.given.0.1)
+    (level_set a.levels.now (24 * a.depth) x.result y.result z.result a.name.at a.name.len a.owned (omega arith) x.ensures y.ensures z.ensures (omega arith), search rules)

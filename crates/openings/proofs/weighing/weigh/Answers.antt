@@ -1,10 +1,10 @@
 -- `openings::weighing::weigh` meets its contract: the sum of what its callees count.
 use mathlib.Core.Path.{sym, ◌∙◌}
-use mathlib.Core.Logic.{⊎_elim}
 use Prim.Native.Nat.{◌+◌}
 use Rattle.openings.proofs.Deciding.{Numbers, numbers_none, weigh_heavy, weigh_light}
 use Rattle.attributes.specs.Attributes.{sorted_held}
 use Rattle.openings.proofs.weighing.weigh.Goals as goal
+use Rattle.openings.proofs.weighing.weigh.Goals.{then-here-ne0, else-here-ne0}
 
 pub returns-then-all-gt-UNITS : goal.returns-then-all-gt-UNITS
 returns-then-all-gt-UNITS c =
@@ -19,9 +19,9 @@ returns c =
     let h = c.new_units-here.ensures.0 in
     let first = a.units + c.load_all-load.result.units in
     let numbered : Numbers a.count first a.words.now c.if-here-ne0.words =
-    ⊎_elim
-    (λ w es el et un. w.3 ∙ w.2.ensures es el et un)
-    (λ w es el et un. w.1 ∙ numbers_none a.count first a.words.now (sym h ∙ w.0.left) es el et un)
-    c.if-here-ne0.branch in
+    elim c.if-here-ne0.branch [
+      | then-here-ne0 w ↦ λ es el et un. w.words-is ∙ w.number_units.ensures es el et un
+      | else-here-ne0 w ↦ λ es el et un. w.words-is ∙ numbers_none a.count first a.words.now (sym h ∙ w.if-here-ne0.false) es el et un
+    ] in
     weigh_light a.index.now (sorted_held a.attributes.now a.n) a.n a.m a.count a.units a.words.now _ _ _
     d.0 h c.if-all-gt-UNITS.false _ _ d.1 c.elements_count.ensures.0 numbered

@@ -15,7 +15,7 @@ unfolding closed_of
 returns-then-depth-gt-DEPTH c = search tests
 
 pub returns-then-bound-count : goal.returns-then-bound-count
-returns-then-bound-count c = closed c.args.t1 c.if-depth-eq0.false (omega arith) 0 (omega arith)
+returns-then-bound-count c = closed c.args.self c.if-depth-eq0.false (omega arith) 0 (omega arith)
 
 pub returns : goal.returns
-returns c = closed c.args.t1 c.if-depth-eq0.false (omega arith) _ refl
+returns c = closed c.args.self c.if-depth-eq0.false (omega arith) _ refl

@@ -19,4 +19,4 @@ overflow_cast-self-3 c = omega (arith, most_few c.args.owned, c.at_most-count.en
 pub returns : goal.returns
 returns c =
     let a = c.args in
-    opened a.t1 a.name a.own.now a.owned (omega arith) c.at_most-count.result c.at_most-count.ensures (omega arith) (search rules) c.push_bindings.new.0 c.push_bindings.ensures
+    opened a.self a.name a.own.now a.owned (omega arith) c.at_most-count.result c.at_most-count.ensures (omega arith) (search rules) c.push_bindings.new.bindings c.push_bindings.ensures

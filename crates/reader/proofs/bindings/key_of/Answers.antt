@@ -1,5 +1,4 @@
 -- `reader::bindings::key_of` meets its contract: the key so far and the bytes that are left make the key of them all.
-use Prim.Native.Nat.{◌-◌}
 use mathlib.Core.Path.{refl}
 use native.Mathlib.Omega.{arith}
 use Rattle.reader.proofs.PrefixKeys.{key_turn, key_small, key_fits, key_whole, key_long}
@@ -15,12 +14,12 @@ pub overflow_mul-key : goal.overflow_mul-key
 overflow_mul-key c = let l = c.loop-i in omega (arith, key_fits l.key l.i l.invariant.3 (omega arith))
 
 pub overflow_add-key : goal.overflow_add-key
-overflow_add-key c = let l = c.loop-i in omega (arith, key_fits l.key l.i l.invariant.3 (omega arith), c.wide.ensures, c.shared_slice_known-in-loop-i-1.given l.i)
+overflow_add-key c = let l = c.loop-i in omega (arith, key_fits l.key l.i l.invariant.3 (omega arith), c.wide.ensures, c.type_inv.prefix l.i)
 
 pub loop-i-preserved : goal.loop-i-preserved
 loop-i-preserved c =
     let l = c.loop-i in
-    (omega arith, l.invariant.1, l.invariant.2, key_small l.key l.i _ l.invariant.3 (omega (arith, c.wide.ensures, c.shared_slice_known-in-loop-i-1.given l.i)), key_turn _ l.key l.i l.invariant.4 _ c.loop-i-test.true c.wide.ensures)
+    (omega arith, l.invariant.1, l.invariant.2, key_small l.key l.i _ l.invariant.3 (omega (arith, c.wide.ensures, c.type_inv.prefix l.i)), key_turn _ l.key l.i l.invariant.4 _ c.loop-i-test.true c.wide.ensures)
 
 pub overflow_mul-result : goal.overflow_mul-result
 overflow_mul-result c = let l = c.loop-i in omega (arith, key_fits l.key l.i l.invariant.3 (omega arith))

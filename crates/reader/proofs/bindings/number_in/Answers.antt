@@ -5,7 +5,7 @@ use lib.ListN.{get_or-eq_default}
 use Rattle.reader.proofs.bindings.number_in.Goals as goal
 
 pub overflow_cast-result : goal.overflow_cast-result
-overflow_cast-result c = omega (arith, c.shared_slice_known-1.given c.args.i)
+overflow_cast-result c = omega (arith, c.type_inv.l c.args.i)
 
 pub returns : goal.returns
 returns c = sym (get_or-eq_default c.args.l.now 0 {n = c.args.i} c.if-i-l.false)

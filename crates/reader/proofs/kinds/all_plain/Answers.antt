@@ -1,10 +1,8 @@
 -- `reader::kinds::all_plain` meets its contract: those that are left give the answer.
-use Prim.Native.Nat.{◌-◌}
 use mathlib.Core.Path.{ap, ◌∙◌}
 use borrow.Author.Rules.{rules}
 use Rattle.laws.specs.Tests.{untold, untold'}
 use Rattle.laws.proofs.Lists.{all_done, all_not, all_on}
-use Rattle.lexer.specs.Attrs.{attr_in}
 use Rattle.reader.specs.Known.{plain_attr}
 use Rattle.reader.proofs.Indexed.{at_most_le}
 use Rattle.reader.proofs.Plain.{all_begin}

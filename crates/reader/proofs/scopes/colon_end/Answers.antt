@@ -1,6 +1,5 @@
 -- `scopes::colon_end` meets its contract: what is left to look through gives the answer.
 use mathlib.Core.Path.{refl}
-use Prim.Native.Nat.{◌-◌}
 use Rattle.reader.proofs.Colons.{hit, miss, none}
 use Rattle.reader.proofs.scopes.colon_end.Goals as goal
 

@@ -1,5 +1,5 @@
 -- `copy_elements` lays the rows of the element along each strand: those from the k-th on are left.
-use Prim.Native.Nat.{◌+◌, ◌-◌, ◌*◌}
+use Prim.Native.Nat.{◌+◌, ◌*◌}
 use native.Mathlib.Omega.{arith}
 use lib.ListN.{length}
 use Rattle.records.specs.Rows.{laid}
@@ -26,13 +26,13 @@ copy_element-used-requires c =
     let t = c.loop-k-test.true in
     let bodies = whole_bodies (begun_body a.begun) (all_sorted (attributes_in a.attributes.now) (sections_in a.attributes.now) a.n) in
     let m = bodies_many (begun_body a.begun) (attributes_in a.attributes.now) (sections_in a.attributes.now) a.n in
-    let h = rows_kept c.lay_rows.new.1.1.1.0 c.lay_units.new.1.1.0 bodies (c.lay_rows.ensures (sections_in a.attributes.now)) (omega arith) u.0 in (
+    let h = rows_kept c.lay_rows.new.rows c.lay_units.new.rows bodies (c.lay_rows.ensures (sections_in a.attributes.now)) (omega arith) u.0 in (
       p.0,
       omega arith,
       p.2 l.k t,
       room_here (32 * (a.n + 1)) l.k a.from l.used l.invariant.2 a.count (length l.out) t (omega (arith, p.3, l.invariant.1)),
       u.1 l.k t,
-      λ j q. words_few c.lay_units.new.1.1.0 bodies j h (omega arith),
+      λ j q. words_few c.lay_units.new.rows bodies j h (omega arith),
     )
 
 pub loop-k-preserved : goal.loop-k-preserved
@@ -42,7 +42,7 @@ loop-k-preserved c =
     let w = c.copy_element-used in
     let sorted = all_sorted (attributes_in a.attributes.now) (sections_in a.attributes.now) a.n in
     let m = bodies_many (begun_body a.begun) (attributes_in a.attributes.now) (sections_in a.attributes.now) a.n in
-    let h = rows_kept c.lay_rows.new.1.1.1.0 c.lay_units.new.1.1.0 (whole_bodies (begun_body a.begun) sorted) (c.lay_rows.ensures (sections_in a.attributes.now)) (omega arith) c.lay_units.ensures.0 in (
+    let h = rows_kept c.lay_rows.new.rows c.lay_units.new.rows (whole_bodies (begun_body a.begun) sorted) (c.lay_rows.ensures (sections_in a.attributes.now)) (omega arith) c.lay_units.ensures.0 in (
       search rules,
       search rules,
       room_next (32 * (a.n + 1)) l.k a.from l.used l.invariant.2 _ w.ensures.0,

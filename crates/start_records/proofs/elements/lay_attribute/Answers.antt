@@ -25,7 +25,7 @@ pub shape_of-rows : goal.shape_of-rows
 shape_of-rows c = simp length-set
 
 pub returns : goal.returns
-returns c =
+returns c sections =
     let a = c.args in
     let same = same_sorted a.attributes.now sections a.k (omega arith) in
     attribute_laid a.attributes.now sections a.k a.rows.now _ _ _ _ _ (omega arith) (c.class_at.ensures sections ∙ ap (λ (x : Sorted). x.class) (sym same)) c.first_word.ensures c.last_word.ensures c.first_word-2.ensures c.last_word-2.ensures

@@ -1,5 +1,5 @@
 -- `lay_rows` lays the words of the start, then those of the attributes: of the first k after k turns.
-use Prim.Native.Nat.{ℕ, ◌-◌}
+use Prim.Native.Nat.{ℕ}
 use mathlib.Core.Path.{◌≡◌, ap, ◌∙◌}
 use native.Mathlib.Omega.{arith}
 use lib.ListN.{length-set}
@@ -23,7 +23,7 @@ loop-k-preserved c =
     (search rules, search rules, λ begun rows sections e. rows_turn begun (attributes_in a.attributes.now) sections rows l.all _ l.k (l.invariant.2 begun rows sections e) (c.lay_attribute.ensures sections))
 
 pub returns : goal.returns
-returns c =
+returns c sections =
     let a = c.args in
     let l = c.loop-k in
     let b = begun_body a.begun in

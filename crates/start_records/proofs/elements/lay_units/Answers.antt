@@ -1,5 +1,4 @@
 -- `lay_units` lays what each unit adds: of the first k strands after k turns.
-use Prim.Native.Nat.{◌-◌}
 use native.Mathlib.Omega.{arith}
 use Rattle.start_records.proofs.Copies.{units_start, units_turn}
 use borrow.Author.Rules.{rules}

@@ -1,5 +1,5 @@
 -- `write_copies` lays the rows of the element along each strand: those from the k-th on are left.
-use Prim.Native.Nat.{◌+◌, ◌-◌, ◌*◌}
+use Prim.Native.Nat.{◌+◌, ◌*◌}
 use mathlib.Core.List.{[]}
 use native.Mathlib.Omega.{arith}
 use lib.ListN.{length}
@@ -25,13 +25,13 @@ write_copy-used-requires c =
     let u = c.lay_units.ensures in
     let t = c.loop-k-test.true in
     let m = bodies_many (begun_body a.begun) (attributes_in a.attributes.now) [] a.n in
-    let h = rows_kept c.lay_rows.new.1.1.1.0 c.lay_units.new.1.1.0 (whole_bodies (begun_body a.begun) (all_sorted (attributes_in a.attributes.now) [] a.n)) (c.lay_rows.ensures []) (omega arith) u.0 in (
+    let h = rows_kept c.lay_rows.new.rows c.lay_units.new.rows (whole_bodies (begun_body a.begun) (all_sorted (attributes_in a.attributes.now) [] a.n)) (c.lay_rows.ensures []) (omega arith) u.0 in (
       p.0,
       omega arith,
       p.2 l.k t,
       room_here (32 * (a.n + 1)) l.k a.from l.used l.invariant.2 a.count (length l.out) t (omega (arith, p.3, l.invariant.1)),
       u.1 l.k t,
-      λ j q. words_few c.lay_units.new.1.1.0 (whole_bodies (begun_body a.begun) (all_sorted (attributes_in a.attributes.now) [] a.n)) j h (omega arith),
+      λ j q. words_few c.lay_units.new.rows (whole_bodies (begun_body a.begun) (all_sorted (attributes_in a.attributes.now) [] a.n)) j h (omega arith),
     )
 
 pub loop-k-preserved : goal.loop-k-preserved
@@ -45,13 +45,13 @@ loop-k-preserved c =
       λ sections. (
           let bodies = whole_bodies (begun_body a.begun) (all_sorted (attributes_in a.attributes.now) sections a.n) in
           let m = bodies_many (begun_body a.begun) (attributes_in a.attributes.now) sections a.n in
-          let h = rows_kept c.lay_rows.new.1.1.1.0 c.lay_units.new.1.1.0 bodies (c.lay_rows.ensures sections) (omega arith) c.lay_units.ensures.0 in
+          let h = rows_kept c.lay_rows.new.rows c.lay_units.new.rows bodies (c.lay_rows.ensures sections) (omega arith) c.lay_units.ensures.0 in
           elements_on (whole_records a.begun.tag bodies) a.words.now a.schemas.now a.count _ (laid l.out l.used) _ l.k (l.invariant.3 sections) c.loop-k-test.true (w.ensures.1 bodies m h)
           ),
     )
 
 pub returns : goal.returns
-returns c =
+returns c sections =
     let l = c.loop-k in
     let a = c.args in
     elements_done (whole_records a.begun.tag (whole_bodies (begun_body a.begun) (all_sorted (attributes_in a.attributes.now) sections a.n))) a.words.now a.schemas.now a.count _ (laid l.out l.used) l.k (l.invariant.3 sections) c.loop-k-test.false

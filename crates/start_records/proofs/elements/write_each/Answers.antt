@@ -1,5 +1,4 @@
 -- `write_each` lays the rows of the element along each strand: those from the k-th on are left.
-use Prim.Native.Nat.{◌-◌}
 use mathlib.Core.Path.{refl}
 use native.Mathlib.Omega.{arith}
 use Rattle.records.specs.Rows.{laid}
@@ -25,7 +24,7 @@ loop-k-preserved c =
     let l = c.loop-k in
     let records = element_records a.index.now a.begun.tag (begun_body a.begun) (all_sorted (attributes_in a.attributes.now) (sections_in a.attributes.now) a.n) in
     let w = c.write_element-used in
-    (omega (arith, l.invariant.0, w.auto.1.1.1.1.1.1.0), elements_on records a.words.now a.schemas.now a.count _ (laid l.out l.used) _ l.k l.invariant.1 c.loop-k-test.true w.ensures)
+    (omega (arith, l.invariant.0, w.auto.out), elements_on records a.words.now a.schemas.now a.count _ (laid l.out l.used) _ l.k l.invariant.1 c.loop-k-test.true w.ensures)
 
 pub returns : goal.returns
 returns c =

@@ -1,5 +1,4 @@
 -- `write_kept` lays the rows of the attributes that are kept: those from the k-th on are left.
-use Prim.Native.Nat.{◌-◌}
 use borrow.Author.Rules.{rules}
 use Rattle.records.specs.Rows.{laid}
 use Rattle.attributes.specs.Attributes.{attributes_in, sections_in, sorted_in}

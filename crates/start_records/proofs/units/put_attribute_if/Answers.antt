@@ -11,7 +11,7 @@ use Rattle.start_records.proofs.UnitRows.{name_row, value_row, two_rows, attribu
 use Rattle.start_records.proofs.units.put_attribute_if.Goals as goal
 
 pub returns : goal.returns
-returns c =
+returns c sections =
     let a = c.args in
     let w = laid a.out.now a.used in
     c.put_row_if.ensures

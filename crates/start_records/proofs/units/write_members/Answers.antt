@@ -1,5 +1,5 @@
 -- `write_members` lays the rows of a section's attributes: those from the k-th on are left.
-use Prim.Native.Nat.{ℕ, ◌-◌}
+use Prim.Native.Nat.{ℕ}
 use mathlib.Core.Path.{ap, ◌∙◌}
 use mathlib.Core.List.{[], map}
 use mathlib.Core.Bool.{cond}

@@ -1,5 +1,4 @@
 -- `write_section` writes a unit for each rule that validates: those of the rules from the i-th on are left.
-use Prim.Native.Nat.{◌-◌}
 use mathlib.Core.Path.{◌≡◌, refl}
 use native.Mathlib.Omega.{arith}
 use lib.ListN.{length}
@@ -43,7 +42,7 @@ loop-i-preserved c =
     let q = c.choose-c.result in
     let h = c.loop-i-test.true in
     let n = c.next_rule-i in (
-      omega (arith, i.0, c.write_by-wrote.auto.1.1.1.1.1.1.1.0),
+      omega (arith, i.0, c.write_by-wrote.auto.out),
       i.1,
       i.2,
       at_next a.index.now q c.loop-i.i n.result i.3 h n.ensures,

@@ -1,5 +1,5 @@
 -- `write_sections` writes the units of each section: those from the j-th on are left.
-use Prim.Native.Nat.{ℕ, ◌+◌, ◌-◌, ◌≤◌, ◌<◌}
+use Prim.Native.Nat.{ℕ, ◌+◌, ◌≤◌, ◌<◌}
 use mathlib.Core.Path.{refl}
 use native.Mathlib.Omega.{arith}
 use Rattle.records.specs.Rows.{laid}
@@ -29,7 +29,7 @@ loop-j-preserved c =
     let made = section_units a.index.now a.mode a.tag (all_sorted (attributes_in a.attributes.now) (sections_in a.attributes.now) a.n) in
     let w = c.write_section-wrote in
     let h : l.j < a.m + 1 = omega (arith, c.loop-j-test.true) in
-    (omega (arith, l.invariant.0, w.auto.1.1.1.1.1.1.1.0), part_on (λ (k : ℕ). k) made (a.m + 1) l.j _ _ _ _ _ l.invariant.1 h _ _ w.ensures.0 w.ensures.1)
+    (omega (arith, l.invariant.0, w.auto.out), part_on (λ (k : ℕ). k) made (a.m + 1) l.j _ _ _ _ _ l.invariant.1 h _ _ w.ensures.0 w.ensures.1)
 
 pub returns : goal.returns
 returns c =

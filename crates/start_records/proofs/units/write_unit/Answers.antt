@@ -7,7 +7,7 @@ use Rattle.start_records.proofs.UnitRows.{unit_laid}
 use Rattle.start_records.proofs.units.write_unit.Goals as goal
 
 pub shape_of-out : goal.shape_of-out
-shape_of-out c = omega (arith, c.put_row.auto.0, c.put_row-d.auto.0, c.write_members-c.auto.1.1.1.1.0, c.put_row-b.auto.0, c.put_row-a.auto.0)
+shape_of-out c = omega (arith, c.put_row.auto.out, c.put_row-d.auto.out, c.write_members-c.auto.out, c.put_row-b.auto.out, c.put_row-a.auto.out)
 
 pub returns : goal.returns
 returns c =

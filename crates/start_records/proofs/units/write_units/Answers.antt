@@ -1,5 +1,4 @@
 -- `write_units` writes the units of each strand: those from the k-th on are left.
-use Prim.Native.Nat.{◌-◌}
 use mathlib.Core.Path.{refl}
 use native.Mathlib.Omega.{arith}
 use Rattle.records.specs.Rows.{laid}
@@ -27,7 +26,7 @@ loop-k-preserved c =
     let l = c.loop-k in
     let s = all_sorted (attributes_in a.attributes.now) (sections_in a.attributes.now) a.n in
     let w = c.write_sections-wrote in (
-      omega (arith, l.invariant.0, w.auto.1.1.1.1.1.1.1.0),
+      omega (arith, l.invariant.0, w.auto.out),
       strand_on a.index.now a.tag s a.m a.words.now a.count l.k _ _ _ _ _ l.invariant.1 c.loop-k-test.true c.mode_of.result c.mode_of.ensures.0 _ _ w.ensures.0 w.ensures.1,
     )
 

@@ -10,7 +10,7 @@ use Rattle.starts.proofs.DecideWays.{decided_23, decided_plain, decided_held}
 use Rattle.starts.proofs.decisions.decide.Goals as goal
 
 pub returns-then-count-gt-STRANDS : goal.returns-then-count-gt-STRANDS
-returns-then-count-gt-STRANDS c =
+returns-then-count-gt-STRANDS c = λ table header ready beside classes met placed.
     let a = c.args in
     decided_23 table (level_names a.levels.now) header a.index.now a.scene.now a.attrs.now a.codes.now a.own.now a.outer.now a.known.now (level_spaces a.levels.now) (level_strands a.levels.now) a.started a.placing a.head
     (record { ready = ready; beside = beside; own_classes = classes; met = met; placed = placed })
@@ -24,7 +24,7 @@ weigh-requires c =
     (h.0, omega arith, c.if-count-gt-STRANDS.false, p.1, λ q. zeros_plain a.scene.now a.attrs.now a.started.tag.count _ _ _ _ _ h.1 (p.5 c.if-started.true))
 
 pub returns-then-started : goal.returns-then-started
-returns-then-started c =
+returns-then-started c = λ table header ready beside classes met placed.
     let a = c.args in
     let h = c.hold_plain-k.ensures in
     decided_plain table (level_names a.levels.now) header a.index.now a.scene.now a.attrs.now a.codes.now a.own.now a.outer.now a.known.now (level_spaces a.levels.now) (level_strands a.levels.now) a.started a.placing a.head
@@ -46,11 +46,11 @@ weigh-requires-2 c =
     (few, sections_few _ _ _ _ _ _ _ few n.0, c.if-count-gt-STRANDS.false, c.requires.1, zeros_laid _ _ _ _ _ _ _ _ _ n.0 n.2)
 
 pub returns : goal.returns
-returns c =
+returns c = λ table header ready beside classes met placed.
     let a = c.args in
     let h = c.hold-n.ensures in
     let v = c.number_sections-m.ensures in
-    let held = c.hold-n.new.1.1.1.1.1.1.1.1.0 in
+    let held = c.hold-n.new.attributes in
     decided_held table (level_names a.levels.now) header a.index.now a.scene.now a.attrs.now a.codes.now a.own.now a.outer.now a.known.now (level_spaces a.levels.now) (level_strands a.levels.now) a.started a.placing a.head
     (record { ready = ready; beside = beside; own_classes = classes; met = met; placed = placed })
     _ _ _ _ _ _ _ _ _ _ _ _ c.next_strands-count.ensures c.if-count-gt-STRANDS.false h.0 _ (attributes_in held) v.1

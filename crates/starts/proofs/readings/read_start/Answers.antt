@@ -8,8 +8,7 @@ pub returns-in-Got : goal.returns-in-Got
 returns-in-Got c =
     let a = c.args in
     let r = c.start_tag in
-    let t = c.tag-1.given in
-    let e = sym r.ensures.0 ∙ t.1 in
+    let e = sym r.ensures.0 ∙ c.in-Got.is in
     λ table index levels spaces strands header w b.
     answer_read table a.scene.now (session_of a.head levels a.bindings.now spaces strands) a.at _ _ _ _ _ _ e
     (c.read_meaning.ensures table index levels spaces strands header w b e (attrs_read a.scene.now a.at _ a.attrs.now _ w.short e r.ensures.1))
@@ -18,8 +17,7 @@ pub returns-in-Stopped : goal.returns-in-Stopped
 returns-in-Stopped c =
     let a = c.args in
     let r = c.start_tag in
-    let x = c.x-1.given in
     λ table index levels spaces strands header w b.
     let z = session_of a.head levels a.bindings.now spaces strands in
-    answer_read table a.scene.now z a.at _ _ _ _ _ _ (sym r.ensures.0 ∙ x.1)
-    (stopped_read table a.scene.now z a.at x.0.0 _ _ _ _ _ a.known.now c.number_of.ensures c.place_of.ensures b)
+    answer_read table a.scene.now z a.at _ _ _ _ _ _ (sym r.ensures.0 ∙ c.in-Stopped.is)
+    (stopped_read table a.scene.now z a.at c.in-Stopped.x _ _ _ _ _ a.known.now c.number_of.ensures c.place_of.ensures b)

@@ -1,5 +1,4 @@
 -- `strands::counts::elements_count` meets its contract: the records along the strands so far.
-use Prim.Native.Nat.{◌-◌}
 use mathlib.Core.Path.{◌≡◌}
 use native.Mathlib.Omega.{arith}
 use lib.ListN.{get_or}

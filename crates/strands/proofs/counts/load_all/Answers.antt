@@ -1,5 +1,5 @@
 -- `strands::counts::load_all` meets its contract: the units and records of the strands so far; none where there are no sections.
-use Prim.Native.Nat.{ℕ, ◌-◌}
+use Prim.Native.Nat.{ℕ}
 use mathlib.Core.Path.{◌≡◌}
 use native.Mathlib.Omega.{arith}
 use lib.ListN.{get_or}

@@ -1,5 +1,5 @@
 -- `strands::counts::load_of` meets its contract: the units and records of the sections so far.
-use Prim.Native.Nat.{ℕ, ◌+◌, ◌-◌}
+use Prim.Native.Nat.{ℕ, ◌+◌}
 use mathlib.Core.Path.{◌≡◌}
 use native.Mathlib.Omega.{arith}
 use Rattle.strands.proofs.Counting.{total_start, load_few, sections_next, sections_end, counted_units, counted_records}

@@ -1,5 +1,4 @@
 -- `strands::counts::section_class` meets its contract: the first attribute of the section from k on is the first of all.
-use Prim.Native.Nat.{◌-◌}
 use mathlib.Core.Path.{◌∙◌}
 use native.Mathlib.Omega.{arith}
 use Rattle.attributes.specs.Attributes.{sorted_in}

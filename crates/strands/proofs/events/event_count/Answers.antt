@@ -1,8 +1,7 @@
 -- `event_count` sums what the strands write: that of the first j after j turns.
 use mathlib.Core.Path.{sym, ap, ◌∙◌}
-use Prim.Native.Nat.{ℕ, ◌+◌, ◌-◌, ◌*◌, ◌<◌}
+use Prim.Native.Nat.{ℕ, ◌+◌, ◌*◌, ◌<◌}
 use native.Mathlib.Omega.{arith}
-use borrow.Author.Rules.{rules}
 use borrow.Author.Tests.{ltb-true}
 use lib.Dec.{ltb}
 use lib.ListN.{get_or}
@@ -16,25 +15,16 @@ use Rattle.strands.proofs.Words.{words_none, words_more}
 use Rattle.strands.proofs.Delivered.{count_turn, all_counted}
 use Rattle.strands.proofs.events.event_count.Goals as goal
 
-more : (c : tie.In-loop invariant-loop decreases-loop) → c.before.loop.j < c.before.before.args.n
-more c = let j = c.before.loop.j in let n = c.before.before.args.n in ltb-true j n (and_left (ltb j n) _ c.loop-test.true)
-
 pub loop-j-init : goal.loop-j-init
 loop-j-init c =
     let a = c.args in
     (omega arith, omega arith, sym (ap (total (event_count a.closes)) (words_none (level_strands a.levels.now) a.level) ∙ total_none (event_count a.closes)))
 
-pub strand_at-requires : goal.strand_at-requires
-strand_at-requires c = let h = more c in search rules
-
-pub loop-j-smaller : goal.loop-j-smaller
-loop-j-smaller c = let h = more c in search rules
-
 pub loop-j-preserved : goal.loop-j-preserved
 loop-j-preserved c =
     let a = c.args in
     let l = c.loop-j in
-    let h = more c in (
+    let h : l.j < a.n = ltb-true l.j a.n (and_left (ltb l.j a.n) _ c.loop-j-test.true) in (
       omega arith,
       omega arith,
       count_turn a.closes (get_or (level_strands a.levels.now) (16 * a.level + l.j) 0) l.k _ _ _ l.invariant.2

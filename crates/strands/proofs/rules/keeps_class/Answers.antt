@@ -1,6 +1,5 @@
 -- `strands::rules::keeps_class` meets its contract: where there are rules, at each turn the answer is that of those that are left.
 use mathlib.Core.Path.{◌≡◌, ap, ◌∙◌}
-use Prim.Native.Nat.{◌-◌}
 use native.Mathlib.Omega.{arith}
 use borrow.Author.Rules.{rules}
 use lib.ListN.{length}

@@ -27,14 +27,13 @@ is_full-requires c = (omega arith, omega (arith, c.count_at-n.ensures))
 
 pub returns-then-is_full : goal.returns-then-is_full
 returns-then-is_full c = λ (t : Table) (s bindings : List ℕ).
-    let b = c in
-    let a = b.args in
+    let a = c.args in
     let z = session_at a.head a.levels.now bindings in
     let level = a.head.depth - 1 in
     ap (λ (r : Turn). step_in r a.levels.now bindings a.out.now) c.stop.ensures
     ∙ event_full (spaced 5 a.part (class_in z level) (uri_in z level)) true (level_strands a.levels.now) level _ (get_or (level_spaces a.levels.now) (4 * level + 3) 0)
     (written (dispatch t) (state_of t s z) (end a.part))
-    (written_end t s z b.requires.0 a.part)
+    (written_end t s z c.requires.0 a.part)
     c.count_at-n.ensures
     a.at (with_end z a.place (eqb a.head.depth 1)) z a.out.now c.is_full.result c.is_full.ensures c.if-is_full.true
 
@@ -43,12 +42,11 @@ write_event-used-requires c = (omega arith, omega (arith, c.count_at-n.ensures))
 
 pub returns : goal.returns
 returns c = λ (t : Table) (s bindings : List ℕ).
-    let b = c in
-    let a = b.args in
-    let p = b.requires in
+    let a = c.args in
+    let p = c.requires in
     let z = session_at a.head a.levels.now bindings in
     let level = a.head.depth - 1 in
-    let out = c.write_event-used.new.1.1.1.1.1.0 in
+    let out = c.write_event-used.new.out in
     ap (λ (h : Head). record { answer = answered 0 a.place 1 (c.write_event-used.result / 16); session = session_at h a.levels.now bindings; output = out }) c.closed_head.ensures
     ∙ ap (λ (y : Session). record { answer = answered 0 a.place 1 (c.write_event-used.result / 16); session = y; output = out })
     (closed_session a.head a.place (level_names a.levels.now) bindings (level_spaces a.levels.now) (level_strands a.levels.now) p.0 p.1)

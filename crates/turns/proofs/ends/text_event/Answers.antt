@@ -26,14 +26,13 @@ is_full-requires c = (omega arith, omega (arith, c.count_at-n.ensures))
 
 pub returns-then-is_full : goal.returns-then-is_full
 returns-then-is_full c = λ (t : Table) (s bindings : List ℕ).
-    let b = c in
-    let a = b.args in
+    let a = c.args in
     let z = session_at a.head a.levels.now bindings in
     let level = a.head.depth - 1 in
     ap (λ (r : Turn). step_in r a.levels.now bindings a.out.now) c.stop.ensures
     ∙ event_full (text_body (between a.at a.end)) false (level_strands a.levels.now) level _ (get_or (level_spaces a.levels.now) (4 * level + 3) 0)
     (written (dispatch t) (state_of t s z) (text (between a.at a.end)))
-    (written_text t s z b.requires.0 (between a.at a.end))
+    (written_text t s z c.requires.0 (between a.at a.end))
     c.count_at-n.ensures
     a.at (with_place z a.end) z a.out.now c.is_full.result c.is_full.ensures c.if-is_full.true
 
@@ -42,15 +41,14 @@ write_event-used-requires c = (omega arith, omega (arith, c.count_at-n.ensures))
 
 pub returns : goal.returns
 returns c = λ (t : Table) (s bindings : List ℕ).
-    let b = c in
-    let a = b.args in
+    let a = c.args in
     let z = session_at a.head a.levels.now bindings in
     let level = a.head.depth - 1 in
-    let out = c.write_event-used.new.1.1.1.1.1.0 in
+    let out = c.write_event-used.new.out in
     ap (λ (h : Head). record { answer = answered 0 a.end 1 (c.write_event-used.result / 16); session = session_at h a.levels.now bindings; output = out }) c.text_head.ensures
     ∙ event_room (text_body (between a.at a.end)) false (level_strands a.levels.now) level _ (get_or (level_spaces a.levels.now) (4 * level + 3) 0)
     (written (dispatch t) (state_of t s z) (text (between a.at a.end)))
-    (written_text t s z b.requires.0 (between a.at a.end))
+    (written_text t s z c.requires.0 (between a.at a.end))
     c.count_at-n.ensures
     a.at (with_place z a.end) z a.out.now c.is_full.result c.is_full.ensures
     c.text_row.result _ _ c.if-is_full.false (ap body_of c.text_row.ensures) c.write_event-used.ensures

@@ -26,9 +26,8 @@ event_count-requires c = (omega arith, omega (arith, c.count_at.ensures))
 
 pub returns : goal.returns
 returns c = λ (t : Table) (s bindings : List ℕ) (part : Span).
-    let b = c in
-    let a = b.args in
-    let p = b.requires in
+    let a = c.args in
+    let p = c.requires in
     let z = session_at a.head a.levels.now bindings in
     let level = a.head.depth - 1 in
     ap (λ (h : Head). record { answer = answered 0 a.place 1 c.event_count.result; session = session_at h a.levels.now bindings; output = [] }) c.closed_head.ensures

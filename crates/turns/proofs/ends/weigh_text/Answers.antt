@@ -24,13 +24,12 @@ event_count-requires c = (omega arith, omega (arith, c.count_at.ensures))
 
 pub returns : goal.returns
 returns c = λ (t : Table) (s bindings : List ℕ) (at : ℕ).
-    let b = c in
-    let a = b.args in
+    let a = c.args in
     let z = session_at a.head a.levels.now bindings in
     let level = a.head.depth - 1 in
     ap (λ (h : Head). record { answer = answered 0 a.end 1 c.event_count.result; session = session_at h a.levels.now bindings; output = [] }) c.text_head.ensures
     ∙ event_weighed (text_body (between at a.end)) false (level_strands a.levels.now) level _ (get_or (level_spaces a.levels.now) (4 * level + 3) 0)
     (written (dispatch t) (state_of t s z) (text (between at a.end)))
-    (written_text t s z b.requires.0 (between at a.end))
+    (written_text t s z c.requires.0 (between at a.end))
     c.count_at.ensures
     (with_place z a.end) c.event_count.result c.event_count.ensures.0

@@ -29,14 +29,13 @@ write_start-requires c =
 pub lay_level-requires : goal.lay_level-requires
 lay_level-requires c = let p = c.requires in (p.0, p.1.few_strands)
 
-pub returns : goal.returns
-returns c =
+pub returns-clause-by_index : goal.returns-clause-by_index
+returns-clause-by_index c = λ table s p ready as-planned.
     let a = c.args in
-    let l = (c.lay_level.ensures.bindings_after, c.lay_level.ensures.levels_unchanged) in record {
-      by_index = λ table s p ready as-planned.
-          room_start table a.index.now s a.own.now a.words.now a.schemas.now a.attributes.now a.started a.placing a.decided a.head (level_names a.levels.now) a.bindings.now (level_spaces a.levels.now) (level_strands a.levels.now) p
-          ready as-planned a.out.now c.begun_of.result c.begun_of.ensures
-          c.lay_level.result _ _ _ _ _ _ c.if-out-decided.false c.write_start.ensures
-          (l.0 table a.index.now s a.schemas.now a.attributes.now p ready as-planned);
-      levels_unchanged = l.1;
-    }
+    room_start table a.index.now s a.own.now a.words.now a.schemas.now a.attributes.now a.started a.placing a.decided a.head (level_names a.levels.now) a.bindings.now (level_spaces a.levels.now) (level_strands a.levels.now) p
+    ready as-planned a.out.now c.begun_of.result c.begun_of.ensures
+    c.lay_level.result _ _ _ _ _ _ c.if-out-decided.false c.write_start.ensures
+    (c.lay_level.ensures.bindings_after table a.index.now s a.schemas.now a.attributes.now p ready as-planned)
+
+pub returns-clause-levels_unchanged : goal.returns-clause-levels_unchanged
+returns-clause-levels_unchanged c = c.lay_level.ensures.levels_unchanged

@@ -13,9 +13,8 @@ use Rattle.turns.proofs.planning.plan_end.Goals as goal
 
 pub closes-requires : goal.closes-requires
 closes-requires c =
-    let b = c in
-    let i = b.requires.0 in
-    (i.short, b.requires.1, subst (SpanHeld b.args.scene.now) (sym c.name_at-open.ensures) i.name)
+    let i = c.requires.0 in
+    (i.short, c.requires.1, subst (SpanHeld c.args.scene.now) (sym c.name_at-open.ensures) i.name)
 
 pub overflow_add-result-then-closes : goal.overflow_add-result-then-closes
 overflow_add-result-then-closes c =
@@ -24,10 +23,9 @@ overflow_add-result-then-closes c =
 
 pub returns-then-closes : goal.returns-then-closes
 returns-then-closes c = λ (table index own words schemas attributes bindings : List ℕ).
-    let b = c in
-    let a = b.args in
+    let a = c.args in
     let s = a.scene.now in
-    let i = b.requires.0 in
+    let i = c.requires.0 in
     let name = c.name_at-open in
     let closes = c.closes in
     let taken = c.if-closes.true in
@@ -38,9 +36,8 @@ returns-then-closes c = λ (table index own words schemas attributes bindings : 
 
 pub plan_named-requires : goal.plan_named-requires
 plan_named-requires c =
-    let b = c in
-    let a = b.args in
-    let i = b.requires.0 in
+    let a = c.args in
+    let i = c.requires.0 in
     let r = c.end_tag in
     let t = tag_inside a.scene.now (a.at + 2) _ r.result r.ensures c.in-Got.is in
     (i, omega (arith, i.short, t.0), omega (arith, i.short, t.1))
@@ -53,10 +50,8 @@ returns-in-Got c = λ (table index own words schemas attributes bindings : List 
 
 pub returns-in-Stopped : goal.returns-in-Stopped
 returns-in-Stopped c = λ (table index own words schemas attributes bindings : List ℕ).
-    let b = c in
-    let a = b.args in
+    let a = c.args in
     let s = a.scene.now in
     let z = session_at a.head a.levels.now bindings in
     let r = c.end_tag in
-    let x = c.x-1.given in
-    end_planned table index s z own words schemas attributes c.stopped.result a.at r.result _ r.ensures x.1 (stopped_planned table index s z own words schemas attributes c.stopped.result _ x.0.0 c.stopped.ensures (stopped_plan (decode table) s z b.requires.0.some_open a.at x.0.0))
+    end_planned table index s z own words schemas attributes c.stopped.result a.at r.result _ r.ensures c.in-Stopped.is (stopped_planned table index s z own words schemas attributes c.stopped.result _ c.in-Stopped.x c.stopped.ensures (stopped_plan (decode table) s z c.requires.0.some_open a.at c.in-Stopped.x))

@@ -10,19 +10,15 @@ use Rattle.turns.proofs.planning.plan_text.Goals as goal
 
 pub returns-in-End : goal.returns-in-End
 returns-in-End c = λ (table index own words schemas attributes : List ℕ) (z : Session) h.
-    let b = c in
-    let a = b.args in
+    let a = c.args in
     let s = a.scene.now in
     let v = c.text_end in
-    let e = c.end-1.given in
-    let i = text_inside s a.at _ v.result v.ensures e.1 in
-    text_planned table index s z own words schemas attributes (planned.Text a.at e.0.0) a.at v.result _ v.ensures e.1 (refl, h, omega (arith, b.requires.0, b.requires.1), omega (arith, b.requires.0, i))
+    let i = text_inside s a.at _ v.result v.ensures c.in-End.is in
+    text_planned table index s z own words schemas attributes (planned.Text a.at c.in-End.end) a.at v.result _ v.ensures c.in-End.is (refl, h, omega (arith, c.requires.0, c.requires.1), omega (arith, c.requires.0, i))
 
 pub returns-in-Stopped : goal.returns-in-Stopped
 returns-in-Stopped c = λ (table index own words schemas attributes : List ℕ) (z : Session) h.
-    let b = c in
-    let a = b.args in
+    let a = c.args in
     let s = a.scene.now in
     let v = c.text_end in
-    let x = c.x-1.given in
-    text_planned table index s z own words schemas attributes c.stopped.result a.at v.result _ v.ensures x.1 (stopped_planned table index s z own words schemas attributes c.stopped.result _ x.0.0 c.stopped.ensures refl)
+    text_planned table index s z own words schemas attributes c.stopped.result a.at v.result _ v.ensures c.in-Stopped.is (stopped_planned table index s z own words schemas attributes c.stopped.result _ c.in-Stopped.x c.stopped.ensures refl)
