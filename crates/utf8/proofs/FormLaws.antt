@@ -4,7 +4,7 @@
 --     form_whole               a code point's bytes are a form
 --     ascii_whole, ascii_form  a byte below 80: a character by itself, of the sets that have it
 --     begun_left, low_next     behind its first byte a form has fewer than four bytes to come, and goes on with none below 80
-use Prim.Native.Nat.{ℕ, ◌+◌, ◌-◌, ◌*◌, ◌≤◌, ◌<◌}
+use Prim.Native.Nat.{ℕ, ◌*◌, ◌≤◌, ◌<◌}
 use mathlib.Core.Path.{◌≡◌, refl, sym, ap, ◌∙◌}
 use mathlib.Core.List.{List, [], ◌∷◌, ◌++◌}
 use mathlib.Core.Bool.{true, ◌&&◌, and-false}

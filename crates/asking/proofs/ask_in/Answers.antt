@@ -14,19 +14,19 @@ use Rattle.asking.proofs.ask_in.Goals as goal
 pub returns-then-judged-ne0 : goal.returns-then-judged-ne0
 returns-then-judged-ne0 c =
     let a = c.args in
-    let z = session_at a.head a.t4 a.t5 in
+    let z = session_at a.head a.levels a.bindings in
     c.counted.ensures ∙ by_table a.table.now a.scene.now z (λ (n p : ℕ). answered n p 0 0) (plan_answer (plan_of (decode a.table.now) a.scene.now z)) c.judge-judged.result c.judge-judged.ensures c.if-judged-ne0.true
 
 pub returns-then-scene-gt-LONGEST : goal.returns-then-scene-gt-LONGEST
 returns-then-scene-gt-LONGEST c =
     let a = c.args in
-    let z = session_at a.head a.t4 a.t5 in
+    let z = session_at a.head a.levels a.bindings in
     c.counted-then-scene-gt-LONGEST.ensures ∙ by_length a.table.now a.scene.now z (λ (n p : ℕ). answered n p 0 0) (plan_answer (plan_of (decode a.table.now) a.scene.now z)) c.judge-judged.result c.judge-judged.ensures c.if-judged-ne0.false c.if-scene-gt-LONGEST.true
 
 pub returns-then-not-coherent : goal.returns-then-not-coherent
 returns-then-not-coherent c =
     let a = c.args in
-    let z = session_at a.head a.t4 a.t5 in
+    let z = session_at a.head a.levels a.bindings in
     c.counted-then-not-coherent.ensures ∙ by_session a.table.now a.scene.now z (λ (n p : ℕ). answered n p 0 0) (plan_answer (plan_of (decode a.table.now) a.scene.now z)) c.judge-judged.result c.judge-judged.ensures c.if-judged-ne0.false c.if-scene-gt-LONGEST.false c.header_of-header.result c.header_of-header.ensures c.coherent.result c.coherent.ensures (ap not c.if-not-coherent.true)
 
 pub asked_step-turn-requires : goal.asked_step-turn-requires
@@ -38,7 +38,7 @@ asked_step-turn-requires c =
 pub returns : goal.returns
 returns c =
     let a = c.args in
-    let z = session_at a.head a.t4 a.t5 in
+    let z = session_at a.head a.levels a.bindings in
     let p = plan_of (decode a.table.now) a.scene.now z in
     c.counted-2.ensures
     ∙ ap (λ (x : Answer). answered x.number x.place 0 x.records) c.asked_step-turn.ensures

@@ -35,7 +35,7 @@ weighed_step-requires c =
     let z = session_at a.head a.levels.now a.bindings.now in
     let l = c.load-index in
     let r = from_ready a.table.now a.scene.now a.header z p.1 p.0 p.2 true (sym p.3) l.result refl l.ensures in
-    from_loop a.table.now a.header l.result a.scene.now a.head a.levels.now a.bindings.now r c.opened-2-1.given.0 _ _ c.put_keys.ensures c.put_classes.ensures
+    from_loop a.table.now a.header l.result a.scene.now a.head a.levels.now a.bindings.now r (omega arith) _ _ c.put_keys.ensures c.put_classes.ensures
 
 pub returns : goal.returns
 returns c = ap (λ (x : Step). x.answer) c.weighed_step.ensures.0

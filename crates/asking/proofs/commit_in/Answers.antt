@@ -13,11 +13,11 @@ returns-then-same c =
     let a = c.args in
     let z = session_at a.head a.levels.now a.bindings.now in
     let s = c.advance_in in record {
-      out_after = s.ensures.0
+      out_after = s.ensures.out_after
           ∙ advance_one a.table.now a.scene.now z a.out.now
           ∙ sym (step_judged_first a.table.now a.scene.now z a.out.now)
           ∙ ap (λ (b : Bool). step_where b standard a.table.now a.scene.now z a.out.now) (sym c.if-same.true);
-      levels_unchanged = s.ensures.1;
+      levels_unchanged = s.ensures.levels_unchanged;
     }
 
 pub returns : goal.returns

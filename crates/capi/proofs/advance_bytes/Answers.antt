@@ -23,13 +23,13 @@ returns-then-a-eq0 c =
     let hd = c.head_in in
     let s = c.advance_in-advanced in
     let w = c.answer_of-a in
-    let before = ar.new.1 in
-    let after = s.new.1.1.1 in
-    let z = session_at hd.result before.0 before.1.0 in
-    let joined = parts_joined (session_in a.session.now) hd.result before.0 before.1.0 hd.ensures ar.ensures.0 ar.ensures.1 ar.ensures.2 ar.ensures.3 in
-    let out' = after.1.1.1.0 in
-    let gone = lent_handed s.result w.result after.0 after.1.0 out' (advance_of standard a.most a.table.now a.scene.now z a.out.now) w.ensures s.ensures.0 in
-    let r = given w.result (session_at s.result.head after.0 after.1.0) out' in let r = no_event a.session.now r _ (advanced a.most a.table.now a.scene.now a.session.now a.out.now held.result held.ensures (ap not c.if-not-holds_session.false) z joined r gone) c.if-a-eq0.true in record { value = r.0; out_after = r.1.0; session_after = r.1.1 }
+    let before = ar.new in
+    let after = s.new in
+    let z = session_at hd.result before.levels before.bindings in
+    let joined = parts_joined (session_in a.session.now) hd.result before.levels before.bindings hd.ensures ar.ensures.0 ar.ensures.1 ar.ensures.2 ar.ensures.3 in
+    let out' = after.out in
+    let gone = lent_handed s.result w.result after.levels after.bindings out' (advance_of standard a.most a.table.now a.scene.now z a.out.now) w.ensures s.ensures.out_after in
+    let r = given w.result (session_at s.result.head after.levels after.bindings) out' in let r = no_event a.session.now r _ (advanced a.most a.table.now a.scene.now a.session.now a.out.now held.result held.ensures (ap not c.if-not-holds_session.false) z joined r gone) c.if-a-eq0.true in record { value = r.0; out_after = r.1.0; session_after = r.1.1 }
 
 pub put_session-requires : goal.put_session-requires
 put_session-requires c = c.requires
@@ -42,10 +42,10 @@ returns c =
     let hd = c.head_in in
     let s = c.advance_in-advanced in
     let w = c.answer_of-a in
-    let before = ar.new.1 in
-    let after = s.new.1.1.1 in
-    let z = session_at hd.result before.0 before.1.0 in
-    let joined = parts_joined (session_in a.session.now) hd.result before.0 before.1.0 hd.ensures ar.ensures.0 ar.ensures.1 ar.ensures.2 ar.ensures.3 in
-    let out' = after.1.1.1.0 in
-    let gone = lent_handed s.result w.result after.0 after.1.0 out' (advance_of standard a.most a.table.now a.scene.now z a.out.now) w.ensures s.ensures.0 in
-    let r = given w.result (session_at s.result.head after.0 after.1.0) out' in let r = some_events a.session.now r _ (advanced a.most a.table.now a.scene.now a.session.now a.out.now held.result held.ensures (ap not c.if-not-holds_session.false) z joined r gone) _ c.if-a-eq0.false c.put_session.ensures in record { value = r.0; out_after = r.1.0; session_after = r.1.1 }
+    let before = ar.new in
+    let after = s.new in
+    let z = session_at hd.result before.levels before.bindings in
+    let joined = parts_joined (session_in a.session.now) hd.result before.levels before.bindings hd.ensures ar.ensures.0 ar.ensures.1 ar.ensures.2 ar.ensures.3 in
+    let out' = after.out in
+    let gone = lent_handed s.result w.result after.levels after.bindings out' (advance_of standard a.most a.table.now a.scene.now z a.out.now) w.ensures s.ensures.out_after in
+    let r = given w.result (session_at s.result.head after.levels after.bindings) out' in let r = some_events a.session.now r _ (advanced a.most a.table.now a.scene.now a.session.now a.out.now held.result held.ensures (ap not c.if-not-holds_session.false) z joined r gone) _ c.if-a-eq0.false c.put_session.ensures in record { value = r.0; out_after = r.1.0; session_after = r.1.1 }

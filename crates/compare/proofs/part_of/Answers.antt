@@ -5,9 +5,9 @@ use Rattle.compare.proofs.part_of.Goals as goal
 
 pub returns-then-len-at : goal.returns-then-len-at
 returns-then-len-at c = let a = c.args in record {
-      bytes = past a.s.now a.at a.n (omega arith);
-      place = at_start a.s a.at (omega arith);
-    }
+  bytes = past a.s.now a.at a.n (omega arith);
+  place = at_start a.s a.at (omega arith);
+}
 
 pub returns-then-len-at-2-clause-bytes : goal.returns-then-len-at-2-clause-bytes
 returns-then-len-at-2-clause-bytes c = search (rest, at_place)

@@ -1,5 +1,4 @@
 -- `compare::same_bytes` meets its contract: at each turn the answer is that of what is left of both.
-use Prim.Native.Nat.{◌-◌}
 use mathlib.Core.Path.{refl}
 use borrow.Author.Rules.{rules}
 use Rattle.compare.proofs.Equal.{differ, agree, done}

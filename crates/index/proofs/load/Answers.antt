@@ -1,6 +1,4 @@
 -- `index::load` meets its contract: at each turn the index is that of the rules from the i-th on put into it.
-use borrow.Author.Rules.{rules}
-use Prim.Native.Nat.{◌-◌}
 use native.Mathlib.Omega.{arith}
 use Rattle.table.proofs.Scan.{few_up_to, load_start, load_on, load_done, load_end}
 use Rattle.index.proofs.load.Goals as goal

@@ -1,5 +1,4 @@
 -- `index::next_rule` meets its contract: at each turn the answer is that of the rules from the i-th on.
-use Prim.Native.Nat.{◌-◌}
 use Rattle.table.proofs.Scan.{few_up_to, next_start, next_done, next_here, next_on}
 use Rattle.index.proofs.next_rule.Goals as goal
 

@@ -1,6 +1,4 @@
 -- `judging::clash_from` meets its contract: at each turn the answer so far and that of the words from the i-th on are the answer.
-use borrow.Author.Rules.{rules}
-use Prim.Native.Nat.{◌-◌}
 use mathlib.Core.Path.{refl}
 use Rattle.table.proofs.RuleTurns.{with_done, with_on}
 use Rattle.judging.proofs.clash_from.Goals as goal

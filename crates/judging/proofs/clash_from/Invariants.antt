@@ -1,5 +1,4 @@
 -- `judging::clash_from` meets its contract: at each turn the answer so far and that of the words from the i-th on are the answer.
-use borrow.Author.Rules.{rules}
 use Prim.Native.Nat.{ℕ, ◌-◌}
 use mathlib.Core.Path.{◌≡◌}
 use mathlib.Core.Bool.{◌||◌}

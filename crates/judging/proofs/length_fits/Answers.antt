@@ -1,5 +1,4 @@
 -- `judging::length_fits` meets its contract: at each turn the answer is that of what stands from p on.
-use Prim.Native.Nat.{◌-◌}
 use native.Mathlib.Omega.{arith}
 use Rattle.table.proofs.Walk.{inside}
 use Rattle.table.proofs.UriTurns.{length_short, fill_start, fill_done, fill_none, fill_on}

@@ -1,6 +1,4 @@
 -- `judging::rules_clash` meets its contract: at each turn the answer is that of the rules from the i-th on.
-use borrow.Author.Rules.{rules}
-use Prim.Native.Nat.{◌-◌}
 use native.Mathlib.Omega.{arith}
 use Rattle.table.proofs.RuleTurns.{pairs_start, pairs_done, pairs_found, pairs_on}
 use Rattle.judging.proofs.rules_clash.Goals as goal

@@ -1,5 +1,4 @@
 -- `judging::rules_clash` meets its contract: at each turn the answer is that of the rules from the i-th on.
-use borrow.Author.Rules.{rules}
 use Prim.Native.Nat.{ℕ, ◌-◌, ◌≤◌}
 use mathlib.Core.Path.{◌≡◌}
 use lib.ListN.{get_or}

@@ -1,5 +1,4 @@
 -- `judging::uris_clash` meets its contract: at each turn the answer is that of the URIs from p on.
-use Prim.Native.Nat.{◌-◌}
 use native.Mathlib.Omega.{arith}
 use Rattle.table.proofs.Walk.{inside}
 use Rattle.table.proofs.UriTurns.{clash_start, clash_done, clash_none, clash_xml, clash_twice, clash_on}

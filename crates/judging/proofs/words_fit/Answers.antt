@@ -1,5 +1,4 @@
 -- `judging::words_fit` meets its contract: at each turn the answer is that of the rules from the i-th on.
-use Prim.Native.Nat.{◌-◌}
 use Rattle.table.proofs.RuleTurns.{fit_start, fit_done, fit_not, fit_on}
 use Rattle.judging.proofs.words_fit.Goals as goal
 

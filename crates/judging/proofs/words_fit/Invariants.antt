@@ -1,5 +1,4 @@
 -- `judging::words_fit` meets its contract: at each turn the answer is that of the rules from the i-th on.
-use borrow.Author.Rules.{rules}
 use Prim.Native.Nat.{◌-◌}
 use mathlib.Core.Path.{◌≡◌}
 use Rattle.laws.specs.Lists.{all, tabulate}

@@ -1,5 +1,5 @@
 -- `judging::words_of` meets its contract: at each turn the words before the k-th are laid down.
-use Prim.Native.Nat.{ℕ, ◌-◌}
+use Prim.Native.Nat.{ℕ}
 use mathlib.Core.Path.{◌≡◌, refl}
 use native.Mathlib.Omega.{arith}
 use borrow.Author.Count.{below_none}

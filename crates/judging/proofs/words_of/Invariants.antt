@@ -1,5 +1,4 @@
 -- `judging::words_of` meets its contract: at each turn the words before the k-th are laid down.
-use borrow.Author.Rules.{rules}
 use Prim.Native.Nat.{ℕ, ◌-◌, ◌<◌}
 use mathlib.Core.Path.{◌≡◌}
 use lib.ListN.{length, get_or}

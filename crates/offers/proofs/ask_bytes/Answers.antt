@@ -19,7 +19,7 @@ returns c =
     let held = c.holds_session in
     let ar = c.arrays_in in
     let hd = c.head_in in
-    let read = ar.new.1 in
-    let z = session_at hd.result read.0 read.1.0 in
-    let joined = parts_joined (session_in a.session.now) hd.result read.0 read.1.0 hd.ensures ar.ensures.0 ar.ensures.1 ar.ensures.2 ar.ensures.3 in
+    let read = ar.new in
+    let z = session_at hd.result read.levels read.bindings in
+    let joined = parts_joined (session_in a.session.now) hd.result read.levels read.bindings hd.ensures ar.ensures.0 ar.ensures.1 ar.ensures.2 ar.ensures.3 in
     then_asked a.table.now a.scene.now a.session.now held.result held.ensures z c.ask_in.result (ap not c.if-not-holds_session.false) joined c.ask_in.ensures

@@ -25,13 +25,13 @@ returns-then-a-eq0 c =
     let o = c.is_offered in
     let s = c.commit_in-committed in
     let w = c.answer_of-a in
-    let before = ar.new.1 in
-    let after = s.new.1.1.1.1 in
-    let z = session_at hd.result before.0 before.1.0 in
-    let joined = parts_joined (session_in a.session.now) hd.result before.0 before.1.0 hd.ensures ar.ensures.0 ar.ensures.1 ar.ensures.2 ar.ensures.3 in
-    let out' = after.1.1.0 in
-    let gone = lent_handed s.result w.result after.0 after.1.0 out' (step_where o.result standard a.table.now a.scene.now z a.out.now) w.ensures s.ensures.0 in
-    let r = given w.result (session_at s.result.head after.0 after.1.0) out' in let r = no_event a.session.now r _ (committed a.table.now a.scene.now a.session.now held.result held.ensures a.offer.now a.out.now (ap not c.if-not-holds_session.false) z joined o.result o.ensures r gone) c.if-a-eq0.true in record { value = r.0; out_after = r.1.0; session_after = r.1.1 }
+    let before = ar.new in
+    let after = s.new in
+    let z = session_at hd.result before.levels before.bindings in
+    let joined = parts_joined (session_in a.session.now) hd.result before.levels before.bindings hd.ensures ar.ensures.0 ar.ensures.1 ar.ensures.2 ar.ensures.3 in
+    let out' = after.out in
+    let gone = lent_handed s.result w.result after.levels after.bindings out' (step_where o.result standard a.table.now a.scene.now z a.out.now) w.ensures s.ensures.out_after in
+    let r = given w.result (session_at s.result.head after.levels after.bindings) out' in let r = no_event a.session.now r _ (committed a.table.now a.scene.now a.session.now held.result held.ensures a.offer.now a.out.now (ap not c.if-not-holds_session.false) z joined o.result o.ensures r gone) c.if-a-eq0.true in record { value = r.0; out_after = r.1.0; session_after = r.1.1 }
 
 pub put_session-requires : goal.put_session-requires
 put_session-requires c = c.requires.0
@@ -45,10 +45,10 @@ returns c =
     let o = c.is_offered in
     let s = c.commit_in-committed in
     let w = c.answer_of-a in
-    let before = ar.new.1 in
-    let after = s.new.1.1.1.1 in
-    let z = session_at hd.result before.0 before.1.0 in
-    let joined = parts_joined (session_in a.session.now) hd.result before.0 before.1.0 hd.ensures ar.ensures.0 ar.ensures.1 ar.ensures.2 ar.ensures.3 in
-    let out' = after.1.1.0 in
-    let gone = lent_handed s.result w.result after.0 after.1.0 out' (step_where o.result standard a.table.now a.scene.now z a.out.now) w.ensures s.ensures.0 in
-    let r = given w.result (session_at s.result.head after.0 after.1.0) out' in let r = some_events a.session.now r _ (committed a.table.now a.scene.now a.session.now held.result held.ensures a.offer.now a.out.now (ap not c.if-not-holds_session.false) z joined o.result o.ensures r gone) _ c.if-a-eq0.false c.put_session.ensures in record { value = r.0; out_after = r.1.0; session_after = r.1.1 }
+    let before = ar.new in
+    let after = s.new in
+    let z = session_at hd.result before.levels before.bindings in
+    let joined = parts_joined (session_in a.session.now) hd.result before.levels before.bindings hd.ensures ar.ensures.0 ar.ensures.1 ar.ensures.2 ar.ensures.3 in
+    let out' = after.out in
+    let gone = lent_handed s.result w.result after.levels after.bindings out' (step_where o.result standard a.table.now a.scene.now z a.out.now) w.ensures s.ensures.out_after in
+    let r = given w.result (session_at s.result.head after.levels after.bindings) out' in let r = some_events a.session.now r _ (committed a.table.now a.scene.now a.session.now held.result held.ensures a.offer.now a.out.now (ap not c.if-not-holds_session.false) z joined o.result o.ensures r gone) _ c.if-a-eq0.false c.put_session.ensures in record { value = r.0; out_after = r.1.0; session_after = r.1.1 }

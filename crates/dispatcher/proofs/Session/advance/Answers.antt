@@ -13,4 +13,4 @@ returns c =
     let h = c.head in
     let s = c.advance_in-advanced in
     next_advanced (λ (z : Session). advance_of standard a.most a.table.now a.scene.now z a.out.now) (held_by a.self) h.result _ s.result c.answer_of.result (held_by c.of.result) _ _ _
-    h.ensures j.0 j.1 j.2 c.answer_of.ensures c.of.ensures s.ensures.0
+    h.ensures j.0 j.1 j.2 c.answer_of.ensures c.of.ensures s.ensures.out_after

@@ -1,6 +1,6 @@
 -- `layout::storing::no_padding` meets its contract: the answer is that of the bytes from the i-th on.
 use mathlib.Core.Path.{refl}
-use Prim.Native.Nat.{ℕ, ◌-◌}
+use Prim.Native.Nat.{ℕ}
 use native.Mathlib.Omega.{arith}
 use lib.ListN.{get_or}
 use lib.Dec.{eqb}

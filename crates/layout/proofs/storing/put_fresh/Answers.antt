@@ -1,6 +1,5 @@
 -- `layout::storing::put_fresh` meets its contract: the first i bytes are 0.
 use mathlib.Core.Path.{refl, ◌∙◌}
-use Prim.Native.Nat.{◌-◌}
 use native.Mathlib.Omega.{arith}
 use lib.ListN.{length-set}
 use Rattle.layout.proofs.FreshBytes.{clear_start, clear_more, clear_end}

@@ -1,6 +1,5 @@
 -- `layout::storing::put_levels` meets its contract: the first k levels are stored.
 use mathlib.Core.Path.{refl}
-use Prim.Native.Nat.{◌-◌}
 use native.Mathlib.Omega.{arith}
 use borrow.Author.Rules.{rules}
 use Rattle.strands.specs.Levels.{level_names, level_spaces, level_strands}

@@ -1,6 +1,5 @@
 -- `layout::storing::put_words` meets its contract: the first i numbers are stored.
 use mathlib.Core.Path.{refl}
-use Prim.Native.Nat.{◌-◌}
 use native.Mathlib.Omega.{arith}
 use borrow.Author.Rules.{rules}
 use Rattle.layout.proofs.Stored.{words_start, words_more, words_end}

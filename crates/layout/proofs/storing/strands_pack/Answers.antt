@@ -1,6 +1,6 @@
 -- `layout::storing::strands_pack` meets its contract: the answer is that of the levels from the k-th on.
 use mathlib.Core.Path.{refl, sym, ap, ◌∙◌}
-use Prim.Native.Nat.{ℕ, ◌+◌, ◌-◌, ◌*◌}
+use Prim.Native.Nat.{ℕ, ◌+◌, ◌*◌}
 use native.Mathlib.Omega.{arith}
 use Rattle.laws.proofs.Lists.{all_done}
 use Rattle.layout.specs.Layout.{word4, packs, strand_at}

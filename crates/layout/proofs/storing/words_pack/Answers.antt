@@ -1,6 +1,6 @@
 -- `layout::storing::words_pack` meets its contract: the answer so far is that of the first j numbers.
 use mathlib.Core.Path.{ap, ◌∙◌}
-use Prim.Native.Nat.{ℕ, ◌+◌, ◌-◌, ◌*◌}
+use Prim.Native.Nat.{ℕ, ◌+◌, ◌*◌}
 use native.Mathlib.Omega.{arith}
 use Rattle.layout.specs.Layout.{word4, packs}
 use Rattle.layout.proofs.Tested.{asked_none, asked_more, asked_all}

@@ -1,5 +1,4 @@
 -- `misc::begins::begin_from` meets its contract: behind a misc the answer is that of what is left.
-use Prim.Native.Nat.{◌-◌}
 use mathlib.Core.Path.{refl}
 use native.Mathlib.Omega.{arith}
 use Rattle.misc.proofs.BeginTurns.{begin_event, begin_misc, misc_onward}

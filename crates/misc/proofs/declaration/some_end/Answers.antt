@@ -1,5 +1,5 @@
 -- `misc::declaration::some_end` meets its contract: at each turn the answer is the machine's from `i` on, in the state 0 at the first byte and 1 behind it.
-use Prim.Native.Nat.{◌+◌, ◌-◌}
+use Prim.Native.Nat.{◌+◌}
 use mathlib.Core.Path.{refl}
 use native.Mathlib.Omega.{arith}
 use native.Mathlib.Nat.{le_refl}

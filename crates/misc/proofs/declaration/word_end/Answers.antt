@@ -1,5 +1,4 @@
 -- `misc::declaration::word_end` meets its contract: at each turn the answer is that of the rest of the word.
-use Prim.Native.Nat.{◌-◌}
 use mathlib.Core.Path.{refl}
 use Rattle.misc.proofs.Words.{word_done, word_cut, word_bad, word_more}
 use Rattle.misc.proofs.declaration.word_end.Goals as goal

@@ -1,5 +1,4 @@
 -- `misc::instructions::comment_rest` meets its contract: at each turn the answer is the machine's from `i` on, its state the hyphens that stand before.
-use Prim.Native.Nat.{◌-◌}
 use mathlib.Core.Path.{refl}
 use native.Mathlib.Omega.{arith}
 use Rattle.laws.specs.Reading.{machine}

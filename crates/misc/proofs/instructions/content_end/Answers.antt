@@ -1,5 +1,4 @@
 -- `misc::instructions::content_end` meets its contract: at each turn the answer is the machine's from `i` on, in the state 1 behind a ? and 0 else.
-use Prim.Native.Nat.{◌-◌}
 use mathlib.Core.Path.{refl}
 use native.Mathlib.Omega.{arith}
 use Rattle.laws.specs.Reading.{machine}

@@ -30,10 +30,10 @@ returns c =
     let hd = c.head_in in
     let same = c.same_session-same in
     let at = c.word8_at-2 in
-    let read = ar.new.1 in
+    let read = ar.new in
     let z = session_at a.head a.levels.now a.bindings.now in
-    let y = session_at hd.result read.0 read.1.0 in
+    let y = session_at hd.result read.levels read.bindings in
     let w = within_arrays a.head.depth a.head.bound (level_spaces a.levels.now) in
-    let joined = parts_joined _ hd.result read.0 read.1.0 hd.ensures ar.ensures.0 ar.ensures.1 ar.ensures.2 ar.ensures.3 in
+    let joined = parts_joined _ hd.result read.levels read.bindings hd.ensures ar.ensures.0 ar.ensures.1 ar.ensures.2 ar.ensures.3 in
     then_compared b _ c.word8_at.result c.word8_at.ensures c.if-word8_at-ne1.false _ (part_whole_lem b 16) held.result held.ensures (ap not c.if-not-holds_session.false) (same.result && eqb a.len at.result)
     (both_compared b _ w same.result z y a.len at.result (part_whole_lem b 16) joined same.ensures at.ensures)

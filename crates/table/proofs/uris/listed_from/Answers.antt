@@ -1,5 +1,4 @@
 -- `table::uris::listed_from` meets its contract: at each turn the answer is that of the URIs from p on.
-use Prim.Native.Nat.{◌-◌}
 use native.Mathlib.Omega.{arith}
 use Rattle.table.proofs.Walk.{inside}
 use Rattle.table.proofs.UriTurns.{listed_start, listed_done, listed_none, listed_here, listed_on}

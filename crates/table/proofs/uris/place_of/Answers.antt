@@ -1,5 +1,4 @@
 -- `table::uris::place_of` meets its contract: at each turn the answer is that of the places from p on.
-use Prim.Native.Nat.{◌-◌}
 use native.Mathlib.Omega.{arith}
 use Rattle.table.proofs.Walk.{inside}
 use Rattle.table.proofs.UriTurns.{place_start, place_unlisted, place_done, place_none, place_here, place_on}

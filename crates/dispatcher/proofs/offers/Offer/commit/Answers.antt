@@ -23,6 +23,6 @@ returns c =
     let g = c.head-3 in
     let s = c.commit_in-committed in
     next_advanced (λ (z : Session). step_where (same.result && eqb (length a.scene.now) a.self.length) standard a.table.now a.scene.now z a.out.now) (held_by a.session) g.result _ s.result c.answer_of.result (held_by c.of.result) _ _ _
-    g.ensures j.0 j.1 j.2 c.answer_of.ensures c.of.ensures s.ensures.0
+    g.ensures j.0 j.1 j.2 c.answer_of.ensures c.of.ensures s.ensures.out_after
     ∙ commit_told (held_offer a.self) (held_by a.session) a.table.now a.scene.now a.out.now h.result i.result _ _ same.result
     (whole_session (held_by a.session) h.result _ h.ensures j.0 j.1 j.2) (whole_session (held_by a.self.session) i.result _ i.ensures k.0 k.1 k.2) same.ensures
