@@ -19,7 +19,7 @@ use Rattle.reader.specs.Events as scene
 use Rattle.reader.specs.Events.{events}
 use Rattle.reader.specs.Spans.{span}
 use Rattle.model.specs.Theory.{Action, Attach, Unwrap, Validate, Rule, AttributeUnit, Piece, holds, Record}
-use Rattle.model.specs.Tree.{TreeEvent, start, text, end, completed, tree_of}
+use Rattle.model.specs.Tree.{TreeEvent, completed, tree_of}
 use Rattle.model.specs.Elements.{Attribute, Element, element_of}
 use Rattle.model.specs.Records.{Body, attribute_bodies, virtual_start, virtual_end, close_body}
 use Rattle.model.specs.Groups.{AttributeGroup, groups_of, group_rules, unit_by, attribute_units}

@@ -16,7 +16,7 @@ use Rattle.table.specs.Table.{Table, decode}
 use Rattle.table.specs.Judge.{Accepted}
 use Rattle.reader.specs.Events as scene
 use Rattle.reader.specs.declared.Span.{Span}
-use Rattle.reader.proofs.Progress.{left_of, less, onward}
+use Rattle.reader.proofs.Progress.{Onward, left_of, less, onward}
 use Rattle.model.specs.Theory.{Record}
 use Rattle.model.specs.Tree.{start, text, end}
 use Rattle.model.specs.Records.{Body}
@@ -107,7 +107,7 @@ module _ (table : List ℕ) (ok : Accepted table ≡ true) (s : List ℕ) (short
 
   -- ---- what is left to read
   pub left_less : left_of s (reader_of w) < left_of s (reader_of z)
-  left_less = less s (reader_of z) (reader_of w) (rw b.reader (onward s (reader_of z) b.state b.happened b.read))
+  left_less = less s (reader_of z) (reader_of w) (subst (Onward s (reader_of z)) (sym b.reader) (onward s (reader_of z) b.state b.happened b.read))
 
   pub shallow_behind : w.scope.depth ≤ 64
   shallow_behind = more.sound.fits.shallow

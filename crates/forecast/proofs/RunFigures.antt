@@ -15,9 +15,8 @@ use Rattle.table.specs.Judge.{Accepted}
 use Rattle.reader.specs.Events as scene
 use Rattle.reader.specs.Events.{events}
 use Rattle.reader.specs.Spans.{span}
-use Rattle.model.specs.Tree.{start, text, end}
 use Rattle.model.specs.Elements.{element_of}
-use Rattle.model.specs.Stream.{Level, State, Entry, entries_at, after, reached}
+use Rattle.model.specs.Stream.{Level, State, Entry, entries_at, after}
 use Rattle.model.specs.Dispatch.{dispatch, told}
 use Rattle.model.proofs.Assigned.{modes_at}
 use Rattle.sessions.specs.Sessions.{strand_count, level_in, levels_in, state_of, fresh_of}

@@ -1,6 +1,6 @@
 -- `offers::bytes::put_bytes` meets its contract: the first i bytes are laid.
 use mathlib.Core.Path.{◌≡◌, refl, sym, ap, ◌∙◌}
-use Prim.Native.Nat.{ℕ, ◌+◌, ◌-◌}
+use Prim.Native.Nat.{ℕ, ◌+◌}
 use native.Mathlib.Omega.{arith}
 use lib.ListN.{take, length-set}
 use Rattle.laws.specs.Over.{overwrite}
