@@ -13,7 +13,7 @@ fn main() {
         println!("cargo:rerun-if-changed={}", library.display());
         if !library.is_file() {
             eprintln!("There is no {}.", library.display());
-            eprintln!("Make it with `rt staticlib {name}` in the repository, or name the folder that has all three libraries in CALCIVORNE_LIB.");
+            eprintln!("Make it with `tools/archives` in the repository, or name the folder that has all three libraries in CALCIVORNE_LIB.");
             exit(1);
         }
         println!("cargo:rustc-link-lib=static={name}");
