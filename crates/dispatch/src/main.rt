@@ -7,9 +7,11 @@ use dispatcher::Session;
 use printing::Loaded;
 use printing::files::read_file;
 use printing::lines::{print_answer, print_records};
+use std::io;
+use std::rt::Files;
 
 // Steps from a fresh session until a number is not 0. Each event reads a byte or ends an awaited end, so that many steps suffice.
-fn dispatch_scene(table: &[u8], scene: &[u8], out: &mut [u8])
+fn dispatch_scene(rt: &impl Print, table: &[u8], scene: &[u8], out: &mut [u8]) -> io::Result<()>
     requires { (length scene.now ≤ 65536) × (length out.old ≤ 65536) }
 {
     let mut session = Session::fresh();
@@ -19,35 +21,39 @@ fn dispatch_scene(table: &[u8], scene: &[u8], out: &mut [u8])
         let stepped = session.step(table, scene, out);
         let answer = stepped.answer;
         if answer.number != 0 {
-            print_answer(answer.number, answer.place, events, records);
-            return;
+            return print_answer(rt, answer.number, answer.place, events, records);
         }
-        print_records(out, answer.records);
+        print_records(rt, out, answer.records)?;
         events += 1;
         records += answer.records;
         session = stepped.session;
     }
-    print_answer(0, session.place, events, records);
+    print_answer(rt, 0, session.place, events, records)
 }
 
 // Both files are read before a line is printed.
-fn dispatch_files(table: &mut [u8], scene: &mut [u8], out: &mut [u8])
+fn dispatch_files(
+    rt: &(impl Files + Print + Eprint),
+    table: &mut [u8],
+    scene: &mut [u8],
+    out: &mut [u8],
+) -> io::Result<()>
     requires { (length scene.old ≤ 65536) × (length out.old ≤ 65536) }
 {
-    let rules_read = read_file(b"rules.bin", table);
-    let scene_read = read_file(b"scene.xml", scene);
+    let rules_read = read_file(rt, "rules.bin", table);
+    let scene_read = read_file(rt, "scene.xml", scene);
     let Loaded::Bytes(n) = rules_read else {
-        return;
+        return Ok(());
     };
     let Loaded::Bytes(m) = scene_read else {
-        return;
+        return Ok(());
     };
-    dispatch_scene(&table[..n], &scene[..m], out);
+    dispatch_scene(rt, &table[..n], &scene[..m], out)
 }
 
-fn main() {
-    let mut table = io::large_buffer();
-    let mut scene = io::large_buffer();
-    let mut out = io::large_buffer();
-    dispatch_files(&mut table, &mut scene, &mut out);
+fn main(rt: HostRuntime) -> io::Result<()> {
+    let mut table = [0u8; 65536];
+    let mut scene = [0u8; 65536];
+    let mut out = [0u8; 65536];
+    dispatch_files(&rt, &mut table, &mut scene, &mut out)
 }

@@ -6,17 +6,19 @@ mod walk;
 
 use printing::Loaded;
 use printing::files::read_file;
+use std::io;
+use std::rt::Files;
 
 // What the reader sees of the scene.
-fn show(buffer: &mut [u8]) {
-    let read = read_file(b"scene.xml", buffer);
+fn show(rt: &(impl Files + Print + Eprint), buffer: &mut [u8]) -> io::Result<()> {
+    let read = read_file(rt, "scene.xml", buffer);
     let Loaded::Bytes(n) = read else {
-        return;
+        return Ok(());
     };
-    walk::print_events(&buffer[..n]);
+    walk::print_events(rt, &buffer[..n])
 }
 
-fn main() {
-    let mut buffer = io::large_buffer();
-    show(&mut buffer);
+fn main(rt: HostRuntime) -> io::Result<()> {
+    let mut buffer = [0u8; 65536];
+    show(&rt, &mut buffer)
 }

@@ -2,7 +2,7 @@
 use Prim.Native.Nat.{ℕ}
 use mathlib.Core.Path.{◌≡◌, subst}
 use mathlib.Core.List.{List}
-use Rattle.io.specs.Counts.{IsPrefixLen}
+use Rattle.std.specs.Counts.{IsPrefixLen}
 use Rattle.printing.specs.Files.{Within}
 use Rattle.printing.specs.declared.Loaded.{Loaded}
 use Rattle.printing.specs.declared.Loaded.TheVariants.{Bytes}

@@ -1,6 +1,6 @@
 -- What reading a file gives. Definitions.
 use Rattle.std.specs.Prelude.{List, ℕ}
-use Rattle.io.specs.Counts.{IsPrefixLen}
+use Rattle.std.specs.Counts.{IsPrefixLen}
 use Rattle.printing.specs.declared.Loaded.{Loaded}
 use Rattle.printing.specs.declared.Loaded.TheVariants.{Bytes, Failed}
 

@@ -1,41 +1,59 @@
 // A file by its name, read into a lent buffer.
+ghost use Rattle.std.specs.Prelude.{IfOk};
+ghost use Rattle.std.specs.Io.{ReadsAtMost};
 ghost use Rattle.printing.specs.Files.{Within};
 
 use crate::Loaded;
-use libc::STDERR_FILENO;
+use std::io::Read;
+use std::rt::Files;
+use std::{fs, io};
+
+// Reads until the buffer is full or the file ends: how many bytes stand at the buffer's start.
+fn fill(file: &mut impl Read, buffer: &mut [u8]) -> io::Result<usize>
+    ensures { ReadsAtMost result buffer.new }
+{
+    let mut done = 0;
+    while done < buffer.len() {
+        let n = file.read(&mut buffer[done..])?;
+        if n == 0 {
+            break;
+        }
+        done += n;
+    }
+    Ok(done)
+}
 
 // Whether nothing follows what was read; a message says so where something does.
-fn ends(fd: i32, name: &[u8], most: usize) -> bool {
+fn ends(rt: &impl Eprint, file: &mut impl Read, name: &str, most: usize) -> io::Result<bool> {
     let mut one = [0u8; 1];
-    let more = libc::read(fd, &mut one);
-    if more < 0 {
-        os::fail(name);
-        return false;
-    }
+    let more = file.read(&mut one)?;
     if more > 0 {
-        io::write_all(STDERR_FILENO, name);
-        io::write_all(STDERR_FILENO, b": longer than ");
-        io::print_decimal(STDERR_FILENO, most as u64);
-        io::write_all(STDERR_FILENO, b" bytes\n");
-        return false;
+        let _ = eprintln!(rt; "{name}: longer than {most} bytes");
+        return Ok(false);
     }
-    true
+    Ok(true)
+}
+
+fn load(rt: &(impl Files + Eprint), name: &str, buffer: &mut [u8]) -> io::Result<Loaded>
+    ensures { IfOk result (λ r. Within r buffer.new) }
+{
+    let mut file = fs::open(rt, name)?;
+    let n = fill(&mut file, buffer)?;
+    if ends(rt, &mut file, name, buffer.len())? {
+        return Ok(Loaded::Bytes(n));
+    }
+    Ok(Loaded::Failed)
 }
 
 // The file from the buffer's first byte on. One that the buffer cannot hold is refused.
-pub fn read_file(name: &[u8], buffer: &mut [u8]) -> Loaded
+pub fn read_file(rt: &(impl Files + Eprint), name: &str, buffer: &mut [u8]) -> Loaded
     ensures { Within result buffer.new }
 {
-    let fd = os::open_read(name);
-    if fd < 0 {
-        os::fail(name);
-        return Loaded::Failed;
+    match load(rt, name, buffer) {
+        Ok(loaded) => loaded,
+        Err(e) => {
+            let _ = eprintln!(rt; "{name}: {e}");
+            Loaded::Failed
+        }
     }
-    let n = io::read_full(fd, buffer);
-    let whole = ends(fd, name, buffer.len());
-    libc::close(fd);
-    if whole {
-        return Loaded::Bytes(n);
-    }
-    Loaded::Failed
 }

@@ -1,6 +1,6 @@
 // Scenes made of parts, laid into a lent buffer one behind the other.
 ghost use Rattle.std.specs.Prelude.{◌≤◌, length};
-ghost use Rattle.io.specs.Counts.{IsPrefixLen};
+ghost use Rattle.std.specs.Counts.{IsPrefixLen};
 
 // A part from a place on, and the place behind it; what the buffer has no room for is left out.
 pub fn put(scene: &mut [u8], at: usize, part: &[u8]) -> usize
