@@ -16,7 +16,7 @@ ROOT = Path(__file__).resolve().parent.parent
 WORD = re.compile(r'[^\s(){}.;,@"«»`]+')
 DECLARED = re.compile(r"(?m)^ *(?:(?:pub|abbrev|unfoldable|pattern|axiom) )*([^\s(){}.;,@\"«»]+)(?: \{[^{}\n]*\})* : ?(.*)$")
 RULES = re.compile(r"(?m)^ *(?:pub )?ruleset (\S+) =")
-CASE = re.compile(r"(?m)^ {2,}([^\s(){}.;,@\"«»|]+)(?: \{[^{}\n]*\})* : ")
+SEVERAL = re.compile(r"(?m)^ +((?:[^\s(){}.;,@\"«»]+ )+[^\s(){}.;,@\"«»]+) : ")
 USE = re.compile(r"(?m)^\s*(?:pub )?(?:ghost )?use ([^\s{;]+)\.\{([^}]*)\}")
 
 # names that would meet another
@@ -54,7 +54,7 @@ def spelled(name):
 def formal():
     for crate in sorted((ROOT / "crates").iterdir()):
         for folder in ("specs", "proofs"):
-            yield from sorted((crate / folder).rglob("*.antt"))
+            yield from (p for p in sorted((crate / folder).rglob("*.antt")) if p.name not in ("Answers.antt", "Invariants.antt"))
 
 
 def table(texts):
@@ -66,6 +66,8 @@ def table(texts):
                 continue
             names.add(m[1])
         names.update(m[1] for m in RULES.finditer(text))
+        # constructors that are declared together, as 'own slot : A'
+        names.update(n for m in SEVERAL.finditer(text) for n in m[1].split() if re.search("[a-z][A-Z]", n))
     news = {n: spelled(n) for n in names}
     # a lemma that would have its definition's name gets _lem
     taken = {n for n in names if "-" not in n and news[n] == n} | {news[n] for n in names if "-" not in n}

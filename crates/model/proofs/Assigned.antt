@@ -10,7 +10,7 @@ use lib.ListN.{length, get_or, length-map, get_or-map}
 use Rattle.laws.specs.Gather.{gather}
 use Rattle.model.specs.Theory.{Action, Attach, Unwrap, Validate, Rule, AttributeUnit, Piece, Theory}
 use Rattle.model.specs.Tree.{TreeEvent, start, text, end, Items, Tree, events_then, tree_events, still_open, completed, tree_of}
-use Rattle.model.specs.Sections.{Tags, Content, empty, own_text, ownElement, slot, attribute_sections, size, divide_tree}
+use Rattle.model.specs.Sections.{Tags, Content, empty, own_text, own_element, slot, attribute_sections, size, divide_tree}
 use Rattle.model.specs.Stream as stream
 use Rattle.model.specs.Stream.{Level, State, Entry, take_rules, after, fresh, reached, by_rule, stay}
 use Rattle.model.specs.Model.{WholeUnit, marked, attribute_units_from, attribute_pieces, Strand, Assigned, assigned_at, before_root, along, enter, attributes_of, assign, assigned_of}
@@ -199,7 +199,7 @@ module _ (Θ : Theory) where
       → given_from (level κ ss ∷ ls) (events_then Θ (erase Θ c) es) ≡ map given (assign Θ c ss) ++ given_from (level κ ss ∷ ls) es
   spread empty κ i n d ss ls es = refl
   spread (own_text k τ rest) κ i n d ss ls es = both (modes_of ss) [] [] _ _ refl (spread rest κ (suc k) n d.1 ss ls es)
-  spread (ownElement e inner rest) κ i n d ss ls es =
+  spread (own_element e inner rest) κ i n d ss ls es =
       rw d.1 (both (modes_of ss) _ _ _ _ (new_units_lem e d.4.1 ss)
       (parts (assign Θ inner ss) _ (assign Θ rest ss) _ _ (given_from (level κ ss ∷ ls) es)
       (spread inner (Θ.kept_of e.start) (suc e.start_at) e.end_at d.2 ss (level κ ss ∷ ls) (end e.end ∷ events_then Θ (erase Θ rest) es))
@@ -217,7 +217,7 @@ module _ (Θ : Theory) where
       (t ≡ record { root_start = e.start; inside = erase Θ inner; root_end = e.end }) × (rest ≡ empty) × Divided Θ (Θ.kept_of e.start) 1 (suc (size Θ t.inside)) inner × (e.sections ≡ attribute_sections Θ e.start)
   Rooted t empty = ⊥
   Rooted t (own_text k τ rest) = ⊥
-  Rooted t (ownElement e inner rest) = ⊥
+  Rooted t (own_element e inner rest) = ⊥
 
   rooted : (t : Tree Θ) → Rooted t (divide_tree Θ t)
   rooted t = (ap (λ (x : Items Θ). record { root_start = t.root_start; inside = x; root_end = t.root_end }) (sym (erase_divide Θ (Θ.kept_of t.root_start) 1 t.inside)), refl, divided Θ (Θ.kept_of t.root_start) 1 (suc (size Θ t.inside)) t.inside (omega arith), refl)
@@ -225,7 +225,7 @@ module _ (Θ : Theory) where
   document_given : (t : Tree Θ) (c : Content Θ) → Rooted t c → given_from [] (tree_events Θ t) ≡ map given (assign Θ c (before_root Θ ∷ []))
   document_given t empty r = absurd r
   document_given t (own_text k τ rest) r = absurd r
-  document_given t (ownElement e inner rest) r = absurd r
+  document_given t (own_element e inner rest) r = absurd r
   document_given t (slot e inner rest) r =
       let new : List (Strand Θ.Body) = enter Θ e inner (before_root Θ ∷ []) in
       ap (λ (x : Tree Θ). given_from [] (tree_events Θ x)) r.0

@@ -8,7 +8,7 @@ use Prim.Native.Nat.{ℕ, suc, ◌+◌, ◌≤◌, ◌<◌}
 use native.Mathlib.Omega.{arith}
 use Rattle.laws.specs.Gather.{gather, total}
 use Rattle.model.specs.Theory.{Action, Attach, Unwrap, Validate, Rule, holds, Theory}
-use Rattle.model.specs.Sections.{Tags, Content, empty, own_text, ownElement, slot}
+use Rattle.model.specs.Sections.{Tags, Content, empty, own_text, own_element, slot}
 use Rattle.model.specs.Model.{Marked, WholeUnit, start_pieces, start_of, end_of, filling, unit_of, Strand, assigned_at, along, enter, attributes_of, assign, OneKeeps}
 use Rattle.model.proofs.Lists.{All, all_append, all_weaken, OneAt, one_none, one_weaken, one_gather}
 use Rattle.model.proofs.Events.{at_event, bracket_inside}
@@ -111,10 +111,10 @@ module _ (Θ : Theory) where
                 (λ s h. record { target = h.target; own = h.own; has = λ x a b. h.has x (omega (arith, d.0)) b ∙ text_behind Θ k τ rest h.own s.mode x a })
                 (λ z x a b. z x (omega (arith, d.0)) b) ss o),
           )
-      carried_shown (ownElement e inner rest) κ i n d away ss o =
+      carried_shown (own_element e inner rest) κ i n d away ss o =
           let l = divided_up Θ inner (Θ.kept_of e.start) (suc e.start_at) e.end_at d.2 in
           let up = divided_up Θ rest κ (suc e.end_at) n d.3 in
-          let c : Content Θ = ownElement e inner rest in (
+          let c : Content Θ = own_element e inner rest in (
             held_at c i n i n e.start_at (attributes_of Θ e ss) ss o (omega (arith, d.0)) (omega (arith, l, up)) (other_attributes e ss (away e.start_at (omega (arith, d.0)) (omega (arith, l, up)))),
             all_append (Shown u) (assign Θ inner ss) (assigned_at e.end_at [] ss ∷ assign Θ rest ss)
                 (carried_shown inner (Θ.kept_of e.start) (suc e.start_at) e.end_at d.2 (λ x a b. away x (omega (arith, d.0)) (omega (arith, up))) ss

@@ -5,7 +5,7 @@ use mathlib.Core.List.{List, [], ◌∷◌, ◌++◌, map}
 use Prim.Native.Nat.{ℕ}
 use Rattle.laws.specs.Gather.{gather}
 use Rattle.model.specs.Theory.{Action, Attach, Unwrap, Validate, Rule, Piece, opens, holds, Record, Theory}
-use Rattle.model.specs.Sections.{Tags, Content, empty, own_text, ownElement, slot}
+use Rattle.model.specs.Sections.{Tags, Content, empty, own_text, own_element, slot}
 use Rattle.model.specs.Model.{Key, same_key, Marked, marked, kept_bodies, start_of, text_of, end_of, filling, unit_of, units_opened}
 use Rattle.model.specs.Units.{IsHeld, OpensOnce}
 use Rattle.model.proofs.Lists.{All, all_append, all_weaken, all_gather, all_map, every, Distinct}
@@ -42,7 +42,7 @@ module _ (Θ : Theory) where
   filling_held : (c : Content Θ) (own : Bool) (m : ℕ) → All HeldAt (filling Θ c own m)
   filling_held empty own m = tt
   filling_held (own_text i τ rest) own m = all_append HeldAt (cond own (text_of Θ i τ) []) (filling Θ rest own m) (held_cond own (text_of Θ i τ) (tt, tt)) (filling_held rest own m)
-  filling_held (ownElement e inner rest) own m =
+  filling_held (own_element e inner rest) own m =
       let starts : List (Marked Θ.Body) = cond own (start_of Θ e m) [] in
       let ends : List (Marked Θ.Body) = cond own (end_of Θ e) [] in
       all_append HeldAt ((starts ++ filling Θ inner own m) ++ ends) (filling Θ rest own m)

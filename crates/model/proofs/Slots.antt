@@ -6,7 +6,7 @@ use Prim.Native.Nat.{ℕ, suc, ◌+◌, ◌≤◌, ◌<◌}
 use native.Mathlib.Omega.{arith}
 use Rattle.laws.specs.Gather.{gather, total}
 use Rattle.model.specs.Theory.{Action, Attach, Unwrap, Validate, Rule, Piece, opens, holds, Theory}
-use Rattle.model.specs.Sections.{Tags, Content, empty, own_text, ownElement, slot}
+use Rattle.model.specs.Sections.{Tags, Content, empty, own_text, own_element, slot}
 use Rattle.model.specs.Model.{Marked, start_pieces, start_of, text_of, end_of, slot_filling, filling, unit_of, OneKeeps}
 use Rattle.model.proofs.Lists.{All}
 use Rattle.model.proofs.Events.{at_event, Within, within_widen, within_append, within_marked, within_cond, at_first, at_second, bracket, bracket_within}
@@ -59,7 +59,7 @@ module _ (Θ : Theory) where
       within_append i n (cond own (text_of Θ k τ) []) (filling Θ rest own m)
       (within_cond i n own (text_of Θ k τ) (within_marked i n k (omega (arith, d.0)) (omega (arith, up)) (holds (Θ.text_body τ) ∷ [])))
       (within_widen (suc k) n i n (omega (arith, d.0)) (omega arith) (filling Θ rest own m) (filling_within rest κ (suc k) n d.1 own m))
-  filling_within (ownElement e inner rest) κ i n d own m =
+  filling_within (own_element e inner rest) κ i n d own m =
       let l = divided_up Θ inner (Θ.kept_of e.start) (suc e.start_at) e.end_at d.2 in
       let up = divided_up Θ rest κ (suc e.end_at) n d.3 in
       let fs : List (Marked Θ.Body) = filling Θ inner own m in
@@ -99,10 +99,10 @@ module _ (Θ : Theory) where
     abbrev slots : List (Marked Θ.Body)
     slots = gather (λ q. slot_filled e inner q.action q.next) (Θ.element_rules m e.start)
 
-    pub own_here : Divided Θ κ i n (ownElement e inner rest) → (k : ℕ) → k ≤ e.end_at → at_event k (filling Θ (ownElement e inner rest) own m) ≡ at_event k (element_filling own e m fs)
+    pub own_here : Divided Θ κ i n (own_element e inner rest) → (k : ℕ) → k ≤ e.end_at → at_event k (filling Θ (own_element e inner rest) own m) ≡ at_event k (element_filling own e m fs)
     own_here d k l = ap (at_event k) (own_filling own e m fs later) ∙ at_first k (suc e.end_at) n (element_filling own e m fs) later (omega arith) (filling_within rest κ (suc e.end_at) n d.3 own m)
 
-    pub own_behind : Divided Θ κ i n (ownElement e inner rest) → (k : ℕ) → suc e.end_at ≤ k → at_event k (filling Θ (ownElement e inner rest) own m) ≡ at_event k later
+    pub own_behind : Divided Θ κ i n (own_element e inner rest) → (k : ℕ) → suc e.end_at ≤ k → at_event k (filling Θ (own_element e inner rest) own m) ≡ at_event k later
     own_behind d k l = ap (at_event k) (own_filling own e m fs later) ∙ at_second k e.start_at (suc e.end_at) (element_filling own e m fs) later l
         (bracket_within own e.start_at e.end_at (start_pieces Θ m e.start e.attributes) fs (holds (Θ.end_body (Θ.kept_of e.start) e.end) ∷ [])
         (divided_up Θ inner (Θ.kept_of e.start) (suc e.start_at) e.end_at d.2) (filling_within inner (Θ.kept_of e.start) (suc e.start_at) e.end_at d.2 own m))
@@ -145,7 +145,7 @@ module _ (Θ : Theory) where
         (rising_append k (suc k) k (omega arith) (cond own (text_of Θ k τ) []) (filling Θ rest own m)
         (within_cond k (suc k) own (text_of Θ k τ) (within_marked k (suc k) k (omega arith) (omega arith) (holds (Θ.text_body τ) ∷ [])))
         (rising_cond k own (text_of Θ k τ) (rising_marked k (holds (Θ.text_body τ) ∷ []))) (filling_rising rest κ (suc k) n d.1 own m))
-    filling_rising (ownElement e inner rest) κ i n d own m =
+    filling_rising (own_element e inner rest) κ i n d own m =
         let l = divided_up Θ inner (Θ.kept_of e.start) (suc e.start_at) e.end_at d.2 in
         let fs : List (Marked Θ.Body) = filling Θ inner own m in
         let w = filling_within inner (Θ.kept_of e.start) (suc e.start_at) e.end_at d.2 own m in

@@ -9,7 +9,7 @@ use native.Mathlib.Omega.{arith}
 use Rattle.laws.proofs.Members.{all_at, all_by}
 use Rattle.model.specs.Theory.{Rule, Piece, opens, holds, Theory}
 use Rattle.model.specs.Tree.{Tree}
-use Rattle.model.specs.Sections.{Tags, Content, empty, own_text, ownElement, slot, tags_of, size, divide}
+use Rattle.model.specs.Sections.{Tags, Content, empty, own_text, own_element, slot, tags_of, size, divide}
 use Rattle.model.specs.Model.{Marked, WholeUnit, start_pieces, filling, unit_of, Strand, Assigned, assigned_at, before_root, enter, attributes_of, assign, assigned, OneKeeps}
 use Rattle.model.specs.Units.{UnitOf}
 use Rattle.model.proofs.Lists.{In, All, Distinct, all_append, all_weaken, OneAt, one_tagged, Consecutive, consecutive_append}
@@ -28,7 +28,7 @@ module _ (Θ : Theory) where
   in_turn : (c : Content Θ) (κ : Θ.Kept) (i n : ℕ) → Divided Θ κ i n c → (ss : List (Strand Θ.Body)) → Consecutive (λ x. x.event) i n (assign Θ c ss)
   in_turn empty κ i n d ss = d
   in_turn (own_text k τ rest) κ i n d ss = (sym d.0, subst (λ j. Consecutive (λ x. x.event) (suc j) n (assign Θ rest ss)) (sym d.0) (in_turn rest κ (suc k) n d.1 ss))
-  in_turn (ownElement e inner rest) κ i n d ss = (
+  in_turn (own_element e inner rest) κ i n d ss = (
     sym d.0,
     subst (λ j. Consecutive (λ x. x.event) (suc j) n (assign Θ inner ss ++ (assigned_at e.end_at [] ss ∷ assign Θ rest ss))) (sym d.0)
         (consecutive_append (λ x. x.event) (suc e.start_at) e.end_at n (assign Θ inner ss) (assigned_at e.end_at [] ss ∷ assign Θ rest ss) (in_turn inner (Θ.kept_of e.start) (suc e.start_at) e.end_at d.2 ss) (refl, in_turn rest κ (suc e.end_at) n d.3 ss)),
@@ -213,7 +213,7 @@ module _ (Θ : Theory) where
             shown = (shown_nowhere u k [] ss tt (old_other i u (omega (arith, l, x.spans.from)) ss os) (at_before k (suc k) n u.pieces (omega arith) x.spans.within), x.shown);
           })),
         )
-    units (ownElement e inner rest) κ i n d ss dist os P h lift =
+    units (own_element e inner rest) κ i n d ss dist os P h lift =
         let l : i ≤ e.start_at = omega (arith, d.0) in
         let up = divided_up Θ inner (Θ.kept_of e.start) (suc e.start_at) e.end_at d.2 in
         let here : All (ForTarget (Old e.start_at)) ss = old_later i e.start_at l ss os in
