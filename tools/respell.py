@@ -95,6 +95,9 @@ def main(argv):
     for place, lemmas in LEMMAS.items():
         path = ROOT / "crates" / (place + ".antt")
         for lemma in lemmas:
+            definition = re.sub("_(.)", lambda m: m[1].upper(), lemma)
+            if definition not in texts[path]:
+                continue
             texts[path] = WORD.sub(lambda m: lemma + "_lem" if m[0] == lemma else m[0], texts[path])
     names = table(texts)
     back = collections.defaultdict(set)
