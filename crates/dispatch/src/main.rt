@@ -40,8 +40,8 @@ fn dispatch_files(
 ) -> io::Result<()>
     requires { (length scene.old ≤ 65536) × (length out.old ≤ 65536) }
 {
-    let rules_read = read_file(rt, "rules.bin", table);
-    let scene_read = read_file(rt, "scene.xml", scene);
+    let rules_read = read_file(rt, b"rules.bin", table);
+    let scene_read = read_file(rt, b"scene.xml", scene);
     let Loaded::Bytes(n) = rules_read else {
         return Ok(());
     };

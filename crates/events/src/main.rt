@@ -11,7 +11,7 @@ use std::rt::Files;
 
 // What the reader sees of the scene.
 fn show(rt: &(impl Files + Print + Eprint), buffer: &mut [u8]) -> io::Result<()> {
-    let read = read_file(rt, "scene.xml", buffer);
+    let read = read_file(rt, b"scene.xml", buffer);
     let Loaded::Bytes(n) = read else {
         return Ok(());
     };

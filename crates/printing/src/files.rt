@@ -45,14 +45,27 @@ fn load(rt: &(impl Files + Eprint), name: &str, buffer: &mut [u8]) -> io::Result
     Ok(Loaded::Failed)
 }
 
-// The file from the buffer's first byte on. One that the buffer cannot hold is refused.
-pub fn read_file(rt: &(impl Files + Eprint), name: &str, buffer: &mut [u8]) -> Loaded
+// The file of this name; where it cannot be read whole, a message names it.
+fn read_named(rt: &(impl Files + Eprint), name: &str, buffer: &mut [u8]) -> Loaded
     ensures { Within result buffer.new }
 {
     match load(rt, name, buffer) {
         Ok(loaded) => loaded,
         Err(e) => {
             let _ = eprintln!(rt; "{name}: {e}");
+            Loaded::Failed
+        }
+    }
+}
+
+// The file from the buffer's first byte on. One that the buffer cannot hold is refused; so is one whose name is not UTF-8, which std cannot open.
+pub fn read_file(rt: &(impl Files + Eprint), name: &[u8], buffer: &mut [u8]) -> Loaded
+    ensures { Within result buffer.new }
+{
+    match str::from_utf8(name) {
+        Ok(text) => read_named(rt, text, buffer),
+        Err(_) => {
+            let _ = eprintln!(rt; "a file's name is not UTF-8");
             Loaded::Failed
         }
     }
