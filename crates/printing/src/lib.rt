@@ -5,7 +5,7 @@ pub mod files;
 pub mod lines;
 pub mod rows;
 
-// How many bytes of the buffer the file has; or that it could not be read whole, and then a message names it.
+// How many bytes of the buffer the file has; or that it could not be read whole, and then a message says why.
 #[derive(Clone, Copy)]
 pub enum Loaded {
     Bytes(usize),
