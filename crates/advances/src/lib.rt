@@ -49,9 +49,8 @@ fn judged_steps(
     let mut rows: [u64; 82] = [0; 82];
     let mut head = from;
     let mut used = 0;
-    let mut events = 0;
     let mut records = 0;
-    while events < most {
+    for events in 0..most {
         let turn = judged_step(
             table,
             index,
@@ -82,12 +81,11 @@ fn judged_steps(
         head = last;
         used += 16 * turn.records;
         records += turn.records;
-        events += 1;
     }
     Advanced {
         number: 0,
         place: head.place,
-        events,
+        events: most,
         records,
         head,
     }

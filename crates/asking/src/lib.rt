@@ -9,10 +9,8 @@ ghost use Rattle.sessions.specs.Sessions.{session_at};
 ghost use Rattle.sessions.specs.Coherence.{coherent};
 ghost use Rattle.sessions.specs.Stepping.{answered, plan_of};
 ghost use Rattle.sessions.specs.Turns.{turn_answer, weighed, advanced_in};
-ghost use Rattle.equality.specs.Same.{same_flag};
 ghost use Rattle.equality.specs.Checks.{within_arrays};
 ghost use Rattle.sessions.specs.Asking.{holds_same, ask_answer, step_where};
-ghost use Rattle.sessions.specs.Checks.{same_head};
 
 use advances::{advance_in, none_taken};
 use attributes::HELD;
@@ -84,8 +82,8 @@ pub fn ask_in(
     table: &[u8],
     scene: &[u8],
     head: Head,
-    levels: [u32; LEVELS],
-    bindings: [u32; 4 * BINDINGS],
+    mut levels: [u32; LEVELS],
+    mut bindings: [u32; 4 * BINDINGS],
 ) -> Answer
     ensures { result ≡ ask_answer standard table.now scene.now (session_at head levels bindings) }
 {
@@ -100,27 +98,8 @@ pub fn ask_in(
     if !coherent(table, header, scene, head, &levels, &bindings) {
         return counted(20, 0, 0);
     }
-    let mut behind = levels;
-    let mut bound = bindings;
-    let turn = asked_step(table, header, scene, head, &mut behind, &mut bound);
+    let turn = asked_step(table, header, scene, head, &mut levels, &mut bindings);
     counted(turn.number, turn.place, turn.records)
-}
-
-fn same_flag(a: bool, b: bool) -> bool
-    ensures { result ≡ same_flag a b }
-{
-    if a {
-        return b;
-    }
-    !b
-}
-
-fn same_head(a: Head, b: Head) -> bool
-    ensures { result ≡ same_head a b }
-{
-    let flags = same_flag(a.closed, b.closed) & same_flag(a.awaited, b.awaited);
-    let counts = (a.bound == b.bound) & (a.depth == b.depth);
-    (a.place == b.place) & ((a.units == b.units) & (flags & counts))
 }
 
 // Do two sessions hold the same, of which the first has no more levels, bindings and strands than its arrays have places for?
@@ -134,17 +113,15 @@ pub fn same_session(
 ) -> bool
     ensures { result ≡ (within_arrays head.depth head.bound (level_spaces levels.now) && holds_same (session_at head levels.now bindings.now) (session_at other other_levels.now other_bindings.now)) }
 {
-    if !same_head(head, other) {
-        return false;
-    }
-    same_arrays(
-        head.depth,
-        head.bound,
-        levels,
-        bindings,
-        other_levels,
-        other_bindings,
-    )
+    head == other
+        && same_arrays(
+            head.depth,
+            head.bound,
+            levels,
+            bindings,
+            other_levels,
+            other_bindings,
+        )
 }
 
 // A commit that is no step: 30 behind the numbers that go before it.
@@ -190,7 +167,8 @@ pub fn commit_in(
     ensures levels_unchanged { level_free levels.new ≡ level_free levels.old }
 {
     if same {
-        return advance_in(table, scene, head, levels, bindings, 1, out);
+        advance_in(table, scene, head, levels, bindings, 1, out)
+    } else {
+        withheld(table, scene, head, levels, bindings)
     }
-    withheld(table, scene, head, levels, bindings)
 }

@@ -1,6 +1,6 @@
 -- The attributes of a tag laid down in an array, eight numbers to each.
 --     class-*, placing-*          an attribute's namespace
---     eight_set, given_put        one attribute
+--     given_are                   one attribute
 --     Holding, begin, ..          the loop of `hold`
 --     givens_back, namespaces_back    what was laid is read again
 use Prim.Native.Nat.{ℕ, zero, suc, ◌+◌, ◌*◌, ◌-◌, ◌%◌, ◌^◌, ◌≤◌, ◌<◌}
@@ -9,13 +9,13 @@ use mathlib.Core.List.{List, [], ◌∷◌, ◌++◌, map, append_assoc, append-
 use mathlib.Core.Bool.{Bool, true, false, cond, not}
 use native.Mathlib.Omega.{arith}
 use native.Mathlib.Nat.{add-zero, mod-eq_of_lt}
-use lib.ListN.{length, get_or, set, drop, length-append}
+use lib.ListN.{length, get_or, drop, length-append}
 use lib.Seq.{get_or-append-add}
 use Rattle.laws.specs.Lists.{tabulate, keep}
 use Rattle.laws.specs.Gather.{gather}
 use Rattle.laws.specs.Members.{All}
 use Rattle.laws.specs.Over.{overwrite}
-use Rattle.laws.proofs.Over.{over_none, length_over, over_over, set_over, over_set}
+use Rattle.laws.proofs.Over.{over_none, length_over, over_over}
 use Rattle.laws.proofs.Gather.{gather_none, gather_append}
 use Rattle.laws.proofs.Lists.{tabulate_here, tabulate_done}
 use Rattle.table.specs.Table.{Table}
@@ -51,28 +51,14 @@ module _ (t : Table) (s : List ℕ) where
     placing_xml e = rw (e, class_xml t)
 
 -- ---- one attribute
-pub eight_set : (l : List ℕ) (i a b c d e f g h : ℕ) → i + 8 ≤ length l
-    → set (set (set (set (set (set (set (set l i a) (i + 1) b) (i + 2) c) (i + 3) d) (i + 4) e) (i + 5) f) (i + 6) g) (i + 7) h
-    ≡ overwrite l i (a ∷ b ∷ c ∷ d ∷ e ∷ f ∷ g ∷ h ∷ [])
-eight_set l i a b c d e f g h m =
-    ap (λ (r : List ℕ). set (set (set (set (set (set (set r (i + 1) b) (i + 2) c) (i + 3) d) (i + 4) e) (i + 5) f) (i + 6) g) (i + 7) h) (set_over l i a (omega arith))
-    ∙ ap (λ (r : List ℕ). set (set (set (set (set (set r (i + 2) c) (i + 3) d) (i + 4) e) (i + 5) f) (i + 6) g) (i + 7) h) (over_set l i (a ∷ []) b (omega arith))
-    ∙ ap (λ (r : List ℕ). set (set (set (set (set r (i + 3) d) (i + 4) e) (i + 5) f) (i + 6) g) (i + 7) h) (over_set l i (a ∷ b ∷ []) c (omega arith))
-    ∙ ap (λ (r : List ℕ). set (set (set (set r (i + 4) e) (i + 5) f) (i + 6) g) (i + 7) h) (over_set l i (a ∷ b ∷ c ∷ []) d (omega arith))
-    ∙ ap (λ (r : List ℕ). set (set (set r (i + 5) f) (i + 6) g) (i + 7) h) (over_set l i (a ∷ b ∷ c ∷ d ∷ []) e (omega arith))
-    ∙ ap (λ (r : List ℕ). set (set r (i + 6) g) (i + 7) h) (over_set l i (a ∷ b ∷ c ∷ d ∷ e ∷ []) f (omega arith))
-    ∙ ap (λ (r : List ℕ). set r (i + 7) h) (over_set l i (a ∷ b ∷ c ∷ d ∷ e ∷ f ∷ []) g (omega arith))
-    ∙ over_set l i (a ∷ b ∷ c ∷ d ∷ e ∷ f ∷ g ∷ []) h (omega arith)
-
-pub given_put : (l : List ℕ) (i : ℕ) (a : Attr) (w : Placing) (code : ℕ) (x₀ x₁ x₂ x₃ x₅ x₆ x₇ m n : ℕ) → i + 8 ≤ length l → w.class < 256
+pub given_are : (a : Attr) (w : Placing) (code : ℕ) (x₀ x₁ x₂ x₃ x₄ x₅ x₆ x₇ m n : ℕ) → w.class < 256
     → x₀ ≡ narrowed a.name.part → m ≡ a.name.end - a.name.part → x₁ ≡ narrowed m
     → x₂ ≡ narrowed a.value → n ≡ a.stop - a.value → x₃ ≡ narrowed n
-    → x₅ ≡ narrowed w.at → x₆ ≡ narrowed w.len → x₇ ≡ narrowed code
-    → set (set (set (set (set (set (set (set l i x₀) (i + 1) x₁) (i + 2) x₂) (i + 3) x₃) (i + 4) w.class) (i + 5) x₅) (i + 6) x₆) (i + 7) x₇
-    ≡ overwrite l i (given_numbers (given_by a w code))
-given_put l i a w code x₀ x₁ x₂ x₃ x₅ x₆ x₇ m n h small e₀ em e₁ e₂ en e₃ e₅ e₆ e₇ =
-    let e₄ : w.class % 2 ^ 32 ≡ w.class = mod-eq_of_lt {n = w.class} {m = 2 ^ 32} (omega arith) in
-    rw (e₄, ← em, ← en, ← e₀, ← e₁, ← e₂, ← e₃, ← e₅, ← e₆, ← e₇) (eight_set l i x₀ x₁ x₂ x₃ w.class x₅ x₆ x₇ h)
+    → x₄ ≡ w.class → x₅ ≡ narrowed w.at → x₆ ≡ narrowed w.len → x₇ ≡ narrowed code
+    → x₀ ∷ x₁ ∷ x₂ ∷ x₃ ∷ x₄ ∷ x₅ ∷ x₆ ∷ x₇ ∷ [] ≡ given_numbers (given_by a w code)
+given_are a w code x₀ x₁ x₂ x₃ x₄ x₅ x₆ x₇ m n small e₀ em e₁ e₂ en e₃ e₄ e₅ e₆ e₇ =
+    let few : w.class % 2 ^ 32 ≡ w.class = mod-eq_of_lt {n = w.class} {m = 2 ^ 32} (omega arith) in
+    rw (few, ← e₄, ← em, ← en, ← e₀, ← e₁, ← e₂, ← e₃, ← e₅, ← e₆, ← e₇)
 
 pub eight_long : (gs : List Given) → length (gather given_numbers gs) ≡ 8 * length gs
 unfolding gather

@@ -3,21 +3,22 @@
 --     classes_none, classes_put                 the loop of `put_classes`
 --     classes_laid, classes_kept                an array that has them
 --     Placed, placed-*                          the namespace of what was found
---     code_within, coded_at_lem                     the codes of a tag's attributes
+--     most_is, code_within, coded_at_lem            the codes of a tag's attributes
 --     Holds, begin_holds, turn-*, ended_holds   the loop of `hold`
-use Prim.Native.Nat.{ℕ, zero, suc, ◌+◌, ◌*◌, ◌-◌, ◌%◌, ◌≤◌, ◌<◌}
+use Prim.Native.Nat.{ℕ, zero, suc, min, ◌+◌, ◌*◌, ◌-◌, ◌%◌, ◌≤◌, ◌<◌}
 use mathlib.Core.Path.{◌≡◌, refl, sym, ap, ◌∙◌}
 use mathlib.Core.List.{List, [], ◌∷◌, ◌++◌}
 use mathlib.Core.Bool.{Bool, true, false, cond, not}
-use mathlib.Core.Logic.{◌⊎◌, inl, inr}
+use mathlib.Core.Logic.{◌⊎◌, inl, inr, ⊎_elim}
 use native.Mathlib.Omega.{arith}
 use native.Mathlib.Nat.{add-zero, mod-eq_of_lt, not-suc-le-zero}
 use native.Mathlib.Numerals.{add-one}
-use borrow.Author.Tests.{ltb-true, ltb-false, eqb-true}
+use borrow.Author.Tests.{le-leb, lt-leb, ltb-true, ltb-false, eqb-true}
 use lib.ListN.{length, get_or, set, drop}
 use lib.Dec.{eqb, ltb}
 use Rattle.laws.specs.Lists.{same_list, tabulate}
 use Rattle.laws.specs.Members.{All}
+use Rattle.laws.specs.Reading.{le_or_lt}
 use Rattle.laws.specs.Over.{overwrite}
 use Rattle.laws.proofs.Over.{over_none, length_over, over_set, get_d_over_before, get_d_over_in, get_d_over_after}
 use Rattle.laws.proofs.Lists.{length_tabulate, get_d_tabulate}
@@ -100,9 +101,6 @@ module _ (t : Table) (s l : List ℕ) where
         ∙ ap (λ (c : ℕ). overwrite known₀ (80 + from) (classes_in t s l k ++ (c ∷ []))) ec
         ∙ ap (overwrite known₀ (80 + from)) (sym (classes_more k))
 
-    pub classes_done : (known : List ℕ) (k n : ℕ) → k ≤ n → n ≤ k → known ≡ overwrite known₀ (80 + from) (classes_in t s l k) → known ≡ overwrite known₀ (80 + from) (classes_in t s l n)
-    classes_done known k n lo hi e = let q : k ≡ n = omega arith in e ∙ ap (λ (j : ℕ). overwrite known₀ (80 + from) (classes_in t s l j)) q
-
     -- an array has the classes that were laid down in it
     pub classes_laid : (known : List ℕ) (n : ℕ) → known ≡ overwrite known₀ (80 + from) (classes_in t s l n) → 80 + from + n ≤ length known₀ → ClassesAt t s l n from known
     classes_laid known n e h k hk =
@@ -181,6 +179,10 @@ module _ (own open' : List ℕ) (bound : ℕ) (known : List ℕ) (f : Found) whe
         ∙ ap (λ (g : Found). placing_of (space_of (table_of table header) s (stored_space own open' g))) (sym e)
 
 -- ---- codes
+-- how many attributes a tag's array can have
+pub most_is : (count most : ℕ) → most ≡ min count 16 → most ≡ at_most 16 count
+most_is count most e = ⊎_elim (λ h. rw (le-leb count 16 h) (omega arith)) (λ h. rw (lt-leb count 16 h) (omega arith)) (le_or_lt count 16)
+
 pub code_within : (code : ℕ) → code < 82 → (f : Found) → f ≡ found_in code → Within 16 64 f
 code_within code h f ef = rw ef (by (eqb code 0) (eqb code 1) (ltb code 18) refl)
   where

@@ -43,20 +43,20 @@ module _ (s own open' : List ℕ) (e : Namespace) (code : ℕ) (f : Found) (ef :
   prefixed : not (is_prefixed (namespace_of own open' code)) ≡ b
   prefixed = ap (λ (g : Found). not (is_prefixed (stored.stored_space own open' g))) (sym ef) ∙ sym (nothing_plain own open' f) ∙ sym eb
 
-  pub stays_nothing : b ≡ true → (x : ℕ) → 0 ≡ cond (stays_with s e (namespace_of own open' code)) 0 x
-  stays_nothing h x = rw (prefixed, h)
+  pub stays_nothing : b ≡ true → {A : Type 0} (z x : A) → z ≡ cond (stays_with s e (namespace_of own open' code)) z x
+  stays_nothing h z x = rw (prefixed, h)
 
   module _ (h : b ≡ false) (r : Bool) (er : r ≡ same_namespace s e (stored.stored_space own open' f)) where
     says : stays_with s e (namespace_of own open' code) ≡ r
     says = rw (prefixed, h) (ap (λ (g : Found). same_namespace s e (stored.stored_space own open' g)) (sym ef) ∙ sym er)
 
-    pub stays_same : r ≡ true → (x : ℕ) → 0 ≡ cond (stays_with s e (namespace_of own open' code)) 0 x
-    stays_same q x = rw (says, q)
+    pub stays_same : r ≡ true → {A : Type 0} (z x : A) → z ≡ cond (stays_with s e (namespace_of own open' code)) z x
+    stays_same q z x = rw (says, q)
 
     pub stays_not : r ≡ false → stays_with s e (namespace_of own open' code) ≡ false
     stays_not q = says ∙ q
 
-pub numbered_apart : (t : Bool) (r x y : ℕ) → t ≡ false → r ≡ y → r ≡ cond t x y
+pub numbered_apart : {A : Type 0} (t : Bool) (r x y : A) → t ≡ false → r ≡ y → r ≡ cond t x y
 numbered_apart t r x y h q = rw h q
 
 -- ---- an attribute before it

@@ -16,18 +16,29 @@ use crate::{HELD, Placing};
 use compare::part_of;
 use lexer::Attr;
 use namespaces::spaces::found_in;
-use reader::bindings::{at_most, binding_in};
-use reader::kinds::{is_declaration, kind_of, minus};
+use reader::bindings::binding_in;
+use reader::kinds::{is_declaration, kind_of};
 use reader::{Found, Scope, Span};
 use table::Header;
 use table::uris::class_of;
 use tags::attr_in;
 
-// A number as 32 bits hold it.
+// A number as 32 bits hold it: `as` must lose nothing, so the rest is taken first.
 pub fn narrow(x: usize) -> u32
     ensures { result ≡ x % 2 ^ 32 }
 {
     (x % 4294967296) as u32
+}
+
+// A class without a place.
+fn without_place(class: u8) -> Placing
+    ensures { result ≡ record { class = class; at = 0; len = 0 } }
+{
+    Placing {
+        class,
+        at: 0,
+        len: 0,
+    }
 }
 
 // A class, and for class 255 where its URI stands.
@@ -35,16 +46,13 @@ fn placed(class: u8, uri: Span) -> Placing
     ensures { result ≡ placed_by class uri }
 {
     if class == 255 {
-        return Placing {
+        Placing {
             class,
             at: uri.at,
             len: uri.len,
-        };
-    }
-    Placing {
-        class,
-        at: 0,
-        len: 0,
+        }
+    } else {
+        without_place(class)
     }
 }
 
@@ -72,16 +80,8 @@ pub fn space_of(
         → result ≡ placing_of (elements.space_of (table_of table header) s (stored_space own.now outer.now f)) }
 {
     match f {
-        Found::Nothing => Placing {
-            class: 0,
-            at: 0,
-            len: 0,
-        },
-        Found::Xml => Placing {
-            class: 254,
-            at: 0,
-            len: 0,
-        },
+        Found::Nothing | Found::Unbound => without_place(0),
+        Found::Xml => without_place(254),
         Found::Own(k) => {
             let b = binding_in(own, k);
             placed(known_class(known, bound + k), b.uri)
@@ -90,11 +90,6 @@ pub fn space_of(
             let b = binding_in(outer, k);
             placed(known_class(known, k), b.uri)
         }
-        Found::Unbound => Placing {
-            class: 0,
-            at: 0,
-            len: 0,
-        },
     }
 }
 
@@ -111,30 +106,29 @@ pub fn put_classes(
     requires { from + n ≤ 80 }
     ensures { known.new ≡ overwrite known.old (80 + from) (classes_in (table_of table.now header) s.now bindings.now n) }
 {
-    let all: &mut [u64] = known;
-    let mut k = 0;
-    while k < n {
+    for k in 0..n {
         let b = binding_in(bindings, k);
-        all[80 + from + k] = class_of(table, header, part_of(s, b.uri.at, b.uri.len)) as u64;
-        k += 1;
+        let class = class_of(table, header, part_of(s, b.uri.at, b.uri.len));
+        known[80 + from + k] = u64::from(class);
     }
 }
 
 // Stores the k-th attribute: its eight numbers.
-fn put_given(attributes: &mut [u32], k: usize, a: Attr, space: Placing, code: usize)
-    requires { 8 * k + 8 ≤ length attributes.old }
+fn put_given(attributes: &mut [u32; HELD], k: usize, a: Attr, space: Placing, code: usize)
+    requires { k < 16 }
     ensures { attributes.new ≡ overwrite attributes.old (8 * k) (given_numbers (given_by a space code)) }
 {
-    let at = 8 * k;
     let name = a.name;
-    attributes[at] = narrow(name.part);
-    attributes[at + 1] = narrow(minus(name.end, name.part));
-    attributes[at + 2] = narrow(a.value);
-    attributes[at + 3] = narrow(minus(a.stop, a.value));
-    attributes[at + 4] = space.class as u32;
-    attributes[at + 5] = narrow(space.at);
-    attributes[at + 6] = narrow(space.len);
-    attributes[at + 7] = narrow(code);
+    attributes[8 * k..8 * k + 8].copy_from_slice(&[
+        narrow(name.part),
+        narrow(name.end.saturating_sub(name.part)),
+        narrow(a.value),
+        narrow(a.stop.saturating_sub(a.value)),
+        u32::from(space.class),
+        narrow(space.at),
+        narrow(space.len),
+        narrow(code),
+    ]);
 }
 
 // The attributes that are no declarations, laid down from the array's first place on; how many.
@@ -160,19 +154,15 @@ pub fn hold(
         (result ≡ length gs) × (attributes.new ≡ laid_givens gs attributes.old)
         )) }
 {
-    let all: &mut [u32] = attributes;
-    let most = at_most(16, count);
     let mut n = 0;
-    let mut i = 0;
-    while i < most {
+    for i in 0..count.min(16) {
         let a = attr_in(attrs, i);
         if !is_declaration(kind_of(s, a.name)) {
             let code = codes[i];
             let space = space_of(own, outer, bound, known, found_in(code));
-            put_given(all, n, a, space, code);
+            put_given(attributes, n, a, space, code);
             n += 1;
         }
-        i += 1;
     }
     n
 }
@@ -192,18 +182,10 @@ pub fn hold_plain(attrs: &[usize; 80], count: usize, attributes: &mut [u32; HELD
         × (sections_in attributes.new ≡ overwrite (sections_in attributes.old) 0 (numbers_from s e [] ns))
         )) }
 {
-    let all: &mut [u32] = attributes;
-    let most = at_most(16, count);
-    let none = Placing {
-        class: 0,
-        at: 0,
-        len: 0,
-    };
-    let mut i = 0;
-    while i < most {
-        put_given(all, i, attr_in(attrs, i), none, 0);
-        all[128 + i] = 0;
-        i += 1;
+    let most = count.min(16);
+    for i in 0..most {
+        put_given(attributes, i, attr_in(attrs, i), without_place(0), 0);
+        attributes[128 + i] = 0;
     }
     most
 }

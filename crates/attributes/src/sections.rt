@@ -10,7 +10,7 @@ use namespaces::clashes::same_space;
 use namespaces::spaces::found_in;
 use reader::Found;
 
-// The number of the section of the k-th attribute; 0 where it stays with the element.
+// The number of the section of the k-th attribute, as the array has it: 0 where it stays with the element.
 pub fn section_at(attributes: &[u32; HELD], k: usize) -> u32
     requires { k < 16 }
     ensures { result ≡ get_or (sections_in attributes.now) k 0 }
@@ -23,20 +23,13 @@ fn found_at(attributes: &[u32; HELD], k: usize) -> Found
     requires { k < 16 }
     ensures { result ≡ found_in (given_in (attributes_in attributes.now) k).code }
 {
-    let all: &[u32] = attributes;
-    found_in(all[8 * k + 7] as usize)
+    found_in(attributes[8 * k + 7] as usize)
 }
 
 fn is_nothing(f: Found) -> bool
     ensures { result ≡ is_nothing f }
 {
-    match f {
-        Found::Nothing => true,
-        Found::Xml => false,
-        Found::Own(_) => false,
-        Found::Open(_) => false,
-        Found::Unbound => true,
-    }
+    matches!(f, Found::Nothing | Found::Unbound)
 }
 
 // Is the k-th attribute in a section, and is that the section of this namespace?
@@ -51,13 +44,10 @@ fn in_section(
     requires { k < 16 }
     ensures { result ≡ in_section s.now (stored_space own.now outer.now f) (numbered_in own.now outer.now (attributes_in attributes.now) (sections_in attributes.now) k) }
 {
-    if section_at(attributes, k) == 0 {
-        return false;
-    }
-    same_space(s, own, outer, found_at(attributes, k), f)
+    section_at(attributes, k) != 0 && same_space(s, own, outer, found_at(attributes, k), f)
 }
 
-// The number of the section of the i-th attribute, that of an attribute before it or the next after m; 0 where it stays with the element.
+// The number of the section of the i-th attribute, that of an attribute before it or the next after m; none where it stays with the element.
 fn section_of(
     s: &[u8],
     own: &[u32; 64],
@@ -66,28 +56,23 @@ fn section_of(
     attributes: &[u32; HELD],
     i: usize,
     m: usize,
-) -> usize
+) -> Option<usize>
     requires { (i < 16) × (m ≤ i) }
     ensures { let e = stored_space own.now outer.now element in
         let n = namespace_of own.now outer.now (given_in (attributes_in attributes.now) i).code in
         let before = tabulate (numbered_in own.now outer.now (attributes_in attributes.now) (sections_in attributes.now)) 0 i in
-        result ≡ cond (stays_with s.now e n) 0 (number_among s.now n (m + 1) before) }
+        result ≡ cond (stays_with s.now e n) None (Some (number_among s.now n (m + 1) before)) }
 {
     let f = found_at(attributes, i);
-    if is_nothing(f) {
-        return 0;
+    if is_nothing(f) || same_space(s, own, outer, element, f) {
+        return None;
     }
-    if same_space(s, own, outer, element, f) {
-        return 0;
-    }
-    let mut k = 0;
-    while k < i {
+    for k in 0..i {
         if in_section(s, own, outer, f, attributes, k) {
-            return section_at(attributes, k) as usize;
+            return Some(section_at(attributes, k) as usize);
         }
-        k += 1;
     }
-    m + 1
+    Some(m + 1)
 }
 
 // The number of a section, behind the attributes.
@@ -95,8 +80,7 @@ fn put_section(attributes: &mut [u32; HELD], i: usize, section: usize)
     requires { (i < 16) × (section ≤ 16) }
     ensures { (attributes.new ≡ set attributes.old (128 + i) section) × (length attributes.old ≡ 144) }
 {
-    let all: &mut [u32] = attributes;
-    all[128 + i] = section as u32;
+    attributes[128 + i] = section as u32;
 }
 
 // The section of each of the n attributes, from the first on; how many sections.
@@ -116,14 +100,10 @@ pub fn number_sections(
         × (sections_in attributes.new ≡ overwrite (sections_in attributes.old) 0 (numbers_from s.now e [] ns)) }
 {
     let mut m = 0;
-    let mut i = 0;
-    while i < n {
-        let c = section_of(s, own, outer, element, attributes, i, m);
-        put_section(attributes, i, c);
-        if m < c {
-            m = c;
-        }
-        i += 1;
+    for i in 0..n {
+        let section = section_of(s, own, outer, element, attributes, i, m).unwrap_or(0);
+        put_section(attributes, i, section);
+        m = m.max(section);
     }
     m
 }

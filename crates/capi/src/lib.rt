@@ -11,7 +11,7 @@ ghost use Rattle.uris.specs.Uris.{uri_span_of};
 ghost use Rattle.layout.specs.Layout.{session_size, session_bytes};
 ghost use Rattle.layout.specs.Answers.{answer_numbers, bytes_behind, too_short};
 ghost use Rattle.capi.specs.Calls.{byte_step, byte_advance};
-ghost use Rattle.capi.specs.Sources.{source_number, span_numbers};
+ghost use Rattle.capi.specs.Sources.{span_numbers};
 
 use advances::{advance_in, answer_of};
 use judging::judge;
@@ -19,7 +19,7 @@ use layout::answers::{TOO_SHORT, no_session, tell};
 use layout::storing::{SESSION_SIZE, arrays_in, head_in, holds_session, put_fresh, put_session};
 use strands::LEVELS;
 use table::Answer;
-use uris::{Source, UriSpan, uri_span};
+use uris::{UriSpan, uri_span};
 
 // The rule table judged.
 #[unsafe(no_mangle)]
@@ -151,22 +151,11 @@ pub extern "C" fn calcivorne_advance(
     a.number
 }
 
-// 0 for the table, 1 for the scene.
-fn source_number(source: Source) -> u64
-    ensures { result ≡ source_number source }
-{
-    match source {
-        Source::Table => 0,
-        Source::Scene => 1,
-    }
-}
-
-// The span's three numbers.
+// The span's three numbers: its source, 0 for the table and 1 for the scene, its place and length.
 fn tell_span(u: UriSpan, span: &mut [u64; 3])
     ensures { span.new ≡ span_numbers u }
 {
-    let source = u.source;
-    *span = [source_number(source), u.at as u64, u.len as u64];
+    *span = [u.source as u64, u.at as u64, u.len as u64];
 }
 
 // Where the URI of a record's class and span stands: source, place and length.

@@ -1,4 +1,4 @@
-// The dispatcher's calls as a static library for hosts written in C, C++, Rust or Python: each is that of `capi`. include/calcivorne.h is the manual.
+// The dispatcher's calls as a static library for hosts written in C, C++, Rust or Python: each is that of `capi`. include/calcivorne.h is the manual. A crate is a library or a static library and not both, so that the C interface needs the calls here once more.
 #![tactic(auto)]
 
 ghost use Rattle.std.specs.Prelude.{◌≡◌, cond, length, ltb};

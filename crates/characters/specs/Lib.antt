@@ -1,3 +1,2 @@
 pub mod CanBegin
-pub mod Rows
 pub mod RowExamples

@@ -3,11 +3,10 @@ ghost use Rattle.std.specs.Prelude.{◌≡◌};
 ghost use Rattle.laws.specs.Lists.{any};
 ghost use Rattle.utf8.specs.Sets.{ranges_of};
 ghost use Rattle.utf8.specs.Forms.{meets};
-ghost use Rattle.characters.specs.Rows.{table, first_row, end_row};
 
 use utf8::{Range, Set};
 
-// Productions 4, 4a and 2 of XML 1.0, fifth edition: their alternatives in their order, without the colon.
+// Productions 4, 4a and 2 of XML 1.0, fifth edition: their alternatives in their order, without the colon, as one constant table.
 const RANGES: [Range; 27] = [
     Range {
         first: 0x41,
@@ -119,32 +118,14 @@ const RANGES: [Range; 27] = [
     },
 ];
 
-// The table's rows: those of the definitions, in their order.
-fn rows() -> [Range; 27]
-    ensures { result ≡ table }
-{
-    RANGES
-}
-
-// The first row of a set: NameChar's are those of NameStartChar and then its own.
-fn first_row(set: Set) -> usize
-    ensures { result ≡ first_row set }
+// A set's rows: NameChar's are those of NameStartChar and then its own.
+fn rows_of(set: Set) -> &'static [Range]
+    ensures { result.now ≡ ranges_of set }
 {
     match set {
-        Set::Start => 0,
-        Set::Name => 0,
-        Set::Char => 21,
-    }
-}
-
-// The row behind a set's last.
-fn end_row(set: Set) -> usize
-    ensures { result ≡ end_row set }
-{
-    match set {
-        Set::Start => 15,
-        Set::Name => 21,
-        Set::Char => 27,
+        Set::Start => &RANGES[..15],
+        Set::Name => &RANGES[..21],
+        Set::Char => &RANGES[21..],
     }
 }
 
@@ -152,15 +133,10 @@ fn end_row(set: Set) -> usize
 pub fn has(set: Set, least: u32, most: u32) -> bool
     ensures { result ≡ any (meets least most) (ranges_of set) }
 {
-    let ranges = rows();
-    let end = end_row(set);
-    let mut k = first_row(set);
-    while k < end {
-        let r = ranges[k];
-        if (r.first <= most) & (least <= r.last) {
+    for r in rows_of(set) {
+        if r.first <= most && least <= r.last {
             return true;
         }
-        k += 1;
     }
     false
 }

@@ -1,5 +1,5 @@
 -- A chain of tests joined by &&, of which the code asks one after the other: v is the answer, r what a callee says of the first test t, x the tests behind it.
-use mathlib.Core.Path.{◌≡◌, sym, ◌∙◌}
+use mathlib.Core.Path.{◌≡◌, sym}
 use mathlib.Core.Bool.{Bool, true, false, not, ◌&&◌}
 use Rattle.laws.specs.Tests.{untold, untold'}
 use Rattle.laws.proofs.Flags.{differ}
@@ -19,19 +19,3 @@ module _ (r t x v : Bool) (e : r ≡ t) where
         by : (t : Bool) → t ≡ true → (t && x) ≡ v → x ≡ v
         by true f g = g
         by false f g = absurd (differ (sym f))
-
-  -- a test that must fail
-  module _ (inv : (not t && x) ≡ v) where
-    pub chain_met : r ≡ true → false ≡ v
-    chain_met f = by t (sym e ∙ f) inv
-      where
-        by : (t : Bool) → t ≡ true → (not t && x) ≡ v → false ≡ v
-        by true f g = g
-        by false f g = absurd (differ (sym f))
-
-    pub chain_unmet : r ≡ false → x ≡ v
-    chain_unmet f = by t (sym e ∙ f) inv
-      where
-        by : (t : Bool) → t ≡ false → (not t && x) ≡ v → x ≡ v
-        by true f g = absurd (differ f)
-        by false f g = g

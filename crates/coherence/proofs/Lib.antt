@@ -1,3 +1,4 @@
+pub mod Alls
 pub mod Chain
 pub mod NameChecks
 pub mod CheckTurns

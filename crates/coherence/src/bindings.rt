@@ -15,37 +15,21 @@ use reader::{Binding, Scope, Span};
 fn prefix_fits(scene: &[u8], w: Span) -> bool
     ensures { result ≡ prefix_fits scene.now w }
 {
-    if (w.at == 0) & (w.len == 0) {
-        return true;
-    }
-    is_part(part_of(scene, w.at, w.len))
+    w.at == 0 && w.len == 0 || is_part(part_of(scene, w.at, w.len))
 }
 
 fn binding_fits(scene: &[u8], b: Binding) -> bool
     ensures { result ≡ binding_fits scene.now b }
 {
-    if !inside(scene, b.prefix) {
-        return false;
-    }
-    if !inside(scene, b.uri) {
-        return false;
-    }
-    if refused_binding(scene, b) {
-        return false;
-    }
-    prefix_fits(scene, b.prefix)
+    inside(scene, b.prefix)
+        && inside(scene, b.uri)
+        && !refused_binding(scene, b)
+        && prefix_fits(scene, b.prefix)
 }
 
 // Do the first so many bindings fit?
 pub fn bindings_fit(scene: &[u8], bindings: &[u32; 4 * Scope::BINDINGS], bound: usize) -> bool
     ensures { result ≡ all (binding_fits scene.now) (tabulate (binding_in bindings.now) 0 bound) }
 {
-    let mut k = 0;
-    while k < bound {
-        if !binding_fits(scene, binding_in(bindings, k)) {
-            return false;
-        }
-        k += 1;
-    }
-    true
+    (0..bound).all(|k| binding_fits(scene, binding_in(bindings, k)))
 }

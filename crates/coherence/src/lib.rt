@@ -32,12 +32,14 @@ pub fn arrays_fit(
 ) -> bool
     ensures { result ≡ arrays_fit (table_of table.now header) scene.now units depth bound (level_names levels.now) bindings.now (level_spaces levels.now) (level_strands levels.now) }
 {
-    if !counts_add_up(levels, depth, bound) {
-        return false;
-    }
-    if !bindings_fit(scene, bindings, bound) {
-        return false;
-    }
-    let listed = listed_in(table, header);
-    levels_fit(scene, listed, header.modes, units, levels, depth)
+    counts_add_up(levels, depth, bound)
+        && bindings_fit(scene, bindings, bound)
+        && levels_fit(
+            scene,
+            listed_in(table, header),
+            header.modes,
+            units,
+            levels,
+            depth,
+        )
 }

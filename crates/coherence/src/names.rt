@@ -1,42 +1,35 @@
 // Spans of a scene, and the names that they are to hold.
-ghost use Rattle.std.specs.Prelude.{◌≡◌, ◌<◌, [], ◌∷◌, ◌++◌, length};
+ghost use Rattle.std.specs.Prelude.{◌≡◌, ◌<◌, [], ◌∷◌, ◌++◌, length, Err};
 ghost use Rattle.lexer.specs.Names.{part_end};
 ghost use Rattle.lexer.specs.Whole.{part_to, is_part, is_whole_name};
-ghost use Rattle.lexer.specs.declared.Read.TheVariants as read;
 ghost use Rattle.lexer.specs.declared.Stop.TheVariants.{Cut};
 ghost use Rattle.coherence.specs.Fitting.{span_inside};
 ghost use Rattle.coherence.specs.Checks.{name_fits};
 
 use characters::forms::{fresh_form, next_form};
 use compare::part_of;
+use lexer::Stop;
 use lexer::names::part_end;
-use lexer::{Read, Stop};
 use reader::Span;
 
 // Does the span lie inside the scene?
 pub fn inside(scene: &[u8], w: Span) -> bool
     ensures { result ≡ span_inside scene.now w }
 {
-    if scene.len() < w.len {
-        return false;
-    }
-    w.at <= scene.len() - w.len
+    w.len <= scene.len() && w.at <= scene.len() - w.len
 }
 
 // Does a character end where the bytes do, of which a part from a place on is cut by their end?
 fn ends_whole(name: &[u8], at: usize) -> bool
-    requires { (at < length name.now) × (part_end name.now at ≡ read.Stopped Cut) }
+    requires { (at < length name.now) × (part_end name.now at ≡ Err Cut) }
     ensures { result ≡ part_to (length name.now) (part_end (name.now ++ (0 ∷ [])) at) }
 {
-    let len = name.len();
-    if name[len - 1] < 0x80 {
+    if name[name.len() - 1] < 0x80 {
         return true;
     }
     let mut f = fresh_form();
-    let mut i = at;
-    while i < len {
-        f = next_form(f, name[i]);
-        i += 1;
+    for b in &name[at..] {
+        f = next_form(f, *b);
         if f.left == 0 {
             f = fresh_form();
         }
@@ -52,12 +45,10 @@ fn ends_as_part(name: &[u8], at: usize) -> bool
         return false;
     }
     match part_end(name, at) {
-        Read::End(_) => false,
-        Read::Stopped(x) => match x {
-            Stop::Bad(_) => false,
-            Stop::Long(_) => false,
-            Stop::Cut => ends_whole(name, at),
-        },
+        Ok(_) => false,
+        Err(Stop::Bad(_)) => false,
+        Err(Stop::Long(_)) => false,
+        Err(Stop::Cut) => ends_whole(name, at),
     }
 }
 
@@ -73,27 +64,13 @@ fn is_whole_name(name: &[u8]) -> bool
     ensures { result ≡ is_whole_name name.now }
 {
     match part_end(name, 0) {
-        Read::End(j) => {
-            if name.len() <= j {
-                return false;
-            }
-            if name[j] == b':' {
-                return ends_as_part(name, j + 1);
-            }
-            false
-        }
-        Read::Stopped(_) => is_part(name),
+        Ok(j) => name[j] == b':' && ends_as_part(name, j + 1),
+        Err(_) => is_part(name),
     }
 }
 
 pub fn name_fits(scene: &[u8], w: Span) -> bool
     ensures { result ≡ name_fits scene.now w }
 {
-    if !inside(scene, w) {
-        return false;
-    }
-    if w.at == 0 {
-        return false;
-    }
-    is_whole_name(part_of(scene, w.at, w.len))
+    inside(scene, w) && w.at != 0 && is_whole_name(part_of(scene, w.at, w.len))
 }

@@ -1,16 +1,16 @@
--- `same_list` an index at a time, and what it says of two lists.
---     unequal, differ, agree, done      the ways of the loop that compares
+-- `same_list`, and what it says of two lists.
+--     unequal, same_pairs               lists of two lengths; and what `==` answers
 --     same_refl, same_eq, same_sym      it is equality
-use Prim.Native.Nat.{ℕ, suc, ◌+◌, ◌≤◌, ◌<◌}
+use Prim.Native.Nat.{ℕ, suc}
 use mathlib.Core.Path.{◌≡◌, refl, sym, ap, ◌∙◌}
 use mathlib.Core.List.{List, [], ◌∷◌}
 use mathlib.Core.Bool.{Bool, true, false, ◌&&◌, and-false}
 use native.Mathlib.Omega.{arith}
-use borrow.Author.Tests.{eq-eqb, ne_eqb, eqb-true}
-use lib.ListN.{length, get_or, drop}
+use borrow.Author.Tests.{eq-eqb, eqb-true}
+use lib.ListN.{length}
 use lib.Dec.{eqb}
+use lib.Pointwise.{pointwise}
 use Rattle.laws.specs.Lists.{same_list}
-use Rattle.laws.specs.Reading.{drop_here, drop_out}
 
 -- lists of two lengths differ
 pub unequal : (x y : List ℕ) → (length x ≡ length y → ⊥) → false ≡ same_list x y
@@ -20,19 +20,13 @@ unequal [] (y ∷ t) n = refl
 unequal (x ∷ s) [] n = refl
 unequal (x ∷ s) (y ∷ t) n = simp (← unequal s t (λ e. n (ap suc e)), and-false)
 
--- two lists of n bytes; what is left to compare from k on is v
-module _ (a b : List ℕ) (n k : ℕ) (v : Bool) (ea : n ≡ length a) (eb : length a ≡ length b) (inv : same_list (drop k a) (drop k b) ≡ v) where
-  pub differ : k < n → (get_or a k 0 ≡ get_or b k 0 → ⊥) → false ≡ v
-  unfolding same_list
-  differ l h = simp (← inv, drop_here a k (omega arith), drop_here b k (omega arith), ne_eqb _ _ h)
-
-  pub agree : k < n → get_or a k 0 ≡ get_or b k 0 → same_list (drop (k + 1) a) (drop (k + 1) b) ≡ v
-  unfolding same_list
-  agree l h = simp (← inv, drop_here a k (omega arith), drop_here b k (omega arith), eq-eqb _ _ h)
-
-  pub done : n ≤ k → true ≡ v
-  unfolding same_list
-  done l = simp (← inv, drop_out a k (omega arith), drop_out b k (omega arith))
+-- what `==` answers of two slices
+pub same_pairs : (x y : List ℕ) → pointwise eqb x y ≡ same_list x y
+unfolding same_list
+same_pairs [] [] = refl
+same_pairs [] (y ∷ t) = refl
+same_pairs (x ∷ s) [] = refl
+same_pairs (x ∷ s) (y ∷ t) = ap (λ (b : Bool). eqb x y && b) (same_pairs s t)
 
 pub same_refl : (x : List ℕ) → same_list x x ≡ true
 unfolding same_list

@@ -1,5 +1,5 @@
 -- What `part_of` hands back is `span_of`, and where it stands is `span_start`, at each of its ends.
-use Prim.Native.Nat.{ℕ, ◌+◌, ◌-◌, ◌≤◌, ◌<◌}
+use Prim.Native.Nat.{ℕ, ◌+◌, ◌-◌, ◌≤◌, ◌<◌, min}
 use mathlib.Core.Path.{◌≡◌, sym, ap, ◌∙◌}
 use mathlib.Core.List.{List, []}
 use native.Mathlib.Omega.{arith}
@@ -7,20 +7,23 @@ use native.Mathlib.Nat.{add-sub_cancel_left}
 use borrow.Author.Tests.{le-leb, lt-leb}
 use denote.Ref.{Bor}
 use lib.ListN.{length, take, drop, drop_of_length-le, length-drop}
-use lib.Seq.{take_all, take-nil}
+use lib.Seq.{take-nil}
+use Rattle.std.proofs.lemmas.List.{take_min}
 use Rattle.compare.specs.Compare.{span_of, span_start, place_in}
 
 module _ (s : List ℕ) (at n : ℕ) where
   pub past : length s ≤ at → [] ≡ span_of s at n
   past h = sym (ap (take n) (drop_of_length-le s h) ∙ take-nil n)
 
-  pub rest : length s - at ≤ n → take (length s - at) (drop at s) ≡ span_of s at n
-  rest h =
-      take_all (length s - at) (drop at s) (omega (arith, length-drop at s))
-      ∙ sym (take_all n (drop at s) (omega (arith, length-drop at s)))
-
   pub within : take (at + n - at) (drop at s) ≡ span_of s at n
   within = ap (λ (k : ℕ). take k (drop at s)) (add-sub_cancel_left at n)
+
+  -- of n bytes and those that there are the fewer
+  pub fewer : take (at + min n (length s - at) - at) (drop at s) ≡ span_of s at n
+  fewer =
+      ap (λ (k : ℕ). take k (drop at s)) (add-sub_cancel_left at (min n (length s - at)))
+      ∙ ap (λ (k : ℕ). take (min n k) (drop at s)) (sym (length-drop at s))
+      ∙ take_min n (drop at s)
 
 -- ---- where the part stands
 module _ (s : Bor (List ℕ)) (at : ℕ) where

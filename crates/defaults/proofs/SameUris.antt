@@ -7,19 +7,19 @@ use mathlib.Core.Path.{◌≡◌, refl, sym, ap, ap₂, ◌∙◌}
 use mathlib.Core.List.{List, [], ◌∷◌, map}
 use mathlib.Core.Bool.{Bool, true, false, cond, ◌&&◌}
 use native.Mathlib.Omega.{arith}
-use borrow.Author.Tests.{leb-true, lt-ltb}
-use lib.ListN.{length, drop, get_or, length-map}
-use lib.Dec.{eqb, leb}
-use Rattle.laws.proofs.Flags.{and_left, and_right}
+use lib.ListN.{length, drop, get_or}
+use lib.Dec.{eqb, leb, ltb}
+use Rattle.std.specs.Prelude.{Option, Some, None, slice_get, option_map}
+use Rattle.std.proofs.lemmas.Option.{slice_get-map}
 use Rattle.compare.specs.Compare.{span_of}
 use Rattle.table.specs.Table.{header_of, uris_of}
 use Rattle.table.specs.Judge.{Accepted}
 use Rattle.table.specs.Places.{placed, places_from, places_of, place_of}
 use Rattle.table.specs.declared.Header.{Header}
 use Rattle.table.specs.declared.Listed.{Listed}
-use Rattle.table.proofs.Accepted.{all_listed}
-use Rattle.table.proofs.Namespaces.{span_at, spans, span_of_lem}
-use Rattle.uris.specs.Uris.{stands, uri_span_of, slice_of, uri_part}
+use Rattle.table.proofs.Walk.{none_some}
+use Rattle.table.proofs.Namespaces.{place_listed, span_of_lem, listed_some}
+use Rattle.uris.specs.Uris.{stands, in_table, uri_span_of, slice_of, uri_part}
 use Rattle.uris.specs.declared.UriSpan.{UriSpan}
 use Rattle.uris.specs.declared.Source.TheVariants.{Table, Scene}
 use Rattle.defaults.specs.Former.{added_words, Suffices, with_any, later}
@@ -43,50 +43,46 @@ places_later (suc n) p k (b ∷ l) = by (leb b (length l)) (places_later n (p + 
         ap₂ (λ (i j : ℕ). placed i b ∷ places_from n j (drop b l)) e f ∙ ap (λ (qs : List Listed). placed (p + 1 + k) b ∷ qs) ih
     by false ih = refl
 
-get_d_moved : (f : Listed → Listed) (l : List Listed) (i : ℕ) (d : Listed) → i < length l → get_or (map f l) i d ≡ f (get_or l i d)
-get_d_moved f [] i d h = absurd (omega arith)
-get_d_moved f (q ∷ l) zero d h = refl
-get_d_moved f (q ∷ l) (suc i) d h = get_d_moved f l i d (omega arith)
-
--- where a URI stands, by the tests for a listed class and for a span inside the scene
-abbrev span_by : Bool → Bool → Listed → ℕ → ℕ → UriSpan
-span_by listed inside q at len = cond listed (stands Table q.at q.len) (cond inside (stands Scene at len) (stands Scene 0 0))
+-- where a URI stands that is not listed, by the test for a span inside the scene
+abbrev span_by : Bool → ℕ → ℕ → UriSpan
+span_by inside at len = cond inside (stands Scene at len) (stands Scene 0 0)
 
 module _ (s : List ℕ) (class at len : ℕ) where
   abbrev inside : Bool
   inside = eqb class 255 && leb (at + len) (length s)
 
-  accepted_span : (t : List ℕ) → Accepted t ≡ true → uri_span_of t s class at len ≡ span_by (leb 1 class && leb class (header_of t).namespaces) inside (place_of t (header_of t) class) at len
+  accepted_span : (t : List ℕ) → Accepted t ≡ true → uri_span_of t s class at len ≡ in_table (place_of t (header_of t) class) (span_by inside at len)
   unfolding uri_span_of
   accepted_span t a = rw a
 
 -- tables with the same URIs
 module _ (u t : List ℕ) (b : Accepted u ≡ true) (a : Accepted t ≡ true) (same : uris_of u (header_of u) ≡ uris_of t (header_of t)) where
-  as_listed : (header_of u).namespaces ≡ (header_of t).namespaces
-  as_listed = sym (all_listed u b) ∙ ap length same ∙ all_listed t a
-
-  same_span : (class : ℕ) → 1 ≤ class → span_at u (place_of u (header_of u) class) ≡ span_at t (place_of t (header_of t) class)
-  same_span class some =
-      let e : class ≡ suc (class - 1) = omega (arith, some) in
-      ap (λ (c : ℕ). span_at u (place_of u (header_of u) c)) e
-      ∙ span_of_lem u (header_of u) (class - 1)
-      ∙ ap (λ (us : List (List ℕ)). get_or us (class - 1) []) same
-      ∙ sym (ap (λ (c : ℕ). span_at t (place_of t (header_of t) c)) e ∙ span_of_lem t (header_of t) (class - 1))
-
   pub same_part : (s : List ℕ) (class at len : ℕ) → uri_part u s class at len ≡ uri_part t s class at len
   unfolding uri_part
   same_part s class at len =
-      ap (part u) (accepted_span s class at len u b ∙ ap (λ (n : ℕ). span_by (leb 1 class && leb class n) (inside s class at len) (place_of u (header_of u) class) at len) as_listed)
-      ∙ by (leb 1 class && leb class (header_of t).namespaces) (inside s class at len) refl
+      ap (part u) (accepted_span s class at len u b)
+      ∙ by (place_of u (header_of u) class) refl (place_of t (header_of t) class) refl
       ∙ ap (part t) (sym (accepted_span s class at len t a))
     where
       part : List ℕ → UriSpan → List ℕ
       part v w = span_of (slice_of v s w.source) w.at w.len
 
-      by : (l c : Bool) → (leb 1 class && leb class (header_of t).namespaces) ≡ l → part u (span_by l c (place_of u (header_of u) class) at len) ≡ part t (span_by l c (place_of t (header_of t) class) at len)
-      by true c e = same_span class (leb-true 1 class (and_left (leb 1 class) (leb class (header_of t).namespaces) e))
-      by false true e = refl
-      by false false e = refl
+      one_listed : (v w : List ℕ) → uris_of v (header_of v) ≡ uris_of w (header_of w) → (q : Listed) → Some q ≡ place_of v (header_of v) class → None ≡ place_of w (header_of w) class → ⊥
+      one_listed v w e q f g =
+          let l = place_listed v (header_of v) class q f in
+          none_some (g ∙ sym (listed_some w (header_of w) class l.0 (omega (arith, l.1, ap length e))))
+
+      else_same : (c : Bool) → part u (span_by c at len) ≡ part t (span_by c at len)
+      else_same true = refl
+      else_same false = refl
+
+      by : (o : Option Listed) → o ≡ place_of u (header_of u) class → (p : Option Listed) → p ≡ place_of t (header_of t) class
+          → part u (in_table o (span_by (inside s class at len) at len)) ≡ part t (in_table p (span_by (inside s class at len) at len))
+      by (Some q) e (Some r) f =
+          span_of_lem u (header_of u) class q e ∙ ap (λ (us : List (List ℕ)). get_or us (class - 1) []) same ∙ sym (span_of_lem t (header_of t) class r f)
+      by (Some q) e None f = absurd (one_listed u t same q e f)
+      by None e (Some r) f = absurd (one_listed t u (sym same) r f e)
+      by None e None f = else_same (inside s class at len)
 
 module _ (t : List ℕ) (a : Accepted t ≡ true) (enough : Suffices t) where
   abbrev h : Header
@@ -105,38 +101,26 @@ module _ (t : List ℕ) (a : Accepted t ≡ true) (enough : Suffices t) where
       ∙ ap₂ (places_from h.namespaces) e (behind_more t a)
       ∙ places_later h.namespaces (4 + 4 * h.rules) n (drop (4 + 4 * h.rules) t)
 
-  as_many : length (places_of t h) ≡ h.namespaces
-  as_many = sym (length-map (places_of t h) (λ (q : Listed). span_of t q.at q.len)) ∙ ap length (spans t h) ∙ all_listed t a
-
-  module _ (class : ℕ) (l : (leb 1 class && leb class h.namespaces) ≡ true) where
-    some : 1 ≤ class
-    some = leb-true 1 class (and_left (leb 1 class) (leb class h.namespaces) l)
-
-    few : class ≤ h.namespaces
-    few = leb-true class h.namespaces (and_right (leb 1 class) (leb class h.namespaces) l)
-
-    place_more : place_of (with_any t) g class ≡ moved n (place_of t h class)
-    unfolding place_of
-    place_more =
-        rw (lt-ltb 0 class some)
-        (ap (λ (qs : List Listed). get_or qs (class - 1) (placed 0 0)) places_more ∙ get_d_moved (moved n) (places_of t h) (class - 1) (placed 0 0) (omega (arith, as_many, some, few)))
+  place_more : (class : ℕ) → place_of (with_any t) g class ≡ option_map (moved n) (place_of t h class)
+  unfolding place_of
+  place_more class = ap (λ (qs : List Listed). cond (ltb 0 class) (slice_get qs (class - 1)) None) places_more ∙ by (ltb 0 class)
+    where
+      by : (b : Bool) → cond b (slice_get (map (moved n) (places_of t h)) (class - 1)) None ≡ option_map (moved n) (cond b (slice_get (places_of t h) (class - 1)) None)
+      by true = slice_get-map (moved n) (places_of t h) (class - 1)
+      by false = refl
 
   module _ (s : List ℕ) (class at len : ℕ) where
-    abbrev listed : Bool
-    listed = leb 1 class && leb class h.namespaces
-
-    span_by_lem : uri_span_of (with_any t) s class at len ≡ span_by listed (inside s class at len) (place_of (with_any t) g class) at len
-    span_by_lem =
-        accepted_span s class at len (with_any t) (accepted_more t a enough)
-        ∙ ap (λ (x : Header). span_by (leb 1 class && leb class x.namespaces) (inside s class at len) (place_of (with_any t) g class) at len) (header_more t a)
-
     pub uri_later : uri_span_of (with_any t) s class at len ≡ later (4 * length (added_words t)) (uri_span_of t s class at len)
-    uri_later = span_by_lem ∙ by listed (inside s class at len) refl ∙ ap (later n) (sym (accepted_span s class at len t a))
+    uri_later =
+        accepted_span s class at len (with_any t) (accepted_more t a enough)
+        ∙ ap (λ (o : Option Listed). in_table o (span_by (inside s class at len) at len)) (place_more class)
+        ∙ by (place_of t h class) (inside s class at len)
+        ∙ ap (later n) (sym (accepted_span s class at len t a))
       where
-        by : (b c : Bool) → listed ≡ b → span_by b c (place_of (with_any t) g class) at len ≡ later n (span_by b c (place_of t h class) at len)
-        by true c e = ap (λ (q : Listed). stands Table q.at q.len) (place_more class e)
-        by false true e = refl
-        by false false e = refl
+        by : (o : Option Listed) (c : Bool) → in_table (option_map (moved n) o) (span_by c at len) ≡ later n (in_table o (span_by c at len))
+        by (Some q) c = refl
+        by None true = refl
+        by None false = refl
 
     pub uri_same : uri_part (with_any t) s class at len ≡ uri_part t s class at len
     uri_same = same_part (with_any t) t (accepted_more t a enough) a (uris_more t a) s class at len

@@ -2,6 +2,7 @@
 --     next_up_to                      an event but a text is read from the bytes up to its end
 --     Before, up_to                   sound in the bytes up to the session's place, and so up to any place behind it
 --     before_more, before_step        in a longer scene; one event more
+use Rattle.std.specs.Prelude.{Ok, Err}
 use Prim.Native.Nat.{ℕ, ◌+◌, ◌≤◌, ◌<◌}
 use mathlib.Core.Path.{◌≡◌, sym, ap, subst, ◌∙◌}
 use mathlib.Core.List.{List, [], ◌∷◌, ◌++◌}
@@ -19,14 +20,8 @@ use Rattle.table.specs.Judge.{Accepted}
 use Rattle.lexer.specs.Values.{text_end}
 use Rattle.lexer.specs.Tags.{TagRead, tag_at, end_tag_at}
 use Rattle.lexer.specs.Begins.{begin_at}
-use Rattle.lexer.specs.declared.Read.{Read}
-use Rattle.lexer.specs.declared.Read.TheVariants as read
+use Rattle.lexer.specs.Reads.{Read, Tagged, Ended, BeginRead}
 use Rattle.lexer.specs.declared.Tag.{Tag}
-use Rattle.lexer.specs.declared.Tagged.{Tagged}
-use Rattle.lexer.specs.declared.Tagged.TheVariants as tagged
-use Rattle.lexer.specs.declared.Ended.{Ended}
-use Rattle.lexer.specs.declared.Ended.TheVariants as ended
-use Rattle.lexer.specs.declared.Begin.{Begin}
 use Rattle.lexer.specs.declared.Begin.TheVariants as begin
 use Rattle.reader.specs.Spans.{bytes_of, whole_span}
 use Rattle.reader.specs.Namespaces.{Meaning, refused, meant, meaning_of}
@@ -73,18 +68,18 @@ module _ (s t : List ℕ) (z : ReaderState) where
 
   text_past : (at : ℕ) (r : Read) → P (text_read (s ++ t) z at r)
   unfolding P
-  text_past at (read.End j) = tt
-  text_past at (read.Stopped x) = tt
+  text_past at (Ok j) = tt
+  text_past at (Err x) = tt
 
   ended_past : (at : ℕ) (o : Open) (os : List Open) (r : Ended) → LateEnded need (length s) r → P (end_read (s ++ t) at (o ∷ os) r)
   unfolding P
-  ended_past at o os (ended.Stopped x) l = tt
-  ended_past at o os (ended.Got e) l = holds_cond P (same_list (bytes_of (s ++ t) (whole_span e.name)) (bytes_of (s ++ t) o.name)) (λ q. l) (λ q. tt)
+  ended_past at o os (Err x) l = tt
+  ended_past at o os (Ok e) l = holds_cond P (same_list (bytes_of (s ++ t) (whole_span e.name)) (bytes_of (s ++ t) o.name)) (λ q. l) (λ q. tt)
 
   tagged_past : (at : ℕ) (os : List Open) (r : TagRead) (a : Tagged) → LateTagged need (length s) a → P (start_read (s ++ t) at os r a)
   unfolding P
-  tagged_past at os r (tagged.Stopped x) l = tt
-  tagged_past at os r (tagged.Got e) l = by (meaning_of (s ++ t) (bindings_of os) e.name r.attrs)
+  tagged_past at os r (Err x) l = tt
+  tagged_past at os r (Ok e) l = by (meaning_of (s ++ t) (bindings_of os) e.name r.attrs)
     where
       by : (m : Meaning) → P (start_meant at os e m)
       by (refused n) = tt
@@ -98,8 +93,8 @@ module _ (s t : List ℕ) (z : ReaderState) where
       ⊎_elim (λ e. subst (λ (r : Ended). P (end_read (s ++ t) at (o ∷ os) r)) (sym e) (same (end_tag_at s (at + 2)) c)) (ended_past at o os (end_tag_at (s ++ t) (at + 2))) (end_tag_ext need s t targets (at + 2))
     where
       same : (r : Ended) → OpenNext (end_read s at (o ∷ os) r) → P (end_read (s ++ t) at (o ∷ os) r)
-      same (ended.Stopped x) c = tt
-      same (ended.Got e) c = absurd (holds_cond (λ (n : Next). OpenNext n → ⊥) (same_list (bytes_of s (whole_span e.name)) (bytes_of s o.name)) (λ q c. c) (λ q c. omega arith) c)
+      same (Err x) c = tt
+      same (Ok e) c = absurd (holds_cond (λ (n : Next). OpenNext n → ⊥) (same_list (bytes_of s (whole_span e.name)) (bytes_of s o.name)) (λ q c. c) (λ q c. omega arith) c)
 
   start_past : (at : ℕ) (os : List Open) → OpenNext (start_read s at os (tag_at s (at + 1)) (tag_at s (at + 1)).answer) → P (start_read (s ++ t) at os (tag_at (s ++ t) (at + 1)) (tag_at (s ++ t) (at + 1)).answer)
   unfolding P
@@ -113,33 +108,33 @@ module _ (s t : List ℕ) (z : ReaderState) where
       never e (meant x as' own) k c = c
 
       same : (r : TagRead) (a : Tagged) → OpenNext (start_read s at os r a) → P (start_read (s ++ t) at os r a)
-      same r (tagged.Stopped x) c = tt
-      same r (tagged.Got e) c = absurd (never e (meaning_of s (bindings_of os) e.name r.attrs) (meaning_number s (bindings_of os) e.name r.attrs) c)
+      same r (Err x) c = tt
+      same r (Ok e) c = absurd (never e (meaning_of s (bindings_of os) e.name r.attrs) (meaning_number s (bindings_of os) e.name r.attrs) c)
 
   begun_past : (inside : Bool) → OpenNext (read_at s z (begin_at s z.place inside z.closed)) → P (read_at (s ++ t) z (begin_at (s ++ t) z.place inside z.closed))
   unfolding P
   begun_past inside c =
-      ⊎_elim (λ e. subst (λ (b : Begin). P (read_at (s ++ t) z b)) (sym e) (same (begin_at s z.place inside z.closed) c))
+      ⊎_elim (λ e. subst (λ (b : BeginRead). P (read_at (s ++ t) z b)) (sym e) (same (begin_at s z.place inside z.closed) c))
       (late (begin_at (s ++ t) z.place inside z.closed))
       (begin_ext need s t targets z.place inside z.closed)
     where
-      same : (b : Begin) → OpenNext (read_at s z b) → P (read_at (s ++ t) z b)
-      same (begin.Stopped x) c = tt
-      same begin.Finished c = tt
-      same (begin.Text at) c = text_past at (text_end (s ++ t) at)
-      same (begin.End at) c = end_past at z.opened c
-      same (begin.Start at) c = start_past at z.opened c
+      same : (b : BeginRead) → OpenNext (read_at s z b) → P (read_at (s ++ t) z b)
+      same (Err x) c = tt
+      same (Ok begin.Finished) c = tt
+      same (Ok (begin.Text at)) c = text_past at (text_end (s ++ t) at)
+      same (Ok (begin.End at)) c = end_past at z.opened c
+      same (Ok (begin.Start at)) c = start_past at z.opened c
 
       ends : (at : ℕ) (os : List Open) → LateEnded need (length s) (end_tag_at (s ++ t) (at + 2)) → P (end_read (s ++ t) at os (end_tag_at (s ++ t) (at + 2)))
       ends at [] l = tt
       ends at (o ∷ os) l = ended_past at o os (end_tag_at (s ++ t) (at + 2)) l
 
-      late : (b : Begin) → LateBegin need (length s) b → P (read_at (s ++ t) z b)
-      late (begin.Stopped x) l = tt
-      late begin.Finished l = tt
-      late (begin.Text at) l = text_past at (text_end (s ++ t) at)
-      late (begin.End at) l = ends at z.opened (end_tag_late need s t targets (at + 2) (omega arith))
-      late (begin.Start at) l = tagged_past at z.opened (tag_at (s ++ t) (at + 1)) (tag_at (s ++ t) (at + 1)).answer (tag_late need s t targets (at + 1) l)
+      late : (b : BeginRead) → LateBegin need (length s) b → P (read_at (s ++ t) z b)
+      late (Err x) l = tt
+      late (Ok begin.Finished) l = tt
+      late (Ok (begin.Text at)) l = text_past at (text_end (s ++ t) at)
+      late (Ok (begin.End at)) l = ends at z.opened (end_tag_late need s t targets (at + 2) (omega arith))
+      late (Ok (begin.Start at)) l = tagged_past at z.opened (tag_at (s ++ t) (at + 1)) (tag_at (s ++ t) (at + 1)).answer (tag_late need s t targets (at + 1) l)
 
   next_past : OpenNext (next s z) → Past (length s) (next (s ++ t) z)
   unfolding next P

@@ -1,6 +1,8 @@
 -- A scene that ends too soon can go on: bytes behind it with which an attribute or a tag is read to its end, and the next event begins.
 --     attribute_completed, tag_completed, end_tag_completed
 --     Begins, begin_completed                        a whole tag begins, or behind the root nothing more
+use Rattle.std.specs.declared.ops.ControlFlow.TheVariants.{Break, Continue}
+use Rattle.std.specs.Prelude.{Ok, Err}
 use Prim.Native.Nat.{ℕ, zero, suc, ◌+◌, ◌≤◌, ◌<◌}
 use mathlib.Core.Path.{◌≡◌, refl, sym, ap, subst, ◌∙◌}
 use mathlib.Core.List.{List, [], ◌∷◌, ◌++◌, append_assoc, append-nil}
@@ -22,23 +24,11 @@ use Rattle.lexer.specs.Misc.{misc_end}
 use Rattle.lexer.specs.Begins.{stopped_ahead, misc_ahead, opens_misc, markup_at, either_at, ending, ahead_at, ahead_then, begin_at}
 use Rattle.lexer.specs.declared.Stop.{Stop}
 use Rattle.lexer.specs.declared.Stop.TheVariants.{Bad, Long, Cut}
-use Rattle.lexer.specs.declared.Read.{Read}
-use Rattle.lexer.specs.declared.Read.TheVariants as read
+use Rattle.lexer.specs.Reads.{Read, Named, Attributed, TurnRead, Tagged, Ended, BeginRead}
 use Rattle.lexer.specs.declared.Name.{Name}
-use Rattle.lexer.specs.declared.Named.{Named}
-use Rattle.lexer.specs.declared.Named.TheVariants as named
 use Rattle.lexer.specs.declared.Attr.{Attr}
-use Rattle.lexer.specs.declared.Attributed.{Attributed}
-use Rattle.lexer.specs.declared.Attributed.TheVariants as attributed
-use Rattle.lexer.specs.declared.Turn.{Turn}
 use Rattle.lexer.specs.declared.Turn.TheVariants as turn
-use Rattle.lexer.specs.declared.Tagged.{Tagged}
-use Rattle.lexer.specs.declared.Tagged.TheVariants as tagged
-use Rattle.lexer.specs.declared.Ended.{Ended}
-use Rattle.lexer.specs.declared.Ended.TheVariants as ended
-use Rattle.lexer.specs.declared.Begin.{Begin}
 use Rattle.lexer.specs.declared.Begin.TheVariants as begin
-use Rattle.lexer.specs.declared.Ahead.TheVariants as ahead
 use Rattle.lexer.proofs.Inside.{ReadInside, SpacesTo, spaces_inside, NameInside, NamedInside, name_inside, ByteTo, wanted_inside, EqualsTo, equals_inside, AttrInside, AttributedInside, attribute_inside, TurnInside, turn_inside}
 use Rattle.lexer.proofs.Stable.{spaces_stable, name_stable, wanted_stable, equals_stable, attribute_stable, turn_stable}
 use Rattle.lexer.proofs.BeginLaws.{begin_is, begin_held, CutAhead, ahead_stable}
@@ -48,32 +38,32 @@ use Rattle.demands.proofs.MiscCompleted.{misc_completed, misc_begins}
 use Rattle.demands.proofs.CompletedParts.{or_full, Byte, byte_in, byte_kept, Rest, read_so, spaces_here, spaces_completed, letter_part, NameDone, name_completed, value_here, ValueDone, value_completed}
 
 -- ---- an attribute
-wanted_here : (s : List ℕ) (i b : ℕ) → Byte s i b → wanted s i b ≡ read.End (i + 1)
+wanted_here : (s : List ℕ) (i b : ℕ) → Byte s i b → wanted s i b ≡ Ok (i + 1)
 unfolding wanted
 wanted_here s i b h = rw (lt-ltb i (length s) h.0, h.1, eq-eqb b b refl)
 
-wanted_out : (s : List ℕ) (i b : ℕ) → wanted s i b ≡ read.Stopped Cut → length s ≤ i
+wanted_out : (s : List ℕ) (i b : ℕ) → wanted s i b ≡ Err Cut → length s ≤ i
 unfolding wanted
 wanted_out s i b e = ⊎_elim (λ le. le) (λ lt. absurd (by (eqb (get_or s i 0) b) (rw (lt-ltb i (length s) lt) at e))) (le_or_lt (length s) i)
   where
-    by : (t : Bool) → cond t (read.End (i + 1)) (read.Stopped (Bad i)) ≡ read.Stopped Cut → ⊥
+    by : (t : Bool) → cond t (Ok (i + 1)) (Err (Bad i)) ≡ Err Cut → ⊥
     by true f = let z : ◌≡◌ {A = ℕ} 0 1 = cc in omega arith
     by false f = let z : ◌≡◌ {A = ℕ} 0 1 = cc in omega arith
 
-equals_here : (s : List ℕ) (at i : ℕ) → spaces_end s at ≡ read.End i → Byte s i 0x3D → Byte s (i + 1) 0x27 → equals_end s at ≡ read.End (i + 1)
+equals_here : (s : List ℕ) (at i : ℕ) → spaces_end s at ≡ Ok i → Byte s i 0x3D → Byte s (i + 1) 0x27 → equals_end s at ≡ Ok (i + 1)
 unfolding equals_end
 equals_here s at i e h k = rw (e, wanted_here s i 0x3D h, spaces_here s (i + 1) 0x27 k refl)
 
-quoted_here : (s : List ℕ) (name : Name) (i : ℕ) → Byte s i 0x27 → Byte s (i + 1) 0x27 → quoted_at s name i ≡ attributed.Got (attr_of name (i + 1) (i + 1))
+quoted_here : (s : List ℕ) (name : Name) (i : ℕ) → Byte s i 0x27 → Byte s (i + 1) 0x27 → quoted_at s name i ≡ Ok (attr_of name (i + 1) (i + 1))
 unfolding quoted_at
 quoted_here s name i h k = rw (lt-ltb i (length s) h.0, h.1, value_here s 0x27 (i + 1) k)
 
-quoted_by : (s : List ℕ) (name : Name) (at : ℕ) → at < length s → quoted_at s name at ≡ attributed.Stopped Cut
-    → cond (eqb (get_or s at 0) 0x22 || eqb (get_or s at 0) 0x27) (after_read attributed.Stopped (value_end s (at + 1) (get_or s at 0)) (λ (stop : ℕ). attributed.Got (attr_of name (at + 1) stop))) (attributed.Stopped (Bad at)) ≡ attributed.Stopped Cut
+quoted_by : (s : List ℕ) (name : Name) (at : ℕ) → at < length s → quoted_at s name at ≡ Err Cut
+    → cond (eqb (get_or s at 0) 0x22 || eqb (get_or s at 0) 0x27) (after_read Err (value_end s (at + 1) (get_or s at 0)) (λ (stop : ℕ). Ok (attr_of name (at + 1) stop))) (Err (Bad at)) ≡ Err Cut
 unfolding quoted_at
 quoted_by s name at lt e = (rw (lt-ltb at (length s) lt) at e)
 
-equals_by : (s : List ℕ) (at : ℕ) → equals_end s at ≡ read.Stopped Cut → after_read read.Stopped (spaces_end s at) (λ (i : ℕ). after_read read.Stopped (wanted s i 0x3D) (λ (j : ℕ). spaces_end s j)) ≡ read.Stopped Cut
+equals_by : (s : List ℕ) (at : ℕ) → equals_end s at ≡ Err Cut → after_read Err (spaces_end s at) (λ (i : ℕ). after_read Err (wanted s i 0x3D) (λ (j : ℕ). spaces_end s j)) ≡ Err Cut
 unfolding equals_end
 equals_by s at e = e
 
@@ -85,7 +75,7 @@ no_equals_char = refl
 pub record AttrDone (s : List ℕ) (at : ℕ) : Type 0 where
   pub more : List ℕ
   pub few : length more ≤ 6
-  pub done : (u : List ℕ) → (a : Attr) × (attribute_at (s ++ (more ++ u)) at ≡ attributed.Got a) × (a.stop + 1 ≡ length s + length more)
+  pub done : (u : List ℕ) → (a : Attr) × (attribute_at (s ++ (more ++ u)) at ≡ Ok a) × (a.stop + 1 ≡ length s + length more)
 
 module _ (s : List ℕ) (at : ℕ) where
   attr_named : NameDone s at → AttrDone s at
@@ -109,12 +99,12 @@ module _ (s : List ℕ) (at : ℕ) where
             );
       }
 
-  module _ (name : Name) (f : name_at s at ≡ named.Got name) where
-    named_so : (t : List ℕ) → name_at (s ++ t) at ≡ named.Got name
-    named_so t = name_stable s t at (λ c. let d : named.Got name ≡ named.Stopped Cut = sym f ∙ c in let z : ◌≡◌ {A = ℕ} 0 1 = cc in omega arith) ∙ f
+  module _ (name : Name) (f : name_at s at ≡ Ok name) where
+    named_so : (t : List ℕ) → name_at (s ++ t) at ≡ Ok name
+    named_so t = name_stable s t at (λ c. let d : Ok name ≡ Err Cut = sym f ∙ c in let z : ◌≡◌ {A = ℕ} 0 1 = cc in omega arith) ∙ f
 
     -- before the =
-    attr_spaced : name.end ≤ length s → spaces_end s name.end ≡ read.Stopped Cut → AttrDone s at
+    attr_spaced : name.end ≤ length s → spaces_end s name.end ≡ Err Cut → AttrDone s at
     unfolding attribute_at
     attr_spaced le e =
         record {
@@ -134,7 +124,7 @@ module _ (s : List ℕ) (at : ℕ) where
         }
 
     -- behind it
-    attr_equals : (i : ℕ) → i < length s → spaces_end s name.end ≡ read.End i → wanted s i 0x3D ≡ read.End (i + 1) → spaces_end s (i + 1) ≡ read.Stopped Cut → AttrDone s at
+    attr_equals : (i : ℕ) → i < length s → spaces_end s name.end ≡ Ok i → wanted s i 0x3D ≡ Ok (i + 1) → spaces_end s (i + 1) ≡ Err Cut → AttrDone s at
     unfolding attribute_at equals_end
     attr_equals i lt e w c =
         record {
@@ -146,8 +136,8 @@ module _ (s : List ℕ) (at : ℕ) where
               let k = length s in
               let b0 = byte_in s [] (0x27 ∷ 0x27 ∷ u) 0 k (omega arith) (omega arith) in
               let b1 = byte_in s [] (0x27 ∷ 0x27 ∷ u) 1 (k + 1) (omega arith) (omega arith) in
-              let e' : spaces_end S name.end ≡ read.End i = read_so (spaces_end s name.end) (spaces_end S name.end) i e (spaces_stable s (0x27 ∷ 0x27 ∷ u) name.end) in
-              let w' : wanted S i 0x3D ≡ read.End (i + 1) = read_so (wanted s i 0x3D) (wanted S i 0x3D) (i + 1) w (wanted_stable s (0x27 ∷ 0x27 ∷ u) i 0x3D) in (
+              let e' : spaces_end S name.end ≡ Ok i = read_so (spaces_end s name.end) (spaces_end S name.end) i e (spaces_stable s (0x27 ∷ 0x27 ∷ u) name.end) in
+              let w' : wanted S i 0x3D ≡ Ok (i + 1) = read_so (wanted s i 0x3D) (wanted S i 0x3D) (i + 1) w (wanted_stable s (0x27 ∷ 0x27 ∷ u) i 0x3D) in (
                 attr_of name (k + 1) (k + 1),
                 rw (named_so (0x27 ∷ 0x27 ∷ u), e', w', spaces_completed s (i + 1) (omega arith) c 0x27 (0x27 ∷ u) refl) (quoted_here S name k b0 b1),
                 omega arith,
@@ -155,7 +145,7 @@ module _ (s : List ℕ) (at : ℕ) where
         }
 
     -- inside the value
-    attr_quoted : (quote : ℕ) → quote < length s → equals_end s name.end ≡ read.End quote → (eqb (get_or s quote 0) 0x22 || eqb (get_or s quote 0) 0x27) ≡ true → ValueDone s (quote + 1) (get_or s quote 0) → AttrDone s at
+    attr_quoted : (quote : ℕ) → quote < length s → equals_end s name.end ≡ Ok quote → (eqb (get_or s quote 0) 0x22 || eqb (get_or s quote 0) 0x27) ≡ true → ValueDone s (quote + 1) (get_or s quote 0) → AttrDone s at
     unfolding attribute_at quoted_at
     attr_quoted quote lt e q v =
         let b = get_or s quote 0 in
@@ -166,77 +156,77 @@ module _ (s : List ℕ) (at : ℕ) where
               λ u.
               let S = s ++ (v.more ++ (b ∷ u)) in
               let h = byte_kept s (v.more ++ (b ∷ u)) quote lt in
-              let e' : equals_end S name.end ≡ read.End quote = read_so (equals_end s name.end) (equals_end S name.end) quote e (equals_stable s (v.more ++ (b ∷ u)) name.end) in (
+              let e' : equals_end S name.end ≡ Ok quote = read_so (equals_end s name.end) (equals_end S name.end) quote e (equals_stable s (v.more ++ (b ∷ u)) name.end) in (
                 attr_of name (quote + 1) (length s + length v.more),
                 rw (append_assoc v.more (b ∷ []) u, named_so (v.more ++ (b ∷ u)), e', lt-ltb quote (length S) h.0, h.1, q, v.done u),
                 omega (arith, length-append v.more (b ∷ [])),
               );
         }
 
-  pub attribute_completed : at ≤ length s → attribute_at s at ≡ attributed.Stopped Cut → AttrDone s at ⊎ Overfull s (λ (S : List ℕ) (p : ℕ). attribute_at S at ≡ attributed.Stopped (Long p))
+  pub attribute_completed : at ≤ length s → attribute_at s at ≡ Err Cut → AttrDone s at ⊎ Overfull s (λ (S : List ℕ) (p : ℕ). attribute_at S at ≡ Err (Long p))
   unfolding attribute_at
   attribute_completed le e = by (name_at s at) refl (name_inside s at) e
     where
       Behind : Name → Attributed
-      Behind name = after_read attributed.Stopped (equals_end s name.end) (λ (quote : ℕ). quoted_at s name quote)
+      Behind name = after_read Err (equals_end s name.end) (λ (quote : ℕ). quoted_at s name quote)
 
-      value : (name : Name) → name_at s at ≡ named.Got name → (quote : ℕ) → quote < length s → equals_end s name.end ≡ read.End quote → (q : Bool) → (eqb (get_or s quote 0) 0x22 || eqb (get_or s quote 0) 0x27) ≡ q → (r : Read) → value_end s (quote + 1) (get_or s quote 0) ≡ r
-          → cond q (after_read attributed.Stopped r (λ (stop : ℕ). attributed.Got (attr_of name (quote + 1) stop))) (attributed.Stopped (Bad quote)) ≡ attributed.Stopped Cut → AttrDone s at
+      value : (name : Name) → name_at s at ≡ Ok name → (quote : ℕ) → quote < length s → equals_end s name.end ≡ Ok quote → (q : Bool) → (eqb (get_or s quote 0) 0x22 || eqb (get_or s quote 0) 0x27) ≡ q → (r : Read) → value_end s (quote + 1) (get_or s quote 0) ≡ r
+          → cond q (after_read Err r (λ (stop : ℕ). Ok (attr_of name (quote + 1) stop))) (Err (Bad quote)) ≡ Err Cut → AttrDone s at
       value name f quote lt g false q r h e = let z : ◌≡◌ {A = ℕ} 0 1 = cc in absurd (omega arith)
-      value name f quote lt g true q (read.End j) h e = let z : ◌≡◌ {A = ℕ} 0 1 = cc in absurd (omega arith)
-      value name f quote lt g true q (read.Stopped x) h e = let c : read.Stopped x ≡ read.Stopped Cut = cc in attr_quoted name f quote lt g q (value_completed s (get_or s quote 0) (quote + 1) (omega arith) (h ∙ c))
+      value name f quote lt g true q (Ok j) h e = let z : ◌≡◌ {A = ℕ} 0 1 = cc in absurd (omega arith)
+      value name f quote lt g true q (Err x) h e = let c : Err x ≡ Err Cut = cc in attr_quoted name f quote lt g q (value_completed s (get_or s quote 0) (quote + 1) (omega arith) (h ∙ c))
 
-      quoted : (name : Name) → name_at s at ≡ named.Got name → (quote : ℕ) → quote < length s → equals_end s name.end ≡ read.End quote → quoted_at s name quote ≡ attributed.Stopped Cut → AttrDone s at
+      quoted : (name : Name) → name_at s at ≡ Ok name → (quote : ℕ) → quote < length s → equals_end s name.end ≡ Ok quote → quoted_at s name quote ≡ Err Cut → AttrDone s at
       quoted name f quote lt g e =
           value name f quote lt g (eqb (get_or s quote 0) 0x22 || eqb (get_or s quote 0) 0x27) refl (value_end s (quote + 1) (get_or s quote 0)) refl (quoted_by s name quote lt e)
 
-      spaced : (name : Name) → name_at s at ≡ named.Got name → (i : ℕ) → i < length s → spaces_end s name.end ≡ read.End i → (r : Read) → wanted s i 0x3D ≡ r → ReadInside (ByteTo s i 0x3D) s i r → after_read read.Stopped r (λ (j : ℕ). spaces_end s j) ≡ read.Stopped Cut → AttrDone s at
-      spaced name f i lt g (read.End j) h to e =
-          attr_equals name f i lt g (h ∙ ap read.End to.0) (ap (spaces_end s) (sym to.0) ∙ e)
-      spaced name f i lt g (read.Stopped x) h to e = let c : read.Stopped x ≡ read.Stopped Cut = cc in absurd (omega (arith, wanted_out s i 0x3D (h ∙ c)))
+      spaced : (name : Name) → name_at s at ≡ Ok name → (i : ℕ) → i < length s → spaces_end s name.end ≡ Ok i → (r : Read) → wanted s i 0x3D ≡ r → ReadInside (ByteTo s i 0x3D) s i r → after_read Err r (λ (j : ℕ). spaces_end s j) ≡ Err Cut → AttrDone s at
+      spaced name f i lt g (Ok j) h to e =
+          attr_equals name f i lt g (h ∙ ap Ok to.0) (ap (spaces_end s) (sym to.0) ∙ e)
+      spaced name f i lt g (Err x) h to e = let c : Err x ≡ Err Cut = cc in absurd (omega (arith, wanted_out s i 0x3D (h ∙ c)))
 
-      equals : (name : Name) → name_at s at ≡ named.Got name → NameInside s at name → (r : Read) → spaces_end s name.end ≡ r → ReadInside (SpacesTo s name.end) s name.end r → after_read read.Stopped r (λ (i : ℕ). after_read read.Stopped (wanted s i 0x3D) (λ (j : ℕ). spaces_end s j)) ≡ read.Stopped Cut → AttrDone s at
-      equals name f n (read.End i) g to e = spaced name f i to.1 g (wanted s i 0x3D) refl (wanted_inside s i 0x3D) e
-      equals name f n (read.Stopped x) g to e = let c : read.Stopped x ≡ read.Stopped Cut = cc in attr_spaced name f (omega (arith, n.inside)) (g ∙ c)
+      equals : (name : Name) → name_at s at ≡ Ok name → NameInside s at name → (r : Read) → spaces_end s name.end ≡ r → ReadInside (SpacesTo s name.end) s name.end r → after_read Err r (λ (i : ℕ). after_read Err (wanted s i 0x3D) (λ (j : ℕ). spaces_end s j)) ≡ Err Cut → AttrDone s at
+      equals name f n (Ok i) g to e = spaced name f i to.1 g (wanted s i 0x3D) refl (wanted_inside s i 0x3D) e
+      equals name f n (Err x) g to e = let c : Err x ≡ Err Cut = cc in attr_spaced name f (omega (arith, n.inside)) (g ∙ c)
 
-      behind : (name : Name) → name_at s at ≡ named.Got name → NameInside s at name → (r : Read) → equals_end s name.end ≡ r → ReadInside (EqualsTo s name.end) s name.end r → after_read attributed.Stopped r (λ (quote : ℕ). quoted_at s name quote) ≡ attributed.Stopped Cut → AttrDone s at
-      behind name f n (read.End quote) g to e = quoted name f quote to.1 g e
-      behind name f n (read.Stopped x) g to e = let c : read.Stopped x ≡ read.Stopped Cut = cc in equals name f n (spaces_end s name.end) refl (spaces_inside s name.end) (equals_by s name.end (g ∙ c))
+      behind : (name : Name) → name_at s at ≡ Ok name → NameInside s at name → (r : Read) → equals_end s name.end ≡ r → ReadInside (EqualsTo s name.end) s name.end r → after_read Err r (λ (quote : ℕ). quoted_at s name quote) ≡ Err Cut → AttrDone s at
+      behind name f n (Ok quote) g to e = quoted name f quote to.1 g e
+      behind name f n (Err x) g to e = let c : Err x ≡ Err Cut = cc in equals name f n (spaces_end s name.end) refl (spaces_inside s name.end) (equals_by s name.end (g ∙ c))
 
-      by : (r : Named) → name_at s at ≡ r → NamedInside (NameInside s at) s at (name_at s at) → after_name attributed.Stopped r Behind ≡ attributed.Stopped Cut → AttrDone s at ⊎ Overfull s (λ (S : List ℕ) (p : ℕ). attribute_at S at ≡ attributed.Stopped (Long p))
-      by (named.Got name) f i e =
+      by : (r : Named) → name_at s at ≡ r → NamedInside (NameInside s at) s at (name_at s at) → after_name Err r Behind ≡ Err Cut → AttrDone s at ⊎ Overfull s (λ (S : List ℕ) (p : ℕ). attribute_at S at ≡ Err (Long p))
+      by (Ok name) f i e =
           inl (behind name f (subst (NamedInside (NameInside s at) s at) f i) (equals_end s name.end) refl (equals_inside s name.end) e)
-      by (named.Stopped x) f i e = let c : named.Stopped x ≡ named.Stopped Cut = cc in or_full attr_named (λ t p r. rw r) (name_completed s at le (f ∙ c))
+      by (Err x) f i e = let c : Err x ≡ Err Cut = cc in or_full attr_named (λ t p r. rw r) (name_completed s at le (f ∙ c))
 
 -- ---- what stands behind a tag's name or an attribute: its >
 abbrev gt : List ℕ
 gt = 0x3E ∷ []
 
-turn_closes : (s : List ℕ) (at i : ℕ) → spaces_end s at ≡ read.End i → Byte s i 0x3E → turn_at s at ≡ turn.Close (i + 1) false
+turn_closes : (s : List ℕ) (at i : ℕ) → spaces_end s at ≡ Ok i → Byte s i 0x3E → turn_at s at ≡ Ok (turn.Close (i + 1) false)
 unfolding turn_at turn_behind
 turn_closes s at i e h = rw (e, lt-ltb i (length s) h.0, h.1)
 
-slash_closes : (s : List ℕ) (at i : ℕ) → spaces_end s at ≡ read.End i → Byte s i 0x2F → Byte s (i + 1) 0x3E → turn_at s at ≡ turn.Close (i + 1 + 1) true
+slash_closes : (s : List ℕ) (at i : ℕ) → spaces_end s at ≡ Ok i → Byte s i 0x2F → Byte s (i + 1) 0x3E → turn_at s at ≡ Ok (turn.Close (i + 1 + 1) true)
 unfolding turn_at turn_behind slash_at
 slash_closes s at i e h k = rw (e, lt-ltb i (length s) h.0, h.1, wanted_here s (i + 1) 0x3E k)
 
 abbrev TurnDone : List ℕ → ℕ → Type 0
-TurnDone s at = (next : ℕ) × (empty : Bool) × (turn_at (s ++ gt) at ≡ turn.Close next empty)
+TurnDone s at = (next : ℕ) × (empty : Bool) × (turn_at (s ++ gt) at ≡ Ok (turn.Close next empty))
 
-turn_completed : (s : List ℕ) (at : ℕ) → at ≤ length s → turn_at s at ≡ turn.Stopped Cut → TurnDone s at
+turn_completed : (s : List ℕ) (at : ℕ) → at ≤ length s → turn_at s at ≡ Err Cut → TurnDone s at
 unfolding turn_at turn_behind slash_at
 turn_completed s at le e = by (spaces_end s at) refl (spaces_inside s at) e
   where
-    slash : (i : ℕ) → i < length s → spaces_end s at ≡ read.End i → get_or s i 0 ≡ 0x2F → (r : Read) → wanted s (i + 1) 0x3E ≡ r → after_read turn.Stopped r (λ (next : ℕ). turn.Close next true) ≡ turn.Stopped Cut → TurnDone s at
-    slash i lt f b (read.End j) g e = let z : ◌≡◌ {A = ℕ} 0 1 = cc in absurd (omega arith)
-    slash i lt f b (read.Stopped x) g e =
-        let c : read.Stopped x ≡ read.Stopped Cut = cc in
+    slash : (i : ℕ) → i < length s → spaces_end s at ≡ Ok i → get_or s i 0 ≡ 0x2F → (r : Read) → wanted s (i + 1) 0x3E ≡ r → after_read Err r (λ (next : ℕ). Ok (turn.Close next true)) ≡ Err Cut → TurnDone s at
+    slash i lt f b (Ok j) g e = let z : ◌≡◌ {A = ℕ} 0 1 = cc in absurd (omega arith)
+    slash i lt f b (Err x) g e =
+        let c : Err x ≡ Err Cut = cc in
         let h = byte_kept s gt i lt in
-        let f' : spaces_end (s ++ gt) at ≡ read.End i = read_so (spaces_end s at) (spaces_end (s ++ gt) at) i f (spaces_stable s gt at) in
+        let f' : spaces_end (s ++ gt) at ≡ Ok i = read_so (spaces_end s at) (spaces_end (s ++ gt) at) i f (spaces_stable s gt at) in
         (i + 1 + 1, true, slash_closes (s ++ gt) at i f' (h.0, h.1 ∙ b) (byte_in s [] gt 0 (i + 1) (omega (arith, wanted_out s (i + 1) 0x3E (g ∙ c))) (omega arith)))
 
-    byte : (i : ℕ) → i < length s → spaces_end s at ≡ read.End i → (a : Bool) (b : Bool) → eqb (get_or s i 0) 0x2F ≡ b → (c d : Bool)
-        → cond a (turn.Close (i + 1) false) (cond b (after_read turn.Stopped (wanted s (i + 1) 0x3E) (λ (next : ℕ). turn.Close next true)) (cond c (turn.Stopped (Bad i)) (cond d (turn.Attribute i) (turn.Stopped (Bad i))))) ≡ turn.Stopped Cut
+    byte : (i : ℕ) → i < length s → spaces_end s at ≡ Ok i → (a : Bool) (b : Bool) → eqb (get_or s i 0) 0x2F ≡ b → (c d : Bool)
+        → cond a (Ok (turn.Close (i + 1) false)) (cond b (after_read Err (wanted s (i + 1) 0x3E) (λ (next : ℕ). Ok (turn.Close next true))) (cond c (Err (Bad i)) (cond d (Ok (turn.Attribute i)) (Err (Bad i))))) ≡ Err Cut
         → TurnDone s at
     byte i lt f true b q c d e = let z : ◌≡◌ {A = ℕ} 0 1 = cc in absurd (omega arith)
     byte i lt f false true q c d e = slash i lt f (eqb-true (get_or s i 0) 0x2F q) (wanted s (i + 1) 0x3E) refl e
@@ -244,20 +234,20 @@ turn_completed s at le e = by (spaces_end s at) refl (spaces_inside s at) e
     byte i lt f false false q false true e = let z : ◌≡◌ {A = ℕ} 0 1 = cc in absurd (omega arith)
     byte i lt f false false q false false e = let z : ◌≡◌ {A = ℕ} 0 1 = cc in absurd (omega arith)
 
-    by : (r : Read) → spaces_end s at ≡ r → ReadInside (SpacesTo s at) s at (spaces_end s at) → after_read turn.Stopped r (λ (i : ℕ). turn_behind s at i) ≡ turn.Stopped Cut → TurnDone s at
-    by (read.End i) f in' e =
+    by : (r : Read) → spaces_end s at ≡ r → ReadInside (SpacesTo s at) s at (spaces_end s at) → after_read Err r (λ (i : ℕ). turn_behind s at i) ≡ Err Cut → TurnDone s at
+    by (Ok i) f in' e =
         let to : SpacesTo s at i = subst (ReadInside (SpacesTo s at) s at) f in' in
         byte i to.1 f (eqb (get_or s i 0) 0x3E) (eqb (get_or s i 0) 0x2F) refl (eqb i at) (begins set.Start [] (get_or s i 0)) (rw (lt-ltb i (length s) to.1) at e)
-    by (read.Stopped x) f in' e =
-        let c : read.Stopped x ≡ read.Stopped Cut = cc in
+    by (Err x) f in' e =
+        let c : Err x ≡ Err Cut = cc in
         (length s + 1, false, turn_closes (s ++ gt) at (length s) (spaces_completed s at le (f ∙ c) 0x3E [] refl) (byte_in s [] gt 0 (length s) (omega arith) (omega arith)))
 
 -- ---- tags
 abbrev pub IsTag : Tagged → Type 0
-IsTag (tagged.Got t) = Unit {0}
-IsTag (tagged.Stopped x) = ⊥
+IsTag (Ok t) = Unit {0}
+IsTag (Err x) = ⊥
 
-attrs_close : (s : List ℕ) (name : Name) (room : ℕ) (l : List Attr) (at next : ℕ) (empty : Bool) → turn_at s at ≡ turn.Close next empty → IsTag (attrs_from s name l room at).answer
+attrs_close : (s : List ℕ) (name : Name) (room : ℕ) (l : List Attr) (at next : ℕ) (empty : Bool) → turn_at s at ≡ Ok (turn.Close next empty) → IsTag (attrs_from s name l room at).answer
 unfolding attrs_from
 attrs_close s name zero l at next empty e = rw e tt
 attrs_close s name (suc room) l at next empty e = rw e tt
@@ -272,39 +262,39 @@ pub record Done (s : List ℕ) (P : List ℕ → Type 0) : Type 0 where
   pub done : P (s ++ more)
 
 module _ (s : List ℕ) (name : Name) where
-  attrs_completed : (room : ℕ) (l : List Attr) (i : ℕ) → i ≤ length s → (attrs_from s name l room i).answer ≡ tagged.Stopped Cut → Done s (λ (S : List ℕ). IsTag (attrs_from S name l room i).answer) ⊎ Overfull s (λ (S : List ℕ) (p : ℕ). (attrs_from S name l room i).answer ≡ tagged.Stopped (Long p))
+  attrs_completed : (room : ℕ) (l : List Attr) (i : ℕ) → i ≤ length s → (attrs_from s name l room i).answer ≡ Err Cut → Done s (λ (S : List ℕ). IsTag (attrs_from S name l room i).answer) ⊎ Overfull s (λ (S : List ℕ) (p : ℕ). (attrs_from S name l room i).answer ≡ Err (Long p))
   unfolding attrs_from
   attrs_completed zero l i le e = inl (by (turn_at s i) refl e)
     where
-      by : (r : Turn) → turn_at s i ≡ r → (full_turn name l r).answer ≡ tagged.Stopped Cut → Done s (λ (S : List ℕ). IsTag (full_turn name l (turn_at S i)).answer)
-      by (turn.Close next empty) f e = let z : ◌≡◌ {A = ℕ} 0 1 = cc in absurd (omega arith)
-      by (turn.Attribute j) f e = let z : ◌≡◌ {A = ℕ} 0 1 = cc in absurd (omega arith)
-      by (turn.Stopped x) f e = let c : turn.Stopped x ≡ turn.Stopped Cut = cc in let d = turn_completed s i le (f ∙ c) in record { more = gt; few = omega arith; done = rw d.2 tt }
+      by : (r : TurnRead) → turn_at s i ≡ r → (full_turn name l r).answer ≡ Err Cut → Done s (λ (S : List ℕ). IsTag (full_turn name l (turn_at S i)).answer)
+      by (Ok (turn.Close next empty)) f e = let z : ◌≡◌ {A = ℕ} 0 1 = cc in absurd (omega arith)
+      by (Ok (turn.Attribute j)) f e = let z : ◌≡◌ {A = ℕ} 0 1 = cc in absurd (omega arith)
+      by (Err x) f e = let c : Err x ≡ Err Cut = cc in let d = turn_completed s i le (f ∙ c) in record { more = gt; few = omega arith; done = rw d.2 tt }
   attrs_completed (suc room) l i le e = by (turn_at s i) refl (turn_inside s i) e (attrs_completed room)
     where
       more : List ℕ → List Attr → ℕ → TagRead
       more S l' k = attrs_from S name l' room k
 
       Ih : Type 0
-      Ih = (l' : List Attr) (k : ℕ) → k ≤ length s → (more s l' k).answer ≡ tagged.Stopped Cut → Done s (λ (S : List ℕ). IsTag (more S l' k).answer) ⊎ Overfull s (λ (S : List ℕ) (p : ℕ). (more S l' k).answer ≡ tagged.Stopped (Long p))
+      Ih = (l' : List Attr) (k : ℕ) → k ≤ length s → (more s l' k).answer ≡ Err Cut → Done s (λ (S : List ℕ). IsTag (more S l' k).answer) ⊎ Overfull s (λ (S : List ℕ) (p : ℕ). (more S l' k).answer ≡ Err (Long p))
 
       Goal : Type 0
-      Goal = Done s (λ (S : List ℕ). IsTag (turn_then S (more S) name l (turn_at S i)).answer) ⊎ Overfull s (λ (S : List ℕ) (p : ℕ). (turn_then S (more S) name l (turn_at S i)).answer ≡ tagged.Stopped (Long p))
+      Goal = Done s (λ (S : List ℕ). IsTag (turn_then S (more S) name l (turn_at S i)).answer) ⊎ Overfull s (λ (S : List ℕ) (p : ℕ). (turn_then S (more S) name l (turn_at S i)).answer ≡ Err (Long p))
 
-      turns : (j : ℕ) → turn_at s i ≡ turn.Attribute j → (t : List ℕ) → turn_at (s ++ t) i ≡ turn.Attribute j
-      turns j f t = turn_stable s t i (λ c. let d : turn.Attribute j ≡ turn.Stopped Cut = sym f ∙ c in let z : ◌≡◌ {A = ℕ} 0 1 = cc in omega arith) ∙ f
+      turns : (j : ℕ) → turn_at s i ≡ Ok (turn.Attribute j) → (t : List ℕ) → turn_at (s ++ t) i ≡ Ok (turn.Attribute j)
+      turns j f t = turn_stable s t i (λ c. let d : Ok (turn.Attribute j) ≡ Err Cut = sym f ∙ c in let z : ◌≡◌ {A = ℕ} 0 1 = cc in omega arith) ∙ f
 
-      attr : (j : ℕ) → j < length s → turn_at s i ≡ turn.Attribute j → (r : Attributed) → attribute_at s j ≡ r → AttributedInside (AttrInside s j) s j r → (attr_then (more s) l r).answer ≡ tagged.Stopped Cut → Ih → Goal
-      attr j lt f (attributed.Got a) g n e ih =
+      attr : (j : ℕ) → j < length s → turn_at s i ≡ Ok (turn.Attribute j) → (r : Attributed) → attribute_at s j ≡ r → AttributedInside (AttrInside s j) s j r → (attr_then (more s) l r).answer ≡ Err Cut → Ih → Goal
+      attr j lt f (Ok a) g n e ih =
           or_full
           (λ d. record { more = d.more; few = d.few; done = rw (turns j f d.more, so d.more) d.done })
           (λ t p r. rw (turns j f t, so t) r)
           (ih (l ++ (a ∷ [])) (a.stop + 1) (omega (arith, n.inside)) e)
         where
-          so : (t : List ℕ) → attribute_at (s ++ t) j ≡ attributed.Got a
-          so t = attribute_stable s t j (λ c. let y : attributed.Got a ≡ attributed.Stopped Cut = sym g ∙ c in let z : ◌≡◌ {A = ℕ} 0 1 = cc in omega arith) ∙ g
-      attr j lt f (attributed.Stopped x) g n e ih =
-          let c : attributed.Stopped x ≡ attributed.Stopped Cut = cc in
+          so : (t : List ℕ) → attribute_at (s ++ t) j ≡ Ok a
+          so t = attribute_stable s t j (λ c. let y : Ok a ≡ Err Cut = sym g ∙ c in let z : ◌≡◌ {A = ℕ} 0 1 = cc in omega arith) ∙ g
+      attr j lt f (Err x) g n e ih =
+          let c : Err x ≡ Err Cut = cc in
           or_full
           (λ d.
           let r = d.done gt in
@@ -318,26 +308,26 @@ module _ (s : List ℕ) (name : Name) where
           (λ t p r. rw (turns j f t) (ap (λ (x : Attributed). (attr_then (more (s ++ t)) l x).answer) r))
           (attribute_completed s j (omega arith) (g ∙ c))
 
-      by : (r : Turn) → turn_at s i ≡ r → TurnInside s i (turn_at s i) → (turn_then s (more s) name l r).answer ≡ tagged.Stopped Cut → Ih → Goal
-      by (turn.Close next empty) f n e ih = let z : ◌≡◌ {A = ℕ} 0 1 = cc in absurd (omega arith)
-      by (turn.Attribute j) f n e ih =
-          let to : TurnInside s i (turn.Attribute j) = subst (TurnInside s i) f n in
+      by : (r : TurnRead) → turn_at s i ≡ r → TurnInside s i (turn_at s i) → (turn_then s (more s) name l r).answer ≡ Err Cut → Ih → Goal
+      by (Ok (turn.Close next empty)) f n e ih = let z : ◌≡◌ {A = ℕ} 0 1 = cc in absurd (omega arith)
+      by (Ok (turn.Attribute j)) f n e ih =
+          let to : TurnInside s i (Ok (turn.Attribute j)) = subst (TurnInside s i) f n in
           attr j to.1 f (attribute_at s j) refl (attribute_inside s j) e ih
-      by (turn.Stopped x) f n e ih = let c : turn.Stopped x ≡ turn.Stopped Cut = cc in let d = turn_completed s i le (f ∙ c) in inl (record { more = gt; few = omega arith; done = rw d.2 tt })
+      by (Err x) f n e ih = let c : Err x ≡ Err Cut = cc in let d = turn_completed s i le (f ∙ c) in inl (record { more = gt; few = omega arith; done = rw d.2 tt })
 
-pub tag_completed : (s : List ℕ) (at : ℕ) → at ≤ length s → (tag_at s at).answer ≡ tagged.Stopped Cut → Done s (λ (S : List ℕ). IsTag (tag_at S at).answer) ⊎ Overfull s (λ (S : List ℕ) (p : ℕ). (tag_at S at).answer ≡ tagged.Stopped (Long p))
+pub tag_completed : (s : List ℕ) (at : ℕ) → at ≤ length s → (tag_at s at).answer ≡ Err Cut → Done s (λ (S : List ℕ). IsTag (tag_at S at).answer) ⊎ Overfull s (λ (S : List ℕ) (p : ℕ). (tag_at S at).answer ≡ Err (Long p))
 unfolding tag_at
 tag_completed s at le e = by (name_at s at) refl (name_inside s at) e
   where
     Behind : List ℕ → Name → TagRead
     Behind S name = attrs_from S name [] 16 name.end
 
-    by : (r : Named) → name_at s at ≡ r → NamedInside (NameInside s at) s at (name_at s at) → (after_name (tag_stopped []) r (Behind s)).answer ≡ tagged.Stopped Cut → Done s (λ (S : List ℕ). IsTag (after_name (tag_stopped []) (name_at S at) (Behind S)).answer) ⊎ Overfull s (λ (S : List ℕ) (p : ℕ). (tag_at S at).answer ≡ tagged.Stopped (Long p))
-    by (named.Got name) f i e =
+    by : (r : Named) → name_at s at ≡ r → NamedInside (NameInside s at) s at (name_at s at) → (after_name (tag_stopped []) r (Behind s)).answer ≡ Err Cut → Done s (λ (S : List ℕ). IsTag (after_name (tag_stopped []) (name_at S at) (Behind S)).answer) ⊎ Overfull s (λ (S : List ℕ) (p : ℕ). (tag_at S at).answer ≡ Err (Long p))
+    by (Ok name) f i e =
         let n : NameInside s at name = subst (NamedInside (NameInside s at) s at) f i in
         or_full (λ d. record { more = d.more; few = d.few; done = rw (named_so s at name f d.more) d.done }) (λ t p r. rw (named_so s at name f t) r) (attrs_completed s name 16 [] name.end (omega (arith, n.inside)) e)
-    by (named.Stopped x) f i e =
-        let c : named.Stopped x ≡ named.Stopped Cut = cc in
+    by (Err x) f i e =
+        let c : Err x ≡ Err Cut = cc in
         or_full
         (λ n.
         let d = n.done 0x3E [] no_gt_char refl in
@@ -350,14 +340,14 @@ tag_completed s at le e = by (name_at s at) refl (name_inside s at) e
         (name_completed s at le (f ∙ c))
 
 abbrev pub IsEnd : Ended → Type 0
-IsEnd (ended.Got t) = Unit {0}
-IsEnd (ended.Stopped x) = ⊥
+IsEnd (Ok t) = Unit {0}
+IsEnd (Err x) = ⊥
 
-end_here : (s : List ℕ) (at : ℕ) (name : Name) (i : ℕ) → name_at s at ≡ named.Got name → spaces_end s name.end ≡ read.End i → Byte s i 0x3E → IsEnd (end_tag_at s at)
+end_here : (s : List ℕ) (at : ℕ) (name : Name) (i : ℕ) → name_at s at ≡ Ok name → spaces_end s name.end ≡ Ok i → Byte s i 0x3E → IsEnd (end_tag_at s at)
 unfolding end_tag_at
 end_here s at name i f g h = rw (f, g, wanted_here s i 0x3E h) tt
 
-pub end_tag_completed : (s : List ℕ) (at : ℕ) → at ≤ length s → end_tag_at s at ≡ ended.Stopped Cut → Done s (λ (S : List ℕ). IsEnd (end_tag_at S at)) ⊎ Overfull s (λ (S : List ℕ) (p : ℕ). end_tag_at S at ≡ ended.Stopped (Long p))
+pub end_tag_completed : (s : List ℕ) (at : ℕ) → at ≤ length s → end_tag_at s at ≡ Err Cut → Done s (λ (S : List ℕ). IsEnd (end_tag_at S at)) ⊎ Overfull s (λ (S : List ℕ) (p : ℕ). end_tag_at S at ≡ Err (Long p))
 unfolding end_tag_at
 end_tag_completed s at le e = by (name_at s at) refl (name_inside s at) e
   where
@@ -365,28 +355,28 @@ end_tag_completed s at le e = by (name_at s at) refl (name_inside s at) e
     Goal = Done s (λ (S : List ℕ). IsEnd (end_tag_at S at))
 
     Behind : Name → ℕ → Ended
-    Behind name i = after_read ended.Stopped (wanted s i 0x3E) (λ (next : ℕ). ended.Got (record { name = name; next = next }))
+    Behind name i = after_read Err (wanted s i 0x3E) (λ (next : ℕ). Ok (record { name = name; next = next }))
 
-    closes : (name : Name) (i : ℕ) → i < length s → (r : Read) → wanted s i 0x3E ≡ r → after_read ended.Stopped r (λ (next : ℕ). ended.Got (record { name = name; next = next })) ≡ ended.Stopped Cut → Goal
-    closes name i lt (read.End j) g e = let z : ◌≡◌ {A = ℕ} 0 1 = cc in absurd (omega arith)
-    closes name i lt (read.Stopped x) g e = let c : read.Stopped x ≡ read.Stopped Cut = cc in absurd (omega (arith, wanted_out s i 0x3E (g ∙ c)))
+    closes : (name : Name) (i : ℕ) → i < length s → (r : Read) → wanted s i 0x3E ≡ r → ◌≡◌ {A = Ended} (after_read Err r (λ (next : ℕ). Ok (record { name = name; next = next }))) (Err Cut) → Goal
+    closes name i lt (Ok j) g e = let z : ◌≡◌ {A = ℕ} 0 1 = cc in absurd (omega arith)
+    closes name i lt (Err x) g e = let c : Err x ≡ Err Cut = cc in absurd (omega (arith, wanted_out s i 0x3E (g ∙ c)))
 
-    spaced : (name : Name) → name_at s at ≡ named.Got name → name.end ≤ length s → (r : Read) → spaces_end s name.end ≡ r → ReadInside (SpacesTo s name.end) s name.end r → after_read ended.Stopped r (Behind name) ≡ ended.Stopped Cut → Goal
-    spaced name f lt (read.End i) g to e = closes name i to.1 (wanted s i 0x3E) refl e
-    spaced name f lt (read.Stopped x) g to e =
-        let c : read.Stopped x ≡ read.Stopped Cut = cc in
+    spaced : (name : Name) → name_at s at ≡ Ok name → name.end ≤ length s → (r : Read) → spaces_end s name.end ≡ r → ReadInside (SpacesTo s name.end) s name.end r → after_read Err r (Behind name) ≡ Err Cut → Goal
+    spaced name f lt (Ok i) g to e = closes name i to.1 (wanted s i 0x3E) refl e
+    spaced name f lt (Err x) g to e =
+        let c : Err x ≡ Err Cut = cc in
         record {
           more = gt;
           few = omega arith;
           done = end_here (s ++ gt) at name (length s) (named_so s at name f gt) (spaces_completed s name.end lt (g ∙ c) 0x3E [] refl) (byte_in s [] gt 0 (length s) (omega arith) (omega arith));
         }
 
-    by : (r : Named) → name_at s at ≡ r → NamedInside (NameInside s at) s at (name_at s at) → after_name ended.Stopped r (λ (name : Name). after_read ended.Stopped (spaces_end s name.end) (Behind name)) ≡ ended.Stopped Cut → Goal ⊎ Overfull s (λ (S : List ℕ) (p : ℕ). end_tag_at S at ≡ ended.Stopped (Long p))
-    by (named.Got name) f i e =
+    by : (r : Named) → name_at s at ≡ r → NamedInside (NameInside s at) s at (name_at s at) → after_name Err r (λ (name : Name). after_read Err (spaces_end s name.end) (Behind name)) ≡ Err Cut → Goal ⊎ Overfull s (λ (S : List ℕ) (p : ℕ). end_tag_at S at ≡ Err (Long p))
+    by (Ok name) f i e =
         let n : NameInside s at name = subst (NamedInside (NameInside s at) s at) f i in
         inl (spaced name f (omega (arith, n.inside)) (spaces_end s name.end) refl (spaces_inside s name.end) e)
-    by (named.Stopped x) f i e =
-        let c : named.Stopped x ≡ named.Stopped Cut = cc in
+    by (Err x) f i e =
+        let c : Err x ≡ Err Cut = cc in
         or_full
         (λ n.
         let d = n.done 0x3E [] no_gt_char refl in
@@ -409,8 +399,8 @@ tag_here_lem s i h k =
 -- a tag that is whole begins, or nothing more
 abbrev pub Begins : List ℕ → ℕ → Bool → Bool → Type 0
 Begins s at inside closed =
-    ((place : ℕ) × (begin_at s at inside closed ≡ begin.Start place) × IsTag (tag_at s (place + 1)).answer)
-    ⊎ (begin_at s at inside closed ≡ begin.Finished)
+    ((place : ℕ) × (begin_at s at inside closed ≡ Ok (begin.Start place)) × IsTag (tag_at s (place + 1)).answer)
+    ⊎ (begin_at s at inside closed ≡ (Ok begin.Finished))
 
 pub record BeginDone (s : List ℕ) (at : ℕ) (inside closed : Bool) : Type 0 where
   pub more : List ℕ
@@ -422,22 +412,22 @@ abbrev AheadDone : List ℕ → ℕ → Bool → Bool → Type 0
 AheadDone s at inside closed = BeginDone s at inside closed ⊎ Overfull s (λ (S : List ℕ) (p : ℕ). ahead_at S inside closed at ≡ stopped_ahead (Long p))
 
 module _ (s : List ℕ) (inside closed : Bool) where
-  begun : (at : ℕ) (b : Begin) → ahead_at s inside closed at ≡ ahead.Event b → begin_at s at inside closed ≡ b
+  begun : (at : ℕ) (b : BeginRead) → ahead_at s inside closed at ≡ Break b → begin_at s at inside closed ≡ b
   begun at b e = begin_is s at inside closed ∙ ap (ahead_then (λ (j : ℕ). begin_at s j inside closed)) e
 
-  over : (at j : ℕ) → ahead_at s inside closed at ≡ ahead.Misc j → begin_at s at inside closed ≡ begin_at s j inside closed
+  over : (at j : ℕ) → ahead_at s inside closed at ≡ Continue j → begin_at s at inside closed ≡ begin_at s j inside closed
   over at j e = begin_is s at inside closed ∙ ap (ahead_then (λ (j : ℕ). begin_at s j inside closed)) e
 
-  begins_behind : (at j : ℕ) → ahead_at s inside closed at ≡ ahead.Misc j → Begins s j inside closed → Begins s at inside closed
+  begins_behind : (at j : ℕ) → ahead_at s inside closed at ≡ Continue j → Begins s j inside closed → Begins s at inside closed
   begins_behind at j e = ⊎_elim (λ t. inl (t.0, over at j e ∙ t.1, t.2)) (λ f. inr (over at j e ∙ f))
 
   -- <a> at i
-  either_tag : (i : ℕ) → (inside || not closed) ≡ true → Byte s i 0x3C → Byte s (i + 1) 0x61 → either_at s inside closed i ≡ ahead.Event (begin.Start i)
+  either_tag : (i : ℕ) → (inside || not closed) ≡ true → Byte s i 0x3C → Byte s (i + 1) 0x61 → either_at s inside closed i ≡ Break (Ok (begin.Start i))
   unfolding either_at markup_at
   either_tag i o h k = rw (lt-ltb i (length s) h.0, h.1, lt-ltb (i + 1) (length s) k.0, k.1, o)
 
   tag_begins : (at i : ℕ) → ahead_at s inside closed at ≡ either_at s inside closed i → (inside || not closed) ≡ true → Byte s i 0x3C → Byte s (i + 1) 0x61 → Byte s (i + 1 + 1) 0x3E → Begins s at inside closed
-  tag_begins at i looks o h k g = inl (i, begun at (begin.Start i) (looks ∙ either_tag i o h k), tag_here_lem s (i + 1) k g)
+  tag_begins at i looks o h k g = inl (i, begun at (Ok (begin.Start i)) (looks ∙ either_tag i o h k), tag_here_lem s (i + 1) k g)
 
 looks_here : (s : List ℕ) (inside closed : Bool) (i : ℕ) → Byte s i 0x3C → ahead_at s inside closed i ≡ either_at s inside closed i
 unfolding ahead_at
@@ -447,7 +437,7 @@ looks_here s false closed i h = rw (spaces_here s i 0x3C h refl)
 -- behind the root, at the scene's end
 finishes : (s : List ℕ) (i : ℕ) → length s ≤ i → Begins s i false true
 unfolding ahead_at spaces_end run
-finishes s i le = inr (begun s false true i begin.Finished (rw (drop_out s i le)))
+finishes s i le = inr (begun s false true i (Ok begin.Finished) (rw (drop_out s i le)))
 
 -- the < of a tag is still to come, at the scene's end
 from_none : (s : List ℕ) (at : ℕ) (inside closed : Bool) → (inside || not closed) ≡ true → ahead_at (s ++ (0x3C ∷ 0x61 ∷ 0x3E ∷ [])) inside closed at ≡ either_at (s ++ (0x3C ∷ 0x61 ∷ 0x3E ∷ [])) inside closed (length s) → BeginDone s at inside closed
@@ -485,7 +475,7 @@ module _ (s : List ℕ) (at : ℕ) (inside closed : Bool) (i : ℕ) (lt : i < le
       j : ℕ
       j = length s + length r.more
 
-      misc : (u : List ℕ) → ahead_at (s ++ (r.more ++ u)) inside closed at ≡ ahead.Misc j
+      misc : (u : List ℕ) → ahead_at (s ++ (r.more ++ u)) inside closed at ≡ Continue j
       misc u = markup (r.more ++ u) ∙ opens u ∙ rw (r.done u)
 
       -- then <a>
@@ -505,7 +495,7 @@ module _ (s : List ℕ) (at : ℕ) (inside closed : Bool) (i : ℕ) (lt : i < le
       by false false p q = then_tag (rw (p, q))
       by false true p q =
           let same : s ++ (r.more ++ []) ≡ s ++ r.more = ap (λ (l : List ℕ). s ++ l) (append-nil r.more) in
-          let e : ahead_at (s ++ r.more) inside closed at ≡ ahead.Misc j = rw same at (misc []) in
+          let e : ahead_at (s ++ r.more) inside closed at ≡ Continue j = rw same at (misc []) in
           record {
             more = r.more;
             few = omega (arith, r.few);
@@ -541,17 +531,17 @@ module _ (s : List ℕ) (at : ℕ) (inside closed : Bool) (i : ℕ) (lt : i < le
           b : ℕ
           b = get_or s (i + 1) 0
 
-          misc : eqb b 0x2F ≡ false → opens_misc b ≡ true → (r : Read) → misc_end s i ≡ r → after_read stopped_ahead r (λ (j : ℕ). ahead.Misc j) ≡ stopped_ahead Cut → AheadDone s at inside closed
-          misc n o (read.End j) f e = let z : ◌≡◌ {A = ℕ} 0 1 = cc in absurd (omega arith)
-          misc n o (read.Stopped x) f e =
-              let c : read.Stopped x ≡ read.Stopped Cut = cc in
+          misc : eqb b 0x2F ≡ false → opens_misc b ≡ true → (r : Read) → misc_end s i ≡ r → after_read stopped_ahead r (λ (j : ℕ). Continue j) ≡ stopped_ahead Cut → AheadDone s at inside closed
+          misc n o (Ok j) f e = let z : ◌≡◌ {A = ℕ} 0 1 = cc in absurd (omega arith)
+          misc n o (Err x) f e =
+              let c : Err x ≡ Err Cut = cc in
               or_full (λ r. from_misc r (λ u. opens (r.more ++ u))) (λ t p r. markup t ∙ opens t ∙ rw r) (misc_completed s i lt' (f ∙ c))
             where
               opens : (t : List ℕ) → markup_at (s ++ t) inside closed i ≡ misc_ahead (s ++ t) i
               opens t = let h = byte_kept s t (i + 1) lt' in opens_misc_lem t (h.0, refl) (rw h.1 n) (rw h.1 o)
 
           by : (x : Bool) → eqb b 0x2F ≡ x → (y : Bool) → opens_misc b ≡ y → (v w : Bool)
-              → cond x (cond v (ahead.Event (begin.End i)) (stopped_ahead (Bad (i + 1)))) (cond y (after_read stopped_ahead (misc_end s i) (λ (j : ℕ). ahead.Misc j)) (cond w (ahead.Event (begin.Start i)) (stopped_ahead (Bad (i + 1))))) ≡ stopped_ahead Cut
+              → cond x (cond v (Break (Ok (begin.End i))) (stopped_ahead (Bad (i + 1)))) (cond y (after_read stopped_ahead (misc_end s i) (λ (j : ℕ). Continue j)) (cond w (Break (Ok (begin.Start i))) (stopped_ahead (Bad (i + 1))))) ≡ stopped_ahead Cut
               → AheadDone s at inside closed
           by true p y q true w f = let z : ◌≡◌ {A = ℕ} 0 1 = cc in absurd (omega arith)
           by true p y q false w f = let z : ◌≡◌ {A = ℕ} 0 1 = cc in absurd (omega arith)
@@ -564,7 +554,7 @@ from_byte : (s : List ℕ) (at : ℕ) (inside closed : Bool) (i : ℕ) → i < l
 unfolding either_at
 from_byte s at inside closed i lt looks e = by (eqb (get_or s i 0) 0x3C) refl inside (rw (lt-ltb i (length s) lt) at e)
   where
-    by : (t : Bool) → eqb (get_or s i 0) 0x3C ≡ t → (v : Bool) → cond t (markup_at s inside closed i) (cond v (ahead.Event (begin.Text i)) (stopped_ahead (Bad i))) ≡ stopped_ahead Cut → AheadDone s at inside closed
+    by : (t : Bool) → eqb (get_or s i 0) 0x3C ≡ t → (v : Bool) → cond t (markup_at s inside closed i) (cond v (Break (Ok (begin.Text i))) (stopped_ahead (Bad i))) ≡ stopped_ahead Cut → AheadDone s at inside closed
     by true q v f = from_markup s at inside closed i lt (eqb-true (get_or s i 0) 0x3C q) looks f
     by false q true f = let z : ◌≡◌ {A = ℕ} 0 1 = cc in absurd (omega arith)
     by false q false f = let z : ◌≡◌ {A = ℕ} 0 1 = cc in absurd (omega arith)
@@ -579,32 +569,32 @@ ahead_completed s at true closed le e = ⊎_elim (λ h. inl (out h)) (λ lt. fro
         from_none s at true closed refl (ap (either_at (s ++ (0x3C ∷ 0x61 ∷ 0x3E ∷ [])) true closed) here)
 ahead_completed s at false closed le e = by (spaces_end s at) refl (spaces_inside s at) e
   where
-    none : (x : Stop) → spaces_end s at ≡ read.Stopped x → (c : Bool) → closed ≡ c → ending c x ≡ stopped_ahead Cut → BeginDone s at false closed
+    none : (x : Stop) → spaces_end s at ≡ Err x → (c : Bool) → closed ≡ c → ending c x ≡ stopped_ahead Cut → BeginDone s at false closed
     none x g true q e = let z : ◌≡◌ {A = ℕ} 0 1 = cc in absurd (omega arith)
     none x g false q e =
-        let c : read.Stopped x ≡ read.Stopped Cut = cc in
+        let c : Err x ≡ Err Cut = cc in
         from_none s at false closed (rw q) (rw (spaces_completed s at le (g ∙ c) 0x3C (0x61 ∷ 0x3E ∷ []) refl))
 
     by : (r : Read) → spaces_end s at ≡ r → ReadInside (SpacesTo s at) s at (spaces_end s at) → after_read (ending closed) r (λ (i : ℕ). either_at s false closed i) ≡ stopped_ahead Cut → AheadDone s at false closed
-    by (read.End i) g in' e =
+    by (Ok i) g in' e =
         let to : SpacesTo s at i = subst (ReadInside (SpacesTo s at) s at) g in' in
         from_byte s at false closed i to.1 (λ t. rw (read_so (spaces_end s at) (spaces_end (s ++ t) at) i g (spaces_stable s t at))) e
-    by (read.Stopped x) g in' e = inl (none x g closed refl e)
+    by (Err x) g in' e = inl (none x g closed refl e)
 
-pub begin_completed : (s : List ℕ) (at : ℕ) (inside closed : Bool) → at ≤ length s → begin_at s at inside closed ≡ begin.Stopped Cut → BeginDone s at inside closed ⊎ Overfull s (λ (S : List ℕ) (p : ℕ). begin_at S at inside closed ≡ begin.Stopped (Long p))
+pub begin_completed : (s : List ℕ) (at : ℕ) (inside closed : Bool) → at ≤ length s → begin_at s at inside closed ≡ Err Cut → BeginDone s at inside closed ⊎ Overfull s (λ (S : List ℕ) (p : ℕ). begin_at S at inside closed ≡ Err (Long p))
 begin_completed s at inside closed le e =
-    begin_held s inside closed (λ (i : ℕ) (b : Begin). b ≡ begin.Stopped Cut → i ≤ length s → BeginDone s i inside closed ⊎ Overfull s (λ (S : List ℕ) (p : ℕ). begin_at S i inside closed ≡ begin.Stopped (Long p)))
-    (λ i b f q h. or_full (λ d. d) (λ t p r. begun (s ++ t) inside closed i (begin.Stopped (Long p)) r) (ahead_completed s i inside closed h (f ∙ ap ahead.Event q)))
+    begin_held s inside closed (λ (i : ℕ) (b : BeginRead). b ≡ Err Cut → i ≤ length s → BeginDone s i inside closed ⊎ Overfull s (λ (S : List ℕ) (p : ℕ). begin_at S i inside closed ≡ Err (Long p)))
+    (λ i b f q h. or_full (λ d. d) (λ t p r. begun (s ++ t) inside closed i (Err (Long p)) r) (ahead_completed s i inside closed h (f ∙ ap Break q)))
     (λ i j b f to d q h. or_full (behind i j f) (λ t p r. over (s ++ t) inside closed i j (same i j f t) ∙ r) (d q to.1))
     at
     e
     le
   where
-    same : (i j : ℕ) → ahead_at s inside closed i ≡ ahead.Misc j → (t : List ℕ) → ahead_at (s ++ t) inside closed i ≡ ahead.Misc j
+    same : (i j : ℕ) → ahead_at s inside closed i ≡ Continue j → (t : List ℕ) → ahead_at (s ++ t) inside closed i ≡ Continue j
     same i j f t = ahead_stable s t inside closed i (λ c. whole (subst CutAhead f c)) ∙ f
       where
-        whole : CutAhead (ahead.Misc j) → ⊥
+        whole : CutAhead (Continue j) → ⊥
         whole = ⊎_elim (λ q. let z : ◌≡◌ {A = ℕ} 0 1 = cc in omega arith) (λ q. let z : ◌≡◌ {A = ℕ} 0 1 = cc in omega arith)
 
-    behind : (i j : ℕ) → ahead_at s inside closed i ≡ ahead.Misc j → BeginDone s j inside closed → BeginDone s i inside closed
+    behind : (i j : ℕ) → ahead_at s inside closed i ≡ Continue j → BeginDone s j inside closed → BeginDone s i inside closed
     behind i j f d = record { more = d.more; few = d.few; begins = begins_behind (s ++ d.more) inside closed i j (same i j f d.more) d.begins }

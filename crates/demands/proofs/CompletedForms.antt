@@ -2,6 +2,7 @@
 --     Goes, Fresh, Ends                              the bytes that end it; the word of one that has not begun
 --     ends_then, ends_spaced, ends_peek              a form behind a form, behind space, by its first byte
 --     ends_machine, ends_wanted, ends_word, ends_equals
+use Rattle.std.specs.Prelude.{Ok, Err}
 use Prim.Native.Nat.{ℕ, ◌+◌, ◌≤◌, ◌<◌}
 use mathlib.Core.Path.{◌≡◌, refl, sym, ap, subst, ◌∙◌}
 use mathlib.Core.List.{List, [], ◌∷◌, ◌++◌, append_assoc}
@@ -19,23 +20,22 @@ use Rattle.lexer.specs.Names.{is_space, spaces_end}
 use Rattle.lexer.specs.Tags.{wanted, equals_end}
 use Rattle.lexer.specs.Declaration.{word_end}
 use Rattle.lexer.specs.declared.Stop.TheVariants.{Bad, Cut}
-use Rattle.lexer.specs.declared.Read.{Read}
-use Rattle.lexer.specs.declared.Read.TheVariants as read
+use Rattle.lexer.specs.Reads.{Read}
 use Rattle.lexer.proofs.Inside.{ReadInside, SpacesTo, spaces_inside}
 use Rattle.lexer.proofs.Stable.{spaces_stable, wanted_stable}
 use Rattle.lexer.proofs.MiscLaws.{Onward, byte_inside}
 use Rattle.demands.proofs.CompletedParts.{byte_in, byte_kept, Form, Rest, NotCut, runs_out, read_so, spaces_here, spaces_completed}
 
 abbrev pub Refused : Form
-Refused s at = read.Stopped (Bad at)
+Refused s at = Err (Bad at)
 
 -- a form of which a byte is there: at most k more
 abbrev pub Goes : Form → ℕ → Type 0
-Goes f k = (s : List ℕ) (at : ℕ) → at < length s → f s at ≡ read.Stopped Cut → Rest f s at k
+Goes f k = (s : List ℕ) (at : ℕ) → at < length s → f s at ≡ Err Cut → Rest f s at k
 
 -- a form of which nothing is there: a word
 abbrev pub Fresh : Form → List ℕ → Type 0
-Fresh f word = (s u : List ℕ) → f (s ++ (word ++ u)) (length s) ≡ read.End (length s + length word)
+Fresh f word = (s u : List ℕ) → f (s ++ (word ++ u)) (length s) ≡ Ok (length s + length word)
 
 pub record Ends (f : Form) (word : List ℕ) (k : ℕ) : Type 0 where
   pub fresh : Fresh f word
@@ -47,7 +47,7 @@ goes_more f j k le h s at lt e =
     record { more = r.more; few = omega (arith, r.few); done = r.done }
 
 -- begun or not
-pub ends_at : (f : Form) (word : List ℕ) (j k : ℕ) → Ends f word j → j ≤ k → length word ≤ k → (s : List ℕ) (at : ℕ) → at ≤ length s → f s at ≡ read.Stopped Cut → Rest f s at k
+pub ends_at : (f : Form) (word : List ℕ) (j k : ℕ) → Ends f word j → j ≤ k → length word ≤ k → (s : List ℕ) (at : ℕ) → at ≤ length s → f s at ≡ Err Cut → Rest f s at k
 ends_at f word j k h le few s at hi e = ⊎_elim none (λ lt. goes_more f j k le h.goes s at lt e) (le_or_lt (length s) at)
   where
     none : length s ≤ at → Rest f s at k
@@ -56,13 +56,13 @@ ends_at f word j k h le few s at hi e = ⊎_elim none (λ lt. goes_more f j k le
         record { more = word; few = few; done = λ u. ap (f (s ++ (word ++ u))) here ∙ h.fresh s u }
 
 -- a word behind other bytes
-pub fresh_behind : (f : Form) (word : List ℕ) → Fresh f word → (s m u : List ℕ) (i : ℕ) → i ≡ length s + length m → f (s ++ (m ++ (word ++ u))) i ≡ read.End (length s + length (m ++ word))
+pub fresh_behind : (f : Form) (word : List ℕ) → Fresh f word → (s m u : List ℕ) (i : ℕ) → i ≡ length s + length m → f (s ++ (m ++ (word ++ u))) i ≡ Ok (length s + length (m ++ word))
 fresh_behind f word h s m u i e =
     let here : i ≡ length (s ++ m) = e ∙ sym (length-append s m) in
     ap (λ (l : List ℕ). f l i) (sym (append_assoc s m (word ++ u)))
     ∙ ap (f ((s ++ m) ++ (word ++ u))) here
     ∙ h (s ++ m) u
-    ∙ ap read.End (omega (arith, length-append s m, length-append m word))
+    ∙ ap Ok (omega (arith, length-append s m, length-append m word))
 
 pub ends_same : (f g : Form) (word : List ℕ) (k : ℕ) → ((s : List ℕ) (at : ℕ) → g s at ≡ f s at) → Ends f word k → Ends g word k
 ends_same f g word k same h =
@@ -75,23 +75,23 @@ ends_same f g word k same h =
     }
 
 -- ---- a form behind a form
-module _ (f g : Form) (inside : (s : List ℕ) (at : ℕ) → ReadInside (Onward s at) s at (f s at)) (stable : (s t : List ℕ) (at : ℕ) → Stable (read.Stopped Cut) (f s at) (f (s ++ t) at)) where
+module _ (f g : Form) (inside : (s : List ℕ) (at : ℕ) → ReadInside (Onward s at) s at (f s at)) (stable : (s t : List ℕ) (at : ℕ) → Stable (Err Cut) (f s at) (f (s ++ t) at)) where
   abbrev pub Then : Form
-  Then s at = after_read read.Stopped (f s at) (λ (i : ℕ). g s i)
+  Then s at = after_read Err (f s at) (λ (i : ℕ). g s i)
 
   pub ends_then : (wf wg : List ℕ) (kf kg k : ℕ) → Ends f wf kf → Ends g wg kg → kf + length wg ≤ k → kg ≤ k → Ends Then (wf ++ wg) k
   ends_then wf wg kf kg k hf hg le le' =
       record {
         fresh =
             λ s u.
-            let a : f (s ++ ((wf ++ wg) ++ u)) (length s) ≡ read.End (length s + length wf) = ap (λ (l : List ℕ). f (s ++ l) (length s)) (append_assoc wf wg u) ∙ hf.fresh s (wg ++ u) in
-            let b : g (s ++ ((wf ++ wg) ++ u)) (length s + length wf) ≡ read.End (length s + length (wf ++ wg)) = ap (λ (l : List ℕ). g (s ++ l) (length s + length wf)) (append_assoc wf wg u) ∙ fresh_behind g wg hg.fresh s wf u (length s + length wf) refl in
+            let a : f (s ++ ((wf ++ wg) ++ u)) (length s) ≡ Ok (length s + length wf) = ap (λ (l : List ℕ). f (s ++ l) (length s)) (append_assoc wf wg u) ∙ hf.fresh s (wg ++ u) in
+            let b : g (s ++ ((wf ++ wg) ++ u)) (length s + length wf) ≡ Ok (length s + length (wf ++ wg)) = ap (λ (l : List ℕ). g (s ++ l) (length s + length wf)) (append_assoc wf wg u) ∙ fresh_behind g wg hg.fresh s wf u (length s + length wf) refl in
             rw a b;
         goes = λ s at lt e. by s at lt (f s at) refl (inside s at) e;
       }
     where
-      by : (s : List ℕ) (at : ℕ) → at < length s → (r : Read) → f s at ≡ r → ReadInside (Onward s at) s at (f s at) → after_read read.Stopped r (λ (i : ℕ). g s i) ≡ read.Stopped Cut → Rest Then s at k
-      by s at lt (read.End j) q in' e =
+      by : (s : List ℕ) (at : ℕ) → at < length s → (r : Read) → f s at ≡ r → ReadInside (Onward s at) s at (f s at) → after_read Err r (λ (i : ℕ). g s i) ≡ Err Cut → Rest Then s at k
+      by s at lt (Ok j) q in' e =
           let to : Onward s at j = subst (ReadInside (Onward s at) s at) q in' in
           let r = ends_at g wg kg k hg le' (omega arith) s j to.1 e in
           record {
@@ -99,7 +99,7 @@ module _ (f g : Form) (inside : (s : List ℕ) (at : ℕ) → ReadInside (Onward
             few = r.few;
             done = λ u. rw (read_so (f s at) (f (s ++ (r.more ++ u)) at) j q (stable s (r.more ++ u) at)) (r.done u);
           }
-      by s at lt (read.Stopped x) q in' e =
+      by s at lt (Err x) q in' e =
           let r = hf.goes s at lt (q ∙ e) in
           record {
             more = r.more ++ wg;
@@ -110,7 +110,7 @@ module _ (f g : Form) (inside : (s : List ℕ) (at : ℕ) → ReadInside (Onward
 -- ---- a form behind space. g: by the place where the space begins
 module _ (g : ℕ → Form) where
   abbrev pub Spaced : Form
-  Spaced s at = after_read read.Stopped (spaces_end s at) (λ (i : ℕ). g at s i)
+  Spaced s at = after_read Err (spaces_end s at) (λ (i : ℕ). g at s i)
 
   pub ends_spaced : (c : ℕ) (w : List ℕ) (kg k : ℕ) → is_space c ≡ false → ((at : ℕ) → Ends (g at) (c ∷ w) kg) → kg ≤ k → length (c ∷ w) ≤ k → Ends Spaced (c ∷ w) k
   ends_spaced c w kg k n h le few =
@@ -119,8 +119,8 @@ module _ (g : ℕ → Form) where
         goes = λ s at lt e. by s at lt (spaces_end s at) refl (spaces_inside s at) e;
       }
     where
-      by : (s : List ℕ) (at : ℕ) → at < length s → (r : Read) → spaces_end s at ≡ r → ReadInside (SpacesTo s at) s at (spaces_end s at) → after_read read.Stopped r (λ (i : ℕ). g at s i) ≡ read.Stopped Cut → Rest Spaced s at k
-      by s at lt (read.End i) q in' e =
+      by : (s : List ℕ) (at : ℕ) → at < length s → (r : Read) → spaces_end s at ≡ r → ReadInside (SpacesTo s at) s at (spaces_end s at) → after_read Err r (λ (i : ℕ). g at s i) ≡ Err Cut → Rest Spaced s at k
+      by s at lt (Ok i) q in' e =
           let to : SpacesTo s at i = subst (ReadInside (SpacesTo s at) s at) q in' in
           let r = (h at).goes s i to.1 e in
           record {
@@ -128,13 +128,13 @@ module _ (g : ℕ → Form) where
             few = omega (arith, r.few);
             done = λ u. rw (read_so (spaces_end s at) (spaces_end (s ++ (r.more ++ u)) at) i q (spaces_stable s (r.more ++ u) at)) (r.done u);
           }
-      by s at lt (read.Stopped x) q in' e =
+      by s at lt (Err x) q in' e =
           record { more = c ∷ w; few = few; done = λ u. rw (spaces_completed s at (omega arith) (q ∙ e) c (w ++ u) n) ((h at).fresh s u) }
 
 -- ---- a form by its first byte
 module _ (g : ℕ → Form) where
   abbrev pub Peeked : Form
-  Peeked s at = peek (read.Stopped Cut) s at (λ (b : ℕ). g b s at)
+  Peeked s at = peek (Err Cut) s at (λ (b : ℕ). g b s at)
 
   pub goes_peek : (k : ℕ) → ((b : ℕ) → Goes (g b) k) → Goes Peeked k
   goes_peek k h s at lt e =
@@ -182,11 +182,11 @@ module _ {St : Type 0} (step : St → ℕ → ℕ → RunNext St Read) (k : ℕ)
   pub record Stops (q : St) : Type 0 where
     pub word : List ℕ
     pub few : length word ≤ k
-    pub stops : (u : List ℕ) (i : ℕ) → run (read.Stopped Cut) step q (word ++ u) i ≡ read.End (i + length word)
+    pub stops : (u : List ℕ) (i : ℕ) → run (Err Cut) step q (word ++ u) i ≡ Ok (i + length word)
 
   module _ (J : St → Type 0) (turn : (q : St) (b i : ℕ) → J q → Turned J NotCut (step q b i)) (each : (q : St) → J q → Stops q) (q : St) (j : J q) where
     abbrev pub Runs : Form
-    Runs s at = run (read.Stopped Cut) step q (drop at s) at
+    Runs s at = run (Err Cut) step q (drop at s) at
 
     pub ends_machine : Ends Runs (each q j).word k
     ends_machine =
@@ -209,11 +209,11 @@ Word word s at = word_end s at word
 pub ends_wanted : (b : ℕ) → Ends (OneByte b) (b ∷ []) 0
 unfolding wanted
 ends_wanted b =
-    ends_peek (λ (x : ℕ) (s : List ℕ) (at : ℕ). cond (eqb x b) (read.End (at + 1)) (read.Stopped (Bad at))) b [] 0
+    ends_peek (λ (x : ℕ) (s : List ℕ) (at : ℕ). cond (eqb x b) (Ok (at + 1)) (Err (Bad at))) b [] 0
     (λ s u. rw (eq-eqb b b refl))
     (λ x s at lt e. absurd (by (eqb x b) at e))
   where
-    by : (t : Bool) (at : ℕ) → cond t (read.End (at + 1)) (read.Stopped (Bad at)) ≡ read.Stopped Cut → ⊥
+    by : (t : Bool) (at : ℕ) → cond t (Ok (at + 1)) (Err (Bad at)) ≡ Err Cut → ⊥
     by true at e = let z : ◌≡◌ {A = ℕ} 0 1 = cc in omega arith
     by false at e = let z : ◌≡◌ {A = ℕ} 0 1 = cc in omega arith
 
@@ -225,7 +225,7 @@ behind_first (c ∷ word) = length word
 pub ends_word : (word : List ℕ) → Ends (Word word) word (behind_first word)
 unfolding word_end
 ends_word [] =
-    record { fresh = λ s u. ap read.End (omega arith); goes = λ s at lt e. let z : ◌≡◌ {A = ℕ} 0 1 = cc in absurd (omega arith) }
+    record { fresh = λ s u. ap Ok (omega arith); goes = λ s at lt e. let z : ◌≡◌ {A = ℕ} 0 1 = cc in absurd (omega arith) }
 ends_word (c ∷ word) =
     ends_then (OneByte c) (Word word) (λ s at. byte_inside s at c) (λ s t at. wanted_stable s t at c) (c ∷ []) word 0 (behind_first word) (length word) (ends_wanted c) (ends_word word) (omega arith) (few word)
   where
@@ -236,7 +236,7 @@ ends_word (c ∷ word) =
 -- ---- optional space, =, optional space
 module _ (g : Form) where
   abbrev pub Equalled : Form
-  Equalled s at = after_read read.Stopped (equals_end s at) (λ (i : ℕ). g s i)
+  Equalled s at = after_read Err (equals_end s at) (λ (i : ℕ). g s i)
 
   pub ends_equals : (c : ℕ) (w : List ℕ) (kg k : ℕ) → is_space c ≡ false → Ends g (c ∷ w) kg → kg ≤ k → 2 + length w ≤ k → Ends Equalled (0x3D ∷ c ∷ w) k
   unfolding equals_end
@@ -251,10 +251,10 @@ module _ (g : Form) where
       last : Ends behind (0x3D ∷ c ∷ w) k
       last = ends_then (OneByte 0x3D) (Spaced (λ (at : ℕ). g)) (λ s at. byte_inside s at 0x3D) (λ s t at. wanted_stable s t at 0x3D) (0x3D ∷ []) (c ∷ w) 0 k k (ends_wanted 0x3D) (ends_spaced (λ (at : ℕ). g) c w kg k n (λ at. h) le (omega arith)) (omega arith) (omega arith)
 
-      one : (s : List ℕ) (r : Read) → after_read read.Stopped (after_read read.Stopped r (λ (j : ℕ). spaces_end s j)) (λ (i : ℕ). g s i) ≡ after_read read.Stopped r (λ (j : ℕ). Spaced (λ (at : ℕ). g) s j)
-      one s (read.End j) = refl
-      one s (read.Stopped x) = refl
+      one : (s : List ℕ) (r : Read) → after_read Err (after_read Err r (λ (j : ℕ). spaces_end s j)) (λ (i : ℕ). g s i) ≡ after_read Err r (λ (j : ℕ). Spaced (λ (at : ℕ). g) s j)
+      one s (Ok j) = refl
+      one s (Err x) = refl
 
-      same : (s : List ℕ) (r : Read) → after_read read.Stopped (after_read read.Stopped r (λ (i : ℕ). after_read read.Stopped (wanted s i 0x3D) (λ (j : ℕ). spaces_end s j))) (λ (i : ℕ). g s i) ≡ after_read read.Stopped r (λ (i : ℕ). behind s i)
-      same s (read.End i) = one s (wanted s i 0x3D)
-      same s (read.Stopped x) = refl
+      same : (s : List ℕ) (r : Read) → after_read Err (after_read Err r (λ (i : ℕ). after_read Err (wanted s i 0x3D) (λ (j : ℕ). spaces_end s j))) (λ (i : ℕ). g s i) ≡ after_read Err r (λ (i : ℕ). behind s i)
+      same s (Ok i) = one s (wanted s i 0x3D)
+      same s (Err x) = refl

@@ -4,6 +4,7 @@
 --     Unfinished, rest_read                          a character that was begun, and what makes it whole
 --     part_completed, name_completed                 three bytes suffice, unless the part has no room for them
 --     spaces_completed, value_completed
+use Rattle.std.specs.Prelude.{Ok, Err}
 use Prim.Native.Nat.{ℕ, zero, suc, ◌+◌, ◌-◌, ◌≤◌, ◌<◌}
 use mathlib.Core.Path.{◌≡◌, refl, sym, ap, subst, ◌∙◌}
 use mathlib.Core.List.{List, [], ◌∷◌, ◌++◌, append_assoc, append-nil}
@@ -33,11 +34,8 @@ use Rattle.lexer.specs.Characters.{with_byte, char_step, char_end}
 use Rattle.lexer.specs.Names.{is_space, space_step, spaces_end, PartState, part_state, part_set, part_whole, part_step, part_end, name_of, prefixed_at, name_at}
 use Rattle.lexer.specs.Values.{references, common, whole_of, furthest, no_reference, reference_end, text_at, passed_over, closes, value_step, value_from, value_end}
 use Rattle.lexer.specs.declared.Stop.TheVariants.{Bad, Long, Cut}
-use Rattle.lexer.specs.declared.Read.{Read}
-use Rattle.lexer.specs.declared.Read.TheVariants as read
+use Rattle.lexer.specs.Reads.{Read, Named}
 use Rattle.lexer.specs.declared.Name.{Name}
-use Rattle.lexer.specs.declared.Named.{Named}
-use Rattle.lexer.specs.declared.Named.TheVariants as named
 use Rattle.lexer.proofs.Inside.{ReadInside, PartTo, part_inside}
 use Rattle.lexer.proofs.Common.{common_none, common_few}
 use Rattle.lexer.proofs.CharacterLaws.{Within, PassedTo, char_rest}
@@ -85,7 +83,7 @@ Form = List ℕ → ℕ → Read
 pub record Rest (f : Form) (s : List ℕ) (at k : ℕ) : Type 0 where
   pub more : List ℕ
   pub few : length more ≤ k
-  pub done : (u : List ℕ) → f (s ++ (more ++ u)) at ≡ read.End (length s + length more)
+  pub done : (u : List ℕ) → f (s ++ (more ++ u)) at ≡ Ok (length s + length more)
 
 -- ---- a machine
 module _ {St Out : Type 0} (cut : Out) where
@@ -132,10 +130,10 @@ module _ {St Out : Type 0} (cut : Out) where
               }
 
 abbrev pub NotCut : Read → Type 0
-NotCut (read.End j) = Unit {0}
-NotCut (read.Stopped (Bad j)) = Unit {0}
-NotCut (read.Stopped (Long j)) = Unit {0}
-NotCut (read.Stopped Cut) = ⊥
+NotCut (Ok j) = Unit {0}
+NotCut (Err (Bad j)) = Unit {0}
+NotCut (Err (Long j)) = Unit {0}
+NotCut (Err Cut) = ⊥
 
 -- a machine that does not know the scene, and stops with no `Cut`
 module _ {St : Type 0} (step : St → ℕ → ℕ → RunNext St Read) (s : List ℕ) (J : St → ℕ → Type 0) where
@@ -143,32 +141,32 @@ module _ {St : Type 0} (step : St → ℕ → ℕ → RunNext St Read) (s : List
   pub record Left (q : St) (at : ℕ) : Type 0 where
     pub state : St
     pub kept : J state (length s)
-    pub same : (t : List ℕ) → run (read.Stopped Cut) step q (drop at (s ++ t)) at ≡ run (read.Stopped Cut) step state t (length s)
+    pub same : (t : List ℕ) → run (Err Cut) step q (drop at (s ++ t)) at ≡ run (Err Cut) step state t (length s)
 
-  pub runs_out : ((q : St) (i : ℕ) → i < length s → J q i → Turned (λ (q' : St). J q' (i + 1)) NotCut (step q (get_or s i 0) i)) → (q : St) (at : ℕ) → at ≤ length s → J q at → run (read.Stopped Cut) step q (drop at s) at ≡ read.Stopped Cut → Left q at
+  pub runs_out : ((q : St) (i : ℕ) → i < length s → J q i → Turned (λ (q' : St). J q' (i + 1)) NotCut (step q (get_or s i 0) i)) → (q : St) (at : ℕ) → at ≤ length s → J q at → run (Err Cut) step q (drop at s) at ≡ Err Cut → Left q at
   runs_out turn q at le j e =
-      let r = reaches (read.Stopped Cut) (λ (l : List ℕ). step) s J (λ (q : St) (i : ℕ). NotCut) turn (λ t q i lt m. refl) (drop at s) q at refl le j e in
+      let r = reaches (Err Cut) (λ (l : List ℕ). step) s J (λ (q : St) (i : ℕ). NotCut) turn (λ t q i lt m. refl) (drop at s) q at refl le j e in
       by r.state r.place r.kept r.same r.ends
     where
-      by : (p : St) (i : ℕ) → J p i → ((t : List ℕ) → run (read.Stopped Cut) step q (drop at (s ++ t)) at ≡ run (read.Stopped Cut) step p (drop i (s ++ t)) i) → (i ≡ length s) ⊎ ((i < length s) × ⊥) → Left q at
+      by : (p : St) (i : ℕ) → J p i → ((t : List ℕ) → run (Err Cut) step q (drop at (s ++ t)) at ≡ run (Err Cut) step p (drop i (s ++ t)) i) → (i ≡ length s) ⊎ ((i < length s) × ⊥) → Left q at
       by p i k same (inl f) =
           record {
             state = p;
             kept = subst (J p) f k;
-            same = λ t. same t ∙ ap (λ (l : List ℕ). run (read.Stopped Cut) step p l i) (drop_at s t i (sym f)) ∙ ap (run (read.Stopped Cut) step p t) f;
+            same = λ t. same t ∙ ap (λ (l : List ℕ). run (Err Cut) step p l i) (drop_at s t i (sym f)) ∙ ap (run (Err Cut) step p t) f;
           }
       by p i k same (inr h) = absurd h.1
 
 -- an end that was read stays
-pub read_so : (r r' : Read) (j : ℕ) → r ≡ read.End j → Stable (read.Stopped Cut) r r' → r' ≡ read.End j
-read_so r r' j e k = k (λ c. let d : read.End j ≡ read.Stopped Cut = sym e ∙ c in let z : ◌≡◌ {A = ℕ} 0 1 = cc in omega arith) ∙ e
+pub read_so : (r r' : Read) (j : ℕ) → r ≡ Ok j → Stable (Err Cut) r r' → r' ≡ Ok j
+read_so r r' j e k = k (λ c. let d : Ok j ≡ Err Cut = sym e ∙ c in let z : ◌≡◌ {A = ℕ} 0 1 = cc in omega arith) ∙ e
 
 -- ---- space
-pub spaces_here : (s : List ℕ) (at b : ℕ) → Byte s at b → is_space b ≡ false → spaces_end s at ≡ read.End at
+pub spaces_here : (s : List ℕ) (at b : ℕ) → Byte s at b → is_space b ≡ false → spaces_end s at ≡ Ok at
 unfolding spaces_end
-spaces_here s at b h n = run_byte (read.Stopped Cut) space_step s 0 at b h ∙ rw n
+spaces_here s at b h n = run_byte (Err Cut) space_step s 0 at b h ∙ rw n
 
-pub spaces_completed : (s : List ℕ) (at : ℕ) → at ≤ length s → spaces_end s at ≡ read.Stopped Cut → (b : ℕ) (u : List ℕ) → is_space b ≡ false → spaces_end (s ++ (b ∷ u)) at ≡ read.End (length s)
+pub spaces_completed : (s : List ℕ) (at : ℕ) → at ≤ length s → spaces_end s at ≡ Err Cut → (b : ℕ) (u : List ℕ) → is_space b ≡ false → spaces_end (s ++ (b ∷ u)) at ≡ Ok (length s)
 unfolding spaces_end run
 spaces_completed s at le e b u n = (runs_out space_step s (λ (q i : ℕ). Unit {0}) turn 0 at le tt e).same (b ∷ u) ∙ rw n
   where
@@ -218,7 +216,7 @@ unfinished x begun b e n = by (begins_so x begun b e).rest (begins_so x begun b 
 -- a machine goes over the rest of a character. at k begun: its state where k bytes are to come
 module _ {St : Type 0} (step : St → ℕ → ℕ → RunNext St Read) (x : Set) (c : ℕ) (allowed : member (ranges_of x) c ≡ true) (at : ℕ → List ℕ → St)
     (goes : (k : ℕ) (begun : List ℕ) (b i : ℕ) → 0 < length begun → length begun + suc k ≡ length (utf8 c) → begins x begun b ≡ true → step (at (suc k) begun) b i ≡ go (at k (with_byte begun b))) where
-  pub rest_read : (rest begun u : List ℕ) (i : ℕ) → 0 < length begun → 0 < length rest → utf8 c ≡ begun ++ rest → run (read.Stopped Cut) step (at (length rest) begun) (rest ++ u) i ≡ run (read.Stopped Cut) step (at 0 []) u (i + length rest)
+  pub rest_read : (rest begun u : List ℕ) (i : ℕ) → 0 < length begun → 0 < length rest → utf8 c ≡ begun ++ rest → run (Err Cut) step (at (length rest) begun) (rest ++ u) i ≡ run (Err Cut) step (at 0 []) u (i + length rest)
   unfolding run with_byte
   rest_read [] begun u i h l e = absurd (omega arith)
   rest_read (b ∷ []) begun u i h l e =
@@ -229,7 +227,7 @@ module _ {St : Type 0} (step : St → ℕ → ℕ → RunNext St Read) (x : Set)
       (rest_read (d ∷ rest) (begun ++ (b ∷ [])) u (i + 1) (omega (arith, length-append begun (b ∷ []))) (omega arith) (e ∙ sym (append_assoc begun (b ∷ []) (d ∷ rest))))
 
 -- a character of which a byte is there
-char_completed : (x : Set) (s : List ℕ) (at : ℕ) → at < length s → char_end x s at ≡ read.Stopped Cut → Rest (char_end x) s at 3
+char_completed : (x : Set) (s : List ℕ) (at : ℕ) → at < length s → char_end x s at ≡ Err Cut → Rest (char_end x) s at 3
 unfolding char_end
 char_completed x s at lt e =
     let r = runs_out (char_step x) s J turn [] at (omega arith) (inl refl) e in
@@ -247,7 +245,7 @@ char_completed x s at lt e =
         T : RunNext (List ℕ) Read → Type 0
         T = Turned (λ (l : List ℕ). J l (i + 1)) NotCut
 
-    by : (begun : List ℕ) → J begun (length s) → ((t : List ℕ) → run (read.Stopped Cut) (char_step x) [] (drop at (s ++ t)) at ≡ run (read.Stopped Cut) (char_step x) begun t (length s)) → Rest (char_end x) s at 3
+    by : (begun : List ℕ) → J begun (length s) → ((t : List ℕ) → run (Err Cut) (char_step x) [] (drop at (s ++ t)) at ≡ run (Err Cut) (char_step x) begun t (length s)) → Rest (char_end x) s at 3
     by begun (inl f) same = absurd (omega arith)
     by begun (inr u) same =
         record { more = u.rest; few = u.few; done = λ t. same (u.rest ++ t) ∙ char_rest x u.character u.allowed u.rest begun t (length s) u.lacks u.form }
@@ -266,16 +264,16 @@ letter_whole = refl
 letter_goes : (room i : ℕ) → 0 < room → part_step (part_state room []) 0x61 i ≡ go (part_state (room - 1) [])
 letter_goes room i h = rw (letter_char (eqb (room + 0) 64), ne_eqb room 0 (λ e. omega arith), letter_whole)
 
-pub part_stops : (room b i : ℕ) (u : List ℕ) → room < 64 → begins set.Name [] b ≡ false → run (read.Stopped Cut) part_step (part_state room []) (b ∷ u) i ≡ read.End i
+pub part_stops : (room b i : ℕ) (u : List ℕ) → room < 64 → begins set.Name [] b ≡ false → run (Err Cut) part_step (part_state room []) (b ∷ u) i ≡ Ok i
 unfolding run
 part_stops room b i u h n = rw (part_ends (part_state room []) b i (rw (ne_eqb room 64 (λ e. omega arith))) n)
 
-pub letter_then : (room b i : ℕ) (u : List ℕ) → 0 < room → room ≤ 64 → begins set.Name [] b ≡ false → run (read.Stopped Cut) part_step (part_state room []) (0x61 ∷ b ∷ u) i ≡ read.End (i + 1)
+pub letter_then : (room b i : ℕ) (u : List ℕ) → 0 < room → room ≤ 64 → begins set.Name [] b ≡ false → run (Err Cut) part_step (part_state room []) (0x61 ∷ b ∷ u) i ≡ Ok (i + 1)
 unfolding run
 letter_then room b i u lo hi n = rw (letter_goes room i lo) (part_stops (room - 1) b (i + 1) u (omega arith) n)
 
 -- the part a
-pub letter_part : (s : List ℕ) (i b : ℕ) → Byte s i 0x61 → Byte s (i + 1) b → begins set.Name [] b ≡ false → part_end s i ≡ read.End (i + 1)
+pub letter_part : (s : List ℕ) (i b : ℕ) → Byte s i 0x61 → Byte s (i + 1) b → begins set.Name [] b ≡ false → part_end s i ≡ Ok (i + 1)
 unfolding part_end
 letter_part s i b h k n = rw (drop_here s i h.0, h.1, drop_here s (i + 1) k.0, k.1) (letter_then 64 b i (drop (i + 1 + 1) s) (omega arith) (omega arith) n)
 
@@ -286,13 +284,13 @@ pub record PartDone (s : List ℕ) (at : ℕ) : Type 0 where
   pub room : ℕ
   pub left : room + (length s + length more) ≡ at + 64
   pub some : room < 64
-  pub reads : (u : List ℕ) → part_end (s ++ (more ++ u)) at ≡ run (read.Stopped Cut) part_step (part_state room []) u (length s + length more)
+  pub reads : (u : List ℕ) → part_end (s ++ (more ++ u)) at ≡ run (Err Cut) part_step (part_state room []) u (length s + length more)
 
-pub part_done : (s : List ℕ) (at : ℕ) (p : PartDone s at) (b : ℕ) (u : List ℕ) → begins set.Name [] b ≡ false → part_end (s ++ (p.more ++ (b ∷ u))) at ≡ read.End (length s + length p.more)
+pub part_done : (s : List ℕ) (at : ℕ) (p : PartDone s at) (b : ℕ) (u : List ℕ) → begins set.Name [] b ≡ false → part_end (s ++ (p.more ++ (b ∷ u))) at ≡ Ok (length s + length p.more)
 part_done s at p b u n = p.reads (b ∷ u) ∙ part_stops p.room b (length s + length p.more) u p.some n
 
 -- the bytes that are left of a character, where there is no room for them: the first without room is refused
-part_long : (c : ℕ) (rest begun : List ℕ) (room i : ℕ) → member (ranges_of (part_set (part_state room begun))) c ≡ true → room < length rest → utf8 c ≡ begun ++ rest → run (read.Stopped Cut) part_step (part_state room begun) rest i ≡ read.Stopped (Long (i + room))
+part_long : (c : ℕ) (rest begun : List ℕ) (room i : ℕ) → member (ranges_of (part_set (part_state room begun))) c ≡ true → room < length rest → utf8 c ≡ begun ++ rest → run (Err Cut) part_step (part_state room begun) rest i ≡ Err (Long (i + room))
 unfolding run with_byte
 part_long c [] begun room i m h e = absurd (omega arith)
 part_long c (b ∷ rest) begun zero i m h e =
@@ -357,7 +355,7 @@ module _ (s : List ℕ) (at : ℕ) where
 
   -- at the scene's end
   Reads : PartState → Type 0
-  Reads q = (t : List ℕ) → part_end (s ++ t) at ≡ run (read.Stopped Cut) part_step q t (length s)
+  Reads q = (t : List ℕ) → part_end (s ++ t) at ≡ run (Err Cut) part_step q t (length s)
 
   behind_whole : (room : ℕ) → room + length s ≡ at + 64 → at ≤ length s → Reads (part_state room []) → (x : Bool) → eqb room 64 ≡ x → PartDone s at
   unfolding Reads run
@@ -371,7 +369,7 @@ module _ (s : List ℕ) (at : ℕ) where
         reads = λ u. reads (0x61 ∷ u) ∙ rw (letter_goes room (length s) (omega (arith, eqb-true room 64 x)), eqb-true room 64 x);
       }
   behind_whole room h le reads false x =
-      record { more = []; few = omega arith; room = room; left = omega arith; some = lt_of_le-ne (omega arith) (eqb-false room 64 x); reads = λ u. reads u ∙ ap (run (read.Stopped Cut) part_step (part_state room []) u) (omega arith) }
+      record { more = []; few = omega arith; room = room; left = omega arith; some = lt_of_le-ne (omega arith) (eqb-false room 64 x); reads = λ u. reads u ∙ ap (run (Err Cut) part_step (part_state room []) u) (omega arith) }
 
   module _ (room : ℕ) (begun : List ℕ) (j : Inside (part_state room begun) (length s)) (u : Unfinished (part_set (part_state room begun)) begun) where
     has_room : length u.rest ≤ room → Reads (part_state room begun) → PartDone s at
@@ -401,7 +399,7 @@ module _ (s : List ℕ) (at : ℕ) where
             let less : spare + suc k - 1 ≡ spare + k = omega arith in
             rw (same, e, ne_eqb (spare + suc k) 0 (λ z. omega arith), less)
 
-    no_room : room < length u.rest → Reads (part_state room begun) → Overfull s (λ (S : List ℕ) (p : ℕ). part_end S at ≡ read.Stopped (Long p))
+    no_room : room < length u.rest → Reads (part_state room begun) → Overfull s (λ (S : List ℕ) (p : ℕ). part_end S at ≡ Err (Long p))
     unfolding Reads
     no_room lt reads =
         let bytes : begun ≡ drop j.start s = sym (j.bytes ∙ ap (λ (l : List ℕ). begun ++ l) (drop_out s (length s) (omega arith)) ∙ append-nil begun) in
@@ -416,16 +414,16 @@ module _ (s : List ℕ) (at : ℕ) where
           form = u.form ∙ ap (λ (l : List ℕ). l ++ u.rest) bytes;
           past = omega (arith, place);
           long = omega (arith, length-append s u.rest);
-          refused = reads u.rest ∙ part_long u.character u.rest begun room (length s) u.allowed lt u.form ∙ ap (λ (p : ℕ). read.Stopped (Long p)) place;
+          refused = reads u.rest ∙ part_long u.character u.rest begun room (length s) u.allowed lt u.form ∙ ap (λ (p : ℕ). Err (Long p)) place;
         }
 
-  pub part_completed : at ≤ length s → part_end s at ≡ read.Stopped Cut → PartDone s at ⊎ Overfull s (λ (S : List ℕ) (p : ℕ). part_end S at ≡ read.Stopped (Long p))
+  pub part_completed : at ≤ length s → part_end s at ≡ Err Cut → PartDone s at ⊎ Overfull s (λ (S : List ℕ) (p : ℕ). part_end S at ≡ Err (Long p))
   unfolding part_end Reads
   part_completed le e =
       let r = runs_out part_step s Inside inside_turn (part_state 64 []) at le (record { left = omega arith; start = at; low = omega arith; long = omega arith; bytes = refl; state = inl refl }) e in
       by r.state.room r.state.begun r.kept r.kept.state r.same
     where
-      by : (room : ℕ) (begun : List ℕ) → Inside (part_state room begun) (length s) → (begun ≡ []) ⊎ Unfinished (part_set (part_state room begun)) begun → Reads (part_state room begun) → PartDone s at ⊎ Overfull s (λ (S : List ℕ) (p : ℕ). part_end S at ≡ read.Stopped (Long p))
+      by : (room : ℕ) (begun : List ℕ) → Inside (part_state room begun) (length s) → (begun ≡ []) ⊎ Unfinished (part_set (part_state room begun)) begun → Reads (part_state room begun) → PartDone s at ⊎ Overfull s (λ (S : List ℕ) (p : ℕ). part_end S at ≡ Err (Long p))
       by room begun j (inl f) reads = inl (behind_whole room j.left le (subst (λ (l : List ℕ). Reads (part_state room l)) f reads) (eqb room 64) refl)
       by room begun j (inr u) reads = ⊎_elim (λ h. inl (has_room room begun j u h reads)) (λ h. inr (no_room room begun j u h reads)) (le_or_lt (length u.rest) room)
 
@@ -433,17 +431,17 @@ module _ (s : List ℕ) (at : ℕ) where
 pub record NameDone (s : List ℕ) (at : ℕ) : Type 0 where
   pub more : List ℕ
   pub few : length more ≤ 3
-  pub done : (b : ℕ) (u : List ℕ) → begins set.Name [] b ≡ false → eqb b 0x3A ≡ false → (n : Name) × (name_at (s ++ (more ++ (b ∷ u))) at ≡ named.Got n) × (n.end ≡ length s + length more)
+  pub done : (b : ℕ) (u : List ℕ) → begins set.Name [] b ≡ false → eqb b 0x3A ≡ false → (n : Name) × (name_at (s ++ (more ++ (b ∷ u))) at ≡ Ok n) × (n.end ≡ length s + length more)
 
-pub name_completed : (s : List ℕ) (at : ℕ) → at ≤ length s → name_at s at ≡ named.Stopped Cut → NameDone s at ⊎ Overfull s (λ (S : List ℕ) (p : ℕ). name_at S at ≡ named.Stopped (Long p))
+pub name_completed : (s : List ℕ) (at : ℕ) → at ≤ length s → name_at s at ≡ Err Cut → NameDone s at ⊎ Overfull s (λ (S : List ℕ) (p : ℕ). name_at S at ≡ Err (Long p))
 unfolding name_at prefixed_at
 name_completed s at le e = by (part_end s at) refl (part_inside s at) e
   where
     Goal : Type 0
-    Goal = NameDone s at ⊎ Overfull s (λ (S : List ℕ) (p : ℕ). name_at S at ≡ named.Stopped (Long p))
+    Goal = NameDone s at ⊎ Overfull s (λ (S : List ℕ) (p : ℕ). name_at S at ≡ Err (Long p))
 
     Behind : List ℕ → ℕ → Named
-    Behind l j = peek (named.Stopped Cut) l j (λ (b : ℕ). cond (eqb b 0x3A) (after_read named.Stopped (part_end l (j + 1)) (λ (end : ℕ). name_of at (j + 1) end)) (name_of at at j))
+    Behind l j = peek (Err Cut) l j (λ (b : ℕ). cond (eqb b 0x3A) (after_read Err (part_end l (j + 1)) (λ (end : ℕ). name_of at (j + 1) end)) (name_of at at j))
 
     first : PartDone s at → NameDone s at
     first p =
@@ -456,7 +454,7 @@ name_completed s at le e = by (part_end s at) refl (part_inside s at) e
               (record { at = at; part = at; end = length s + length p.more }, rw (part_done s at p b u n, lt-ltb (length s + length p.more) (length (s ++ (p.more ++ (b ∷ u)))) h.0, h.1, m), refl);
         }
 
-    second : (j : ℕ) → part_end s at ≡ read.End j → j < length s → eqb (get_or s j 0) 0x3A ≡ true → PartDone s (j + 1) → NameDone s at
+    second : (j : ℕ) → part_end s at ≡ Ok j → j < length s → eqb (get_or s j 0) 0x3A ≡ true → PartDone s (j + 1) → NameDone s at
     second j f lt c p =
         record {
           more = p.more;
@@ -465,30 +463,30 @@ name_completed s at le e = by (part_end s at) refl (part_inside s at) e
               λ b u n m.
               let t = p.more ++ (b ∷ u) in
               let h = byte_kept s t j lt in
-              let same : part_end (s ++ t) at ≡ read.End j = read_so (part_end s at) (part_end (s ++ t) at) j f (part_stable s t at) in
+              let same : part_end (s ++ t) at ≡ Ok j = read_so (part_end s at) (part_end (s ++ t) at) j f (part_stable s t at) in
               (record { at = at; part = j + 1; end = length s + length p.more }, rw (same, lt-ltb j (length (s ++ t)) h.0, h.1, c, part_done s (j + 1) p b u n), refl);
         }
 
-    colon : (j : ℕ) → part_end s at ≡ read.End j → j < length s → (x : Bool) → eqb (get_or s j 0) 0x3A ≡ x → cond x (after_read named.Stopped (part_end s (j + 1)) (λ (end : ℕ). name_of at (j + 1) end)) (name_of at at j) ≡ named.Stopped Cut → Goal
+    colon : (j : ℕ) → part_end s at ≡ Ok j → j < length s → (x : Bool) → eqb (get_or s j 0) 0x3A ≡ x → cond x (after_read Err (part_end s (j + 1)) (λ (end : ℕ). name_of at (j + 1) end)) (name_of at at j) ≡ Err Cut → Goal
     colon j f lt false c e = let z : ◌≡◌ {A = ℕ} 0 1 = cc in absurd (omega arith)
     colon j f lt true c e = last (part_end s (j + 1)) refl e
       where
-        last : (r : Read) → part_end s (j + 1) ≡ r → after_read named.Stopped r (λ (end : ℕ). name_of at (j + 1) end) ≡ named.Stopped Cut → Goal
-        last (read.End i) g e = let z : ◌≡◌ {A = ℕ} 0 1 = cc in absurd (omega arith)
-        last (read.Stopped x) g e =
-            let k : read.Stopped x ≡ read.Stopped Cut = cc in
+        last : (r : Read) → part_end s (j + 1) ≡ r → after_read Err r (λ (end : ℕ). name_of at (j + 1) end) ≡ Err Cut → Goal
+        last (Ok i) g e = let z : ◌≡◌ {A = ℕ} 0 1 = cc in absurd (omega arith)
+        last (Err x) g e =
+            let k : Err x ≡ Err Cut = cc in
             or_full (second j f lt c)
             (λ t p r.
             let h = byte_kept s t j lt in
-            rw (read_so (part_end s at) (part_end (s ++ t) at) j f (part_stable s t at), lt-ltb j (length (s ++ t)) h.0, h.1, c) (ap (λ (x : Read). after_read named.Stopped x (λ (end : ℕ). name_of at (j + 1) end)) r))
+            rw (read_so (part_end s at) (part_end (s ++ t) at) j f (part_stable s t at), lt-ltb j (length (s ++ t)) h.0, h.1, c) (ap (λ (x : Read). after_read Err x (λ (end : ℕ). name_of at (j + 1) end)) r))
             (part_completed s (j + 1) (omega arith) (g ∙ k))
 
-    by : (r : Read) → part_end s at ≡ r → ReadInside (PartTo s at) s at (part_end s at) → after_read named.Stopped r (Behind s) ≡ named.Stopped Cut → Goal
-    by (read.End j) f i e =
+    by : (r : Read) → part_end s at ≡ r → ReadInside (PartTo s at) s at (part_end s at) → after_read Err r (Behind s) ≡ Err Cut → Goal
+    by (Ok j) f i e =
         let to : PartTo s at j = subst (ReadInside (PartTo s at) s at) f i in
-        let g : cond (eqb (get_or s j 0) 0x3A) (after_read named.Stopped (part_end s (j + 1)) (λ (end : ℕ). name_of at (j + 1) end)) (name_of at at j) ≡ named.Stopped Cut = rw (lt-ltb j (length s) to.1) at e in
+        let g : cond (eqb (get_or s j 0) 0x3A) (after_read Err (part_end s (j + 1)) (λ (end : ℕ). name_of at (j + 1) end)) (name_of at at j) ≡ Err Cut = rw (lt-ltb j (length s) to.1) at e in
         colon j f to.1 (eqb (get_or s j 0) 0x3A) refl g
-    by (read.Stopped x) f i e = let c : read.Stopped x ≡ read.Stopped Cut = cc in or_full first (λ t p r. rw r) (part_completed s at le (f ∙ c))
+    by (Err x) f i e = let c : Err x ≡ Err Cut = cc in or_full first (λ t p r. rw r) (part_completed s at le (f ∙ c))
 
 -- ---- a reference
 common_prefix : (l word : List ℕ) → common l word ≡ length l → word ≡ l ++ drop (length l) word
@@ -513,25 +511,25 @@ furthest_found l (w ∷ words) h k = by (ltb (furthest l words) (common l w)) k 
     by true k ih = (w, inl refl, k)
     by false k ih = let r = ih k in (r.0, inr r.1, r.2)
 
-whole_cut : (s : List ℕ) (at : ℕ) (words : List (List ℕ)) (other : Read) → whole_of s at words other ≡ read.Stopped Cut → other ≡ read.Stopped Cut
+whole_cut : (s : List ℕ) (at : ℕ) (words : List (List ℕ)) (other : Read) → whole_of s at words other ≡ Err Cut → other ≡ Err Cut
 unfolding whole_of
 whole_cut s at [] other e = e
 whole_cut s at (w ∷ words) other e = by (eqb (common (drop at s) w) (length w)) e (whole_cut s at words other)
   where
-    by : (t : Bool) → cond t (read.End (at + length w)) (whole_of s at words other) ≡ read.Stopped Cut → (whole_of s at words other ≡ read.Stopped Cut → other ≡ read.Stopped Cut) → other ≡ read.Stopped Cut
+    by : (t : Bool) → cond t (Ok (at + length w)) (whole_of s at words other) ≡ Err Cut → (whole_of s at words other ≡ Err Cut → other ≡ Err Cut) → other ≡ Err Cut
     by true f ih = let z : ◌≡◌ {A = ℕ} 0 1 = cc in absurd (omega arith)
     by false f ih = ih f
 
-none_far : (s : List ℕ) (at : ℕ) → no_reference s at ≡ read.Stopped Cut → length s ≤ at + furthest (drop at s) references
+none_far : (s : List ℕ) (at : ℕ) → no_reference s at ≡ Err Cut → length s ≤ at + furthest (drop at s) references
 unfolding no_reference
 none_far s at e = by (leb (length s) (at + furthest (drop at s) references)) refl e
   where
-    by : (t : Bool) → leb (length s) (at + furthest (drop at s) references) ≡ t → cond t (read.Stopped Cut) (read.Stopped (Bad (at + furthest (drop at s) references))) ≡ read.Stopped Cut → length s ≤ at + furthest (drop at s) references
+    by : (t : Bool) → leb (length s) (at + furthest (drop at s) references) ≡ t → ◌≡◌ {A = Read} (cond t (Err Cut) (Err (Bad (at + furthest (drop at s) references)))) (Err Cut) → length s ≤ at + furthest (drop at s) references
     by true q f = leb-true (length s) (at + furthest (drop at s) references) q
     by false q f = let z : ◌≡◌ {A = ℕ} 0 1 = cc in absurd (omega arith)
 
 -- one that stands whole is read
-stands : (s w rest : List ℕ) (at : ℕ) → In w references → drop at s ≡ w ++ rest → reference_end s at ≡ read.End (at + length w)
+stands : (s w rest : List ℕ) (at : ℕ) → In w references → drop at s ≡ w ++ rest → reference_end s at ≡ Ok (at + length w)
 unfolding reference_end whole_of common
 stands s w rest at (inl q) e = rw (e, q, common_none rest)
 stands s w rest at (inr (inl q)) e = rw (e, q, common_none rest)
@@ -549,7 +547,7 @@ reference_few w (inr (inr (inr (inr (inl q))))) = rw q (omega arith)
 reference_few w (inr (inr (inr (inr (inr q))))) = elim q [ ]
 
 -- a scene that ends inside a reference
-reference_completed : (s : List ℕ) (at : ℕ) → at < length s → reference_end s at ≡ read.Stopped Cut → Rest reference_end s at 5
+reference_completed : (s : List ℕ) (at : ℕ) → at < length s → reference_end s at ≡ Err Cut → Rest reference_end s at 5
 unfolding reference_end
 reference_completed s at lt e =
     let l = drop at s in
@@ -564,7 +562,7 @@ reference_completed s at lt e =
     record {
       more = rest;
       few = omega arith;
-      done = λ u. stands (s ++ (rest ++ u)) (l ++ rest) u at m (drop-append-le at s (rest ++ u) (omega arith) ∙ sym (append_assoc l rest u)) ∙ ap read.End (omega arith);
+      done = λ u. stands (s ++ (rest ++ u)) (l ++ rest) u at m (drop-append-le at s (rest ++ u) (omega arith) ∙ sym (append_assoc l rest u)) ∙ ap Ok (omega arith);
     }
 
 -- ---- a value
@@ -572,35 +570,35 @@ reference_completed s at lt e =
 abbrev Texted : ℕ → Form
 Texted b s at = text_at s b at
 
-text_completed : (s : List ℕ) (b at : ℕ) → at < length s → text_at s b at ≡ read.Stopped Cut → Rest (Texted b) s at 5
+text_completed : (s : List ℕ) (b at : ℕ) → at < length s → text_at s b at ≡ Err Cut → Rest (Texted b) s at 5
 unfolding text_at
 text_completed s b at lt e = by (eqb b 0x3C) refl e
   where
-    by : (t : Bool) → eqb b 0x3C ≡ t → cond t (read.Stopped (Bad at)) (char_end set.Char s at) ≡ read.Stopped Cut → Rest (Texted b) s at 5
+    by : (t : Bool) → eqb b 0x3C ≡ t → cond t (Err (Bad at)) (char_end set.Char s at) ≡ Err Cut → Rest (Texted b) s at 5
     by true q f = let z : ◌≡◌ {A = ℕ} 0 1 = cc in absurd (omega arith)
     by false q f =
         let r = char_completed set.Char s at lt f in
         record { more = r.more; few = omega (arith, r.few); done = λ u. rw q (r.done u) }
 
-value_stops : (s : List ℕ) (at quote i : ℕ) → Byte s i quote → run (read.Stopped Cut) (value_step s at quote) 0 (drop i s) i ≡ read.End i
-value_stops s at quote i h = run_byte (read.Stopped Cut) (value_step s at quote) s 0 i quote h ∙ rw (eq-eqb quote quote refl)
+value_stops : (s : List ℕ) (at quote i : ℕ) → Byte s i quote → run (Err Cut) (value_step s at quote) 0 (drop i s) i ≡ Ok i
+value_stops s at quote i h = run_byte (Err Cut) (value_step s at quote) s 0 i quote h ∙ rw (eq-eqb quote quote refl)
 
-pub value_here : (s : List ℕ) (quote at : ℕ) → Byte s at quote → value_end s at quote ≡ read.End at
+pub value_here : (s : List ℕ) (quote at : ℕ) → Byte s at quote → value_end s at quote ≡ Ok at
 unfolding value_from
 value_here s quote at h = value_stops s at quote at h
 
-skips : (s : List ℕ) (at quote k i : ℕ) → i + k ≤ length s → run (read.Stopped Cut) (value_step s at quote) k (drop i s) i ≡ run (read.Stopped Cut) (value_step s at quote) 0 (drop (i + k) s) (i + k)
+skips : (s : List ℕ) (at quote k i : ℕ) → i + k ≤ length s → run (Err Cut) (value_step s at quote) k (drop i s) i ≡ run (Err Cut) (value_step s at quote) 0 (drop (i + k) s) (i + k)
 skips s at quote zero i h = rw add-zero
 skips s at quote (suc k) i h =
     let e : i + suc k ≡ i + 1 + k = omega arith in
     let d : suc k - 1 ≡ k = omega arith in
-    run_byte (read.Stopped Cut) (value_step s at quote) s (suc k) i (get_or s i 0) (omega arith, refl)
+    run_byte (Err Cut) (value_step s at quote) s (suc k) i (get_or s i 0) (omega arith, refl)
     ∙ rw (ne_eqb (suc k) 0 (λ z. omega arith), d, e) (skips s at quote k (i + 1) (omega arith))
 
 pub record ValueDone (s : List ℕ) (at quote : ℕ) : Type 0 where
   pub more : List ℕ
   pub few : length more ≤ 5
-  pub done : (u : List ℕ) → value_end (s ++ (more ++ (quote ∷ u))) at quote ≡ read.End (length s + length more)
+  pub done : (u : List ℕ) → value_end (s ++ (more ++ (quote ∷ u))) at quote ≡ Ok (length s + length more)
 
 module _ (s : List ℕ) (quote at : ℕ) where
   -- a reference or a character that begins at i, where the machine stops with `Cut`
@@ -611,10 +609,10 @@ module _ (s : List ℕ) (quote at : ℕ) where
     step : (t : List ℕ) → value_step (s ++ t) at quote 0 (get_or s i 0) i ≡ passed_over i (form (s ++ t) i)
 
   abbrev StopsAt : ℕ → ℕ → Read → Type 0
-  StopsAt left i (read.End j) = Unit {0}
-  StopsAt left i (read.Stopped (Bad j)) = Unit {0}
-  StopsAt left i (read.Stopped (Long j)) = Unit {0}
-  StopsAt left i (read.Stopped Cut) = Cuts left i
+  StopsAt left i (Ok j) = Unit {0}
+  StopsAt left i (Err (Bad j)) = Unit {0}
+  StopsAt left i (Err (Long j)) = Unit {0}
+  StopsAt left i (Err Cut) = Cuts left i
 
   -- what is passed over ends inside the scene
   value_turn : (left i : ℕ) → i < length s → i + left ≤ length s → Turned (λ (q : ℕ). i + 1 + q ≤ length s) (StopsAt left i) (value_step s at quote left (get_or s i 0) i)
@@ -632,14 +630,14 @@ module _ (s : List ℕ) (quote at : ℕ) where
       b : ℕ
       b = get_or s i 0
 
-      passed : eqb left 0 ≡ true → (f : Form) → (f s i ≡ read.Stopped Cut → Rest f s i 5) → ((t : List ℕ) → value_step (s ++ t) at quote 0 b i ≡ passed_over i (f (s ++ t) i)) → (r : Read) → f s i ≡ r → Within (PassedTo s i) s i r → T (passed_over i r)
-      passed z f h k (read.End m) e w = omega arith
-      passed z f h k (read.Stopped (Bad m)) e w = tt
-      passed z f h k (read.Stopped (Long m)) e w = tt
-      passed z f h k (read.Stopped Cut) e w = record { none = eqb-true left 0 z; form = f; rest = h e; step = k }
+      passed : eqb left 0 ≡ true → (f : Form) → (f s i ≡ Err Cut → Rest f s i 5) → ((t : List ℕ) → value_step (s ++ t) at quote 0 b i ≡ passed_over i (f (s ++ t) i)) → (r : Read) → f s i ≡ r → Within (PassedTo s i) s i r → T (passed_over i r)
+      passed z f h k (Ok m) e w = omega arith
+      passed z f h k (Err (Bad m)) e w = tt
+      passed z f h k (Err (Long m)) e w = tt
+      passed z f h k (Err Cut) e w = record { none = eqb-true left 0 z; form = f; rest = h e; step = k }
 
   Same : ℕ → ℕ → Type 0
-  Same left i = (t : List ℕ) → value_end (s ++ t) at quote ≡ run (read.Stopped Cut) (value_step (s ++ t) at quote) left (drop i (s ++ t)) i
+  Same left i = (t : List ℕ) → value_end (s ++ t) at quote ≡ run (Err Cut) (value_step (s ++ t) at quote) left (drop i (s ++ t)) i
 
   at_end : (left i : ℕ) → Same left i → i + left ≤ length s → i ≡ length s → ValueDone s at quote
   unfolding Same
@@ -651,9 +649,9 @@ module _ (s : List ℕ) (quote at : ℕ) where
             λ u.
             let none : left ≡ 0 = omega arith in
             same (quote ∷ u)
-            ∙ ap (λ (k : ℕ). run (read.Stopped Cut) (value_step (s ++ (quote ∷ u)) at quote) k (drop i (s ++ (quote ∷ u))) i) none
+            ∙ ap (λ (k : ℕ). run (Err Cut) (value_step (s ++ (quote ∷ u)) at quote) k (drop i (s ++ (quote ∷ u))) i) none
             ∙ value_stops (s ++ (quote ∷ u)) at quote i (byte_in s [] (quote ∷ u) 0 i (omega arith) (omega arith))
-            ∙ ap read.End (omega arith);
+            ∙ ap Ok (omega arith);
       }
 
   at_cut : (left i : ℕ) → Same left i → i < length s → Cuts left i → ValueDone s at quote
@@ -670,15 +668,15 @@ module _ (s : List ℕ) (quote at : ℕ) where
             let long : length S ≡ length s + (length r.more + suc (length u)) = simp length-append in
             let last : i + 1 + k ≡ length s + length r.more = omega arith in
             same (r.more ++ (quote ∷ u))
-            ∙ ap (λ (q : ℕ). run (read.Stopped Cut) (value_step S at quote) q (drop i S) i) c.none
-            ∙ run_byte (read.Stopped Cut) (value_step S at quote) S 0 i (get_or s i 0) (byte_kept s (r.more ++ (quote ∷ u)) i lt)
+            ∙ ap (λ (q : ℕ). run (Err Cut) (value_step S at quote) q (drop i S) i) c.none
+            ∙ run_byte (Err Cut) (value_step S at quote) S 0 i (get_or s i 0) (byte_kept s (r.more ++ (quote ∷ u)) i lt)
             ∙ rw (c.step (r.more ++ (quote ∷ u)), r.done (quote ∷ u)) (skips S at quote k (i + 1) (omega arith))
             ∙ value_stops S at quote (i + 1 + k) (byte_in s r.more (quote ∷ u) 0 (i + 1 + k) (omega arith) (omega arith))
-            ∙ ap read.End last;
+            ∙ ap Ok last;
       }
 
-  pub value_completed : at ≤ length s → value_end s at quote ≡ read.Stopped Cut → ValueDone s at quote
+  pub value_completed : at ≤ length s → value_end s at quote ≡ Err Cut → ValueDone s at quote
   unfolding value_from Same
   value_completed le e =
-      let r = reaches (read.Stopped Cut) (λ (l : List ℕ). value_step l at quote) s (λ (q i : ℕ). i + q ≤ length s) StopsAt value_turn (λ t left i. value_agrees s t at quote left (get_or s i 0) i) (drop at s) 0 at refl le (omega arith) e in
+      let r = reaches (Err Cut) (λ (l : List ℕ). value_step l at quote) s (λ (q i : ℕ). i + q ≤ length s) StopsAt value_turn (λ t left i. value_agrees s t at quote left (get_or s i 0) i) (drop at s) 0 at refl le (omega arith) e in
       ⊎_elim (at_end r.state r.place r.same r.kept) (λ h. at_cut r.state r.place r.same h.0 h.1) r.ends

@@ -1,6 +1,7 @@
 -- What the reader's next event says of the open elements: outside the root only its start comes, and nothing behind its end.
 --     Goes, next_goes, event_goes     what an event says of the state before and behind it
 --     goes_on                         behind k events: the k-th is what comes next
+use Rattle.std.specs.Prelude.{Ok, Err}
 use Prim.Native.Nat.{ℕ, ◌+◌, ◌<◌}
 use mathlib.Core.Path.{◌≡◌, refl, sym, ap, subst, ◌∙◌}
 use mathlib.Core.List.{List, [], ◌∷◌, ◌++◌, tail}
@@ -16,13 +17,7 @@ use Rattle.laws.proofs.Holds.{holds_cond}
 use Rattle.lexer.specs.Values.{text_end}
 use Rattle.lexer.specs.Tags.{TagRead, tag_at, end_tag_at}
 use Rattle.lexer.specs.Begins.{begin_at}
-use Rattle.lexer.specs.declared.Read.{Read}
-use Rattle.lexer.specs.declared.Read.TheVariants as read
-use Rattle.lexer.specs.declared.Tagged.{Tagged}
-use Rattle.lexer.specs.declared.Tagged.TheVariants as tagged
-use Rattle.lexer.specs.declared.Ended.{Ended}
-use Rattle.lexer.specs.declared.Ended.TheVariants as ended
-use Rattle.lexer.specs.declared.Begin.{Begin}
+use Rattle.lexer.specs.Reads.{Read, Tagged, Ended, BeginRead}
 use Rattle.lexer.specs.declared.Begin.TheVariants as begin
 use Rattle.lexer.proofs.BeginLaws.{BeginInside, begin_inside}
 use Rattle.reader.specs.Spans.{bytes_of, whole_span}
@@ -45,32 +40,32 @@ some_open o os e = let y : ◌≡◌ {A = ℕ} 0 1 = cc in omega arith
 
 module _ (s : List ℕ) (z : ReaderState) where
   text_goes : (at : ℕ) → (z.opened ≡ [] → ⊥) → (r : Read) → Goes z (text_read s z at r)
-  text_goes at n (read.Stopped x) = tt
-  text_goes at n (read.End j) = (n, refl)
+  text_goes at n (Err x) = tt
+  text_goes at n (Ok j) = (n, refl)
 
   left_closed : (place : ℕ) (os : List Open) → os ≡ [] → (left place os).closed ≡ true
   left_closed place os e = rw e
 
   end_goes : (at : ℕ) → (os : List Open) → z.opened ≡ os → (r : Ended) → Goes z (end_read s at os r)
   end_goes at [] e r = tt
-  end_goes at (o ∷ os) e (ended.Stopped x) = tt
-  end_goes at (o ∷ os) e (ended.Got t) =
+  end_goes at (o ∷ os) e (Err x) = tt
+  end_goes at (o ∷ os) e (Ok t) =
       holds_cond (Goes z) (same_list (bytes_of s (whole_span t.name)) (bytes_of s o.name)) (λ q. (λ n. some_open o os (sym e ∙ n), ap tail (sym e), left_closed t.next os)) (λ q. tt)
 
   start_goes : (at : ℕ) → (z.opened ≡ [] → z.closed ≡ false) → (r : TagRead) (a : Tagged) → Goes z (start_read s at z.opened r a)
-  start_goes at c r (tagged.Stopped x) = tt
-  start_goes at c r (tagged.Got t) = by (meaning_of s (bindings_of z.opened) t.name r.attrs)
+  start_goes at c r (Err x) = tt
+  start_goes at c r (Ok t) = by (meaning_of s (bindings_of z.opened) t.name r.attrs)
     where
       by : (m : Meaning) → Goes z (start_meant at z.opened t m)
       by (refused n) = tt
       by (meant n as' own) = ((record { name = whole_span t.name; declarations = own }, refl), c)
 
-  begun_goes : (inside : Bool) → (z.opened ≡ [] → inside ≡ false) → (b : Begin) → BeginInside s z.place inside z.closed b → Goes z (read_at s z b)
-  begun_goes inside o (begin.Stopped x) i = tt
-  begun_goes inside o begin.Finished i = tt
-  begun_goes inside o (begin.Text at) i = text_goes at (λ e. differ (sym i.3 ∙ o e)) (text_end s at)
-  begun_goes inside o (begin.End at) i = end_goes at z.opened refl (end_tag_at s (at + 2))
-  begun_goes inside o (begin.Start at) i =
+  begun_goes : (inside : Bool) → (z.opened ≡ [] → inside ≡ false) → (b : BeginRead) → BeginInside s z.place inside z.closed b → Goes z (read_at s z b)
+  begun_goes inside o (Err x) i = tt
+  begun_goes inside o (Ok begin.Finished) i = tt
+  begun_goes inside o (Ok (begin.Text at)) i = text_goes at (λ e. differ (sym i.3 ∙ o e)) (text_end s at)
+  begun_goes inside o (Ok (begin.End at)) i = end_goes at z.opened refl (end_tag_at s (at + 2))
+  begun_goes inside o (Ok (begin.Start at)) i =
       start_goes at (λ e. outside inside z.closed (o e) i.4) (tag_at s (at + 1)) (tag_at s (at + 1)).answer
     where
       outside : (a b : Bool) → a ≡ false → (a || not b) ≡ true → b ≡ false

@@ -6,6 +6,8 @@
 --     spaces_grows, .., ahead_grows        of each reading definition
 --     value_ext, .., begin_ext             the first half; value_late, .., begin_late the second
 --     finished_on                          what stands behind a finished scene is read as if it stood alone
+use Rattle.std.specs.declared.ops.ControlFlow.TheVariants.{Break, Continue}
+use Rattle.std.specs.Prelude.{Ok, Err}
 use Prim.Native.Nat.{ℕ, zero, suc, ◌+◌, ◌-◌, ◌≤◌, ◌<◌}
 use mathlib.Core.Path.{◌≡◌, refl, sym, ap, subst, ◌∙◌}
 use mathlib.Core.List.{List, [], ◌∷◌, ◌++◌}
@@ -34,26 +36,13 @@ use Rattle.lexer.specs.Misc.{misc_state, free_step, comment_step, comment_rest, 
 use Rattle.lexer.specs.Begins.{stopped_ahead, misc_ahead, opens_misc, markup_at, either_at, ending, ahead_at, ahead_then, begin_at}
 use Rattle.lexer.specs.declared.Stop.{Stop}
 use Rattle.lexer.specs.declared.Stop.TheVariants.{Bad, Long, Cut}
-use Rattle.lexer.specs.declared.Read.{Read}
-use Rattle.lexer.specs.declared.Read.TheVariants as read
+use Rattle.lexer.specs.Reads.{Read, Named, Attributed, TurnRead, Tagged, Ended, BeginRead, Ahead}
 use Rattle.lexer.specs.declared.Name.{Name}
-use Rattle.lexer.specs.declared.Named.{Named}
-use Rattle.lexer.specs.declared.Named.TheVariants as named
 use Rattle.lexer.specs.declared.Attr.{Attr}
-use Rattle.lexer.specs.declared.Attributed.{Attributed}
-use Rattle.lexer.specs.declared.Attributed.TheVariants as attributed
-use Rattle.lexer.specs.declared.Turn.{Turn}
 use Rattle.lexer.specs.declared.Turn.TheVariants as turn
-use Rattle.lexer.specs.declared.Tagged.{Tagged}
-use Rattle.lexer.specs.declared.Tagged.TheVariants as tagged
-use Rattle.lexer.specs.declared.Ended.{Ended}
-use Rattle.lexer.specs.declared.Ended.TheVariants as ended
 use Rattle.lexer.specs.declared.Field.{Field}
 use Rattle.lexer.specs.declared.Field.TheVariants as field
-use Rattle.lexer.specs.declared.Begin.{Begin}
 use Rattle.lexer.specs.declared.Begin.TheVariants as begin
-use Rattle.lexer.specs.declared.Ahead.{Ahead}
-use Rattle.lexer.specs.declared.Ahead.TheVariants as ahead
 use Rattle.lexer.proofs.Common.{common_kept}
 use Rattle.lexer.proofs.CharacterLaws.{Within, PassedTo}
 use Rattle.lexer.proofs.ValueLaws.{reference_inside, reference_stable, text_inside, closes_kept, closes_behind, furthest_least}
@@ -106,41 +95,41 @@ LateStop need n Cut = Unit {0}
 
 -- a place at n or behind it
 abbrev pub LateRead : (ℕ → ℕ) → ℕ → Read → Type 0
-LateRead need n (read.End j) = n ≤ j
-LateRead need n (read.Stopped x) = LateStop need n x
+LateRead need n (Ok j) = n ≤ j
+LateRead need n (Err x) = LateStop need n x
 
 abbrev pub LateNamed : (ℕ → ℕ) → ℕ → Named → Type 0
-LateNamed need n (named.Got m) = n ≤ m.end
-LateNamed need n (named.Stopped x) = LateStop need n x
+LateNamed need n (Ok m) = n ≤ m.end
+LateNamed need n (Err x) = LateStop need n x
 
 abbrev pub LateAttributed : (ℕ → ℕ) → ℕ → Attributed → Type 0
-LateAttributed need n (attributed.Got a) = n ≤ a.stop
-LateAttributed need n (attributed.Stopped x) = LateStop need n x
+LateAttributed need n (Ok a) = n ≤ a.stop
+LateAttributed need n (Err x) = LateStop need n x
 
-abbrev pub LateTurn : (ℕ → ℕ) → ℕ → Turn → Type 0
-LateTurn need n (turn.Close next empty) = n < next
-LateTurn need n (turn.Attribute i) = n ≤ i
-LateTurn need n (turn.Stopped x) = LateStop need n x
+abbrev pub LateTurn : (ℕ → ℕ) → ℕ → TurnRead → Type 0
+LateTurn need n (Ok (turn.Close next empty)) = n < next
+LateTurn need n (Ok (turn.Attribute i)) = n ≤ i
+LateTurn need n (Err x) = LateStop need n x
 
 abbrev pub LateTagged : (ℕ → ℕ) → ℕ → Tagged → Type 0
-LateTagged need n (tagged.Got t) = n < t.next
-LateTagged need n (tagged.Stopped x) = LateStop need n x
+LateTagged need n (Ok t) = n < t.next
+LateTagged need n (Err x) = LateStop need n x
 
 abbrev pub LateEnded : (ℕ → ℕ) → ℕ → Ended → Type 0
-LateEnded need n (ended.Got e) = n < e.next
-LateEnded need n (ended.Stopped x) = LateStop need n x
+LateEnded need n (Ok e) = n < e.next
+LateEnded need n (Err x) = LateStop need n x
 
 -- the byte behind the < of a tag
-abbrev pub LateBegin : (ℕ → ℕ) → ℕ → Begin → Type 0
-LateBegin need n (begin.Start i) = n ≤ i + 1
-LateBegin need n (begin.End i) = n ≤ i + 1
-LateBegin need n (begin.Text i) = n ≤ i
-LateBegin need n begin.Finished = Unit {0}
-LateBegin need n (begin.Stopped x) = LateStop need n x
+abbrev pub LateBegin : (ℕ → ℕ) → ℕ → BeginRead → Type 0
+LateBegin need n (Ok (begin.Start i)) = n ≤ i + 1
+LateBegin need n (Ok (begin.End i)) = n ≤ i + 1
+LateBegin need n (Ok (begin.Text i)) = n ≤ i
+LateBegin need n (Ok begin.Finished) = Unit {0}
+LateBegin need n (Err x) = LateStop need n x
 
 abbrev pub LateAhead : (ℕ → ℕ) → ℕ → Ahead → Type 0
-LateAhead need n (ahead.Event b) = LateBegin need n b
-LateAhead need n (ahead.Misc j) = n ≤ j
+LateAhead need n (Break b) = LateBegin need n b
+LateAhead need n (Continue j) = n ≤ j
 
 pub ext_cond : {A : Type 0} (L : A → Type 0) (t : Bool) {a b a' b' : A} → Ext L a a' → Ext L b b' → Ext L (cond t a b) (cond t a' b')
 ext_cond L true p q = p
@@ -182,15 +171,15 @@ module _ {A : Type 0} (L : A → Type 0) (n at : ℕ) where
     grows_after {k} {k'} {r} {r'} g h = grows_bind (LateRead need n) (λ (r : Read). after_read f r k) (λ (r : Read). after_read f r k') each r r' g
       where
         each : (r : Read) → Ext L (after_read f r k) (after_read f r k') × (LateRead need n r → L (after_read f r k'))
-        each (read.End j) = h j
-        each (read.Stopped x) = (inl refl, stops x)
+        each (Ok j) = h j
+        each (Err x) = (inl refl, stops x)
 
     pub grows_after_name : {k k' : Name → A} {r r' : Named} → Grows (LateNamed need n) n at r r' → ((m : Name) → Grows L n m.end (k m) (k' m)) → Grows L n at (after_name f r k) (after_name f r' k')
     grows_after_name {k} {k'} {r} {r'} g h = grows_bind (LateNamed need n) (λ (r : Named). after_name f r k) (λ (r : Named). after_name f r k') each r r' g
       where
         each : (r : Named) → Ext L (after_name f r k) (after_name f r k') × (LateNamed need n r → L (after_name f r k'))
-        each (named.Got m) = h m
-        each (named.Stopped x) = (inl refl, stops x)
+        each (Ok m) = h m
+        each (Err x) = (inl refl, stops x)
 
 -- the byte at an index
 pub grows_seen : {A : Type 0} (L : A → Type 0) (s t : List ℕ) (at : ℕ) (cut : A) {f g : ℕ → A} → L cut → ((b : ℕ) → get_or (s ++ t) at 0 ≡ b → Grows L (length s) at (f b) (g b)) → Grows L (length s) at (peek cut s at f) (peek cut (s ++ t) at g)
@@ -250,9 +239,9 @@ module _ {St Out : Type 0} (cut : Out) (step step' : St → ℕ → ℕ → RunN
 -- a machine that knows nothing of the scene but its byte, and names that byte
 pub local_grows : {St : Type 0} (need : ℕ → ℕ) (step : St → ℕ → ℕ → RunNext St Read) (first : St) (s t : List ℕ)
     → ((q : St) (b i : ℕ) → length s ≤ i → Turned (λ (q' : St). length s ≤ i + 1) (LateRead need (length s)) (step q b i))
-    → (at : ℕ) → Grows (LateRead need (length s)) (length s) at (run (read.Stopped Cut) step first (drop at s) at) (run (read.Stopped Cut) step first (drop at (s ++ t)) at)
+    → (at : ℕ) → Grows (LateRead need (length s)) (length s) at (run (Err Cut) step first (drop at s) at) (run (Err Cut) step first (drop at (s ++ t)) at)
 local_grows {St} need step first s t h =
-    run_grows (read.Stopped Cut) step step s t (λ (q : St) (i : ℕ). length s ≤ i) (LateRead need (length s)) tt (λ q i lt. h q (get_or (s ++ t) i 0) i) (λ q i out. out) (λ q i lt. inl refl) first
+    run_grows (Err Cut) step step s t (λ (q : St) (i : ℕ). length s ≤ i) (LateRead need (length s)) tt (λ q i lt. h q (get_or (s ++ t) i 0) i) (λ q i out. out) (λ q i lt. inl refl) first
 
 -- ---- references
 common_word : (l word : List ℕ) → common l word ≤ length word
@@ -284,7 +273,7 @@ furthest_grows l t (w ∷ words) =
 
 module _ (need : ℕ → ℕ) (s t : List ℕ) (at : ℕ) (inside : at ≤ length s) where
   -- where the scene ends inside a word, that word reaches behind its end
-  late_whole : (words : List (List ℕ)) (other other' : Read) → whole_of s at words other ≡ read.Stopped Cut → (other ≡ read.Stopped Cut → LateRead need (length s) other') → LateRead need (length s) (whole_of (s ++ t) at words other')
+  late_whole : (words : List (List ℕ)) (other other' : Read) → whole_of s at words other ≡ Err Cut → (other ≡ Err Cut → LateRead need (length s) other') → LateRead need (length s) (whole_of (s ++ t) at words other')
   unfolding whole_of
   late_whole [] other other' q late = late q
   late_whole (w ∷ words) other other' q late =
@@ -300,14 +289,14 @@ module _ (need : ℕ → ℕ) (s t : List ℕ) (at : ℕ) (inside : at ≤ lengt
           (le_or_lt (length (drop at s)) (common (drop at s) w))
 
       by : (a : Bool) → eqb (common (drop at s) w) (length w) ≡ a → (b : Bool) → eqb (common (drop at (s ++ t)) w) (length w) ≡ b
-          → cond a (read.End (at + length w)) (whole_of s at words other) ≡ read.Stopped Cut
-          → (whole_of s at words other ≡ read.Stopped Cut → LateRead need (length s) (whole_of (s ++ t) at words other'))
-          → LateRead need (length s) (cond b (read.End (at + length w)) (whole_of (s ++ t) at words other'))
+          → cond a (Ok (at + length w)) (whole_of s at words other) ≡ Err Cut
+          → (whole_of s at words other ≡ Err Cut → LateRead need (length s) (whole_of (s ++ t) at words other'))
+          → LateRead need (length s) (cond b (Ok (at + length w)) (whole_of (s ++ t) at words other'))
       by true e b f q ih = let z : ◌≡◌ {A = ℕ} 0 1 = cc in absurd (omega arith)
       by false e true f q ih = reaches e f
       by false e false f q ih = ih q
 
-  late_none : no_reference s at ≡ read.Stopped Cut → LateRead need (length s) (no_reference (s ++ t) at)
+  late_none : no_reference s at ≡ Err Cut → LateRead need (length s) (no_reference (s ++ t) at)
   unfolding no_reference
   late_none q =
       let k = at + furthest (drop at s) references in
@@ -315,13 +304,13 @@ module _ (need : ℕ → ℕ) (s t : List ℕ) (at : ℕ) (inside : at ≤ lengt
       let grows : furthest (drop at s) references ≤ furthest (drop at (s ++ t)) references = rw (drop-append-le at s t inside) (furthest_grows (drop at s) t references) in
       holds_cond (LateRead need (length s)) (leb (length (s ++ t)) (at + furthest (drop at (s ++ t)) references)) (λ e. tt) (λ e. omega arith)
     where
-      never : at + furthest (drop at s) references < length s → cond (leb (length s) (at + furthest (drop at s) references)) (read.Stopped Cut) (read.Stopped (Bad (at + furthest (drop at s) references))) ≡ read.Stopped Cut → ⊥
+      never : at + furthest (drop at s) references < length s → ◌≡◌ {A = Read} (cond (leb (length s) (at + furthest (drop at s) references)) (Err Cut) (Err (Bad (at + furthest (drop at s) references)))) (Err Cut) → ⊥
       never lt e =
-          let f : read.Stopped (Bad (at + furthest (drop at s) references)) ≡ read.Stopped Cut = rw (lt-leb (length s) (at + furthest (drop at s) references) lt) at e in
+          let f : ◌≡◌ {A = Read} (Err (Bad (at + furthest (drop at s) references))) (Err Cut) = rw (lt-leb (length s) (at + furthest (drop at s) references) lt) at e in
           let z : ◌≡◌ {A = ℕ} 0 1 = cc in
           omega arith
 
-  late_reference : reference_end s at ≡ read.Stopped Cut → LateRead need (length s) (reference_end (s ++ t) at)
+  late_reference : reference_end s at ≡ Err Cut → LateRead need (length s) (reference_end (s ++ t) at)
   unfolding reference_end
   late_reference q = late_whole references (no_reference s at) (no_reference (s ++ t) at) q late_none
 
@@ -329,10 +318,10 @@ module _ (need : ℕ → ℕ) (s t : List ℕ) (at : ℕ) (inside : at ≤ lengt
   reference_ext = by (reference_end s at) refl
     where
       by : (r : Read) → reference_end s at ≡ r → Ext (LateRead need (length s)) (reference_end s at) (reference_end (s ++ t) at)
-      by (read.End j) e = inl (reference_stable s t at (λ c. let d : read.End j ≡ read.Stopped Cut = sym e ∙ c in let z : ◌≡◌ {A = ℕ} 0 1 = cc in omega arith))
-      by (read.Stopped (Bad j)) e = inl (reference_stable s t at (λ c. let d : read.Stopped (Bad j) ≡ read.Stopped Cut = sym e ∙ c in let z : ◌≡◌ {A = ℕ} 0 1 = cc in omega arith))
-      by (read.Stopped (Long j)) e = inl (reference_stable s t at (λ c. let d : read.Stopped (Long j) ≡ read.Stopped Cut = sym e ∙ c in let z : ◌≡◌ {A = ℕ} 0 1 = cc in omega arith))
-      by (read.Stopped Cut) e = inr (late_reference e)
+      by (Ok j) e = inl (reference_stable s t at (λ c. let d : Ok j ≡ Err Cut = sym e ∙ c in let z : ◌≡◌ {A = ℕ} 0 1 = cc in omega arith))
+      by (Err (Bad j)) e = inl (reference_stable s t at (λ c. let d : Err (Bad j) ≡ Err Cut = sym e ∙ c in let z : ◌≡◌ {A = ℕ} 0 1 = cc in omega arith))
+      by (Err (Long j)) e = inl (reference_stable s t at (λ c. let d : Err (Long j) ≡ Err Cut = sym e ∙ c in let z : ◌≡◌ {A = ℕ} 0 1 = cc in omega arith))
+      by (Err Cut) e = inr (late_reference e)
 
 -- one look, and what it says of the begin
 looked : (S : List ℕ) (at : ℕ) (inside closed : Bool) (a : Ahead) → ahead_at S inside closed at ≡ a → begin_at S at inside closed ≡ ahead_then (λ (j : ℕ). begin_at S j inside closed) a
@@ -348,16 +337,16 @@ module _ (need : ℕ → ℕ) (s t : List ℕ) (targets : Targets need (s ++ t))
   abbrev Reads : ℕ → Read → Read → Type 0
   Reads = Grows (LateRead need (length s)) (length s)
 
-  bad_grows : (at : ℕ) → Reads at (read.Stopped (Bad at)) (read.Stopped (Bad at))
-  bad_grows at = grows_same (LateRead need (length s)) (length s) at (read.Stopped (Bad at)) (λ out. omega arith)
+  bad_grows : (at : ℕ) → Reads at (Err (Bad at)) (Err (Bad at))
+  bad_grows at = grows_same (LateRead need (length s)) (length s) at (Err (Bad at)) (λ out. omega arith)
 
   -- read, and then what stands behind it
-  then : (at : ℕ) {k k' : ℕ → Read} {r r' : Read} → Reads at r r' → ((j : ℕ) → Reads j (k j) (k' j)) → Reads at (after_read read.Stopped r k) (after_read read.Stopped r' k')
-  then at = grows_after (LateRead need (length s)) (length s) at need read.Stopped (λ x l. l)
+  then : (at : ℕ) {k k' : ℕ → Read} {r r' : Read} → Reads at r r' → ((j : ℕ) → Reads j (k j) (k' j)) → Reads at (after_read Err r k) (after_read Err r' k')
+  then at = grows_after (LateRead need (length s)) (length s) at need Err (λ x l. l)
 
   -- by the byte at a place
-  byte : (at : ℕ) {f g : ℕ → Read} → ((b : ℕ) → Reads at (f b) (g b)) → Reads at (peek (read.Stopped Cut) s at f) (peek (read.Stopped Cut) (s ++ t) at g)
-  byte at = grows_peek (LateRead need (length s)) s t at (read.Stopped Cut) tt
+  byte : (at : ℕ) {f g : ℕ → Read} → ((b : ℕ) → Reads at (f b) (g b)) → Reads at (peek (Err Cut) s at f) (peek (Err Cut) (s ++ t) at g)
+  byte at = grows_peek (LateRead need (length s)) s t at (Err Cut) tt
 
   either : (at : ℕ) (x : Bool) {a b a' b' : Read} → Reads at a a' → Reads at b b' → Reads at (cond x a b) (cond x a' b')
   either at = grows_cond (LateRead need (length s)) (length s) at
@@ -407,10 +396,10 @@ module _ (need : ℕ → ℕ) (s t : List ℕ) (targets : Targets need (s ++ t))
         b = get_or (s ++ t) i 0
 
         passed : length s ≤ i → (r : Read) → Within (PassedTo (s ++ t) i) (s ++ t) i r → LateValue i (passed_over i r)
-        passed out (read.End j) w = omega arith
-        passed out (read.Stopped (Bad j)) w = omega arith
-        passed out (read.Stopped (Long j)) w = absurd w
-        passed out (read.Stopped Cut) w = tt
+        passed out (Ok j) w = omega arith
+        passed out (Err (Bad j)) w = omega arith
+        passed out (Err (Long j)) w = absurd w
+        passed out (Err Cut) w = tt
 
     value_agree : (left i : ℕ) → i < length s → Ext (LateValue i) (value_step s at quote left (get_or s i 0) i) (value_step (s ++ t) at quote left (get_or s i 0) i)
     value_agree left i lt =
@@ -422,8 +411,8 @@ module _ (need : ℕ → ℕ) (s t : List ℕ) (targets : Targets need (s ++ t))
         (inl refl))
       where
         late : (r : Read) → LateRead need (length s) r → LateValue i (passed_over i r)
-        late (read.End j) l = omega arith
-        late (read.Stopped x) l = l
+        late (Ok j) l = omega arith
+        late (Err x) l = l
 
         over : (r r' : Read) → Ext (LateRead need (length s)) r r' → Ext (LateValue i) (passed_over i r) (passed_over i r')
         over = ext_bind (LateRead need (length s)) (LateValue i) (passed_over i) (passed_over i) (λ r. inl refl) late
@@ -431,12 +420,12 @@ module _ (need : ℕ → ℕ) (s t : List ℕ) (targets : Targets need (s ++ t))
     pub value_grows : Reads at (value_end s at quote) (value_end (s ++ t) at quote)
     unfolding value_from
     value_grows =
-        run_grows (read.Stopped Cut) (value_step s at quote) (value_step (s ++ t) at quote) s t (λ (left i : ℕ). length s ≤ i + left) (LateRead need (length s)) tt value_turn (λ q i out. omega arith) value_agree 0 at
+        run_grows (Err Cut) (value_step s at quote) (value_step (s ++ t) at quote) s t (λ (left i : ℕ). length s ≤ i + left) (LateRead need (length s)) tt value_turn (λ q i out. omega arith) value_agree 0 at
 
   -- ---- names and attributes
   prefixed_grows : (at part : ℕ) → Grows (LateNamed need (length s)) (length s) part (prefixed_at s at part) (prefixed_at (s ++ t) at part)
   unfolding prefixed_at
-  prefixed_grows at part = grows_after L (length s) part need named.Stopped (λ x l. l) (part_grows part) (λ j. grows_same L (length s) j (name_of at part j) (λ out. out))
+  prefixed_grows at part = grows_after L (length s) part need Err (λ x l. l) (part_grows part) (λ j. grows_same L (length s) j (name_of at part j) (λ out. out))
     where
       L : Named → Type 0
       L = LateNamed need (length s)
@@ -444,8 +433,8 @@ module _ (need : ℕ → ℕ) (s t : List ℕ) (targets : Targets need (s ++ t))
   pub name_grows : (at : ℕ) → Grows (LateNamed need (length s)) (length s) at (name_at s at) (name_at (s ++ t) at)
   unfolding name_at
   name_grows at =
-      grows_after L (length s) at need named.Stopped (λ x l. l) (part_grows at) (λ j.
-      grows_peek L s t j (named.Stopped Cut) tt (λ b.
+      grows_after L (length s) at need Err (λ x l. l) (part_grows at) (λ j.
+      grows_peek L s t j (Err Cut) tt (λ b.
       grows_cond L (length s) j (eqb b 0x3A) (grows_later L (length s) j (j + 1) (omega arith) (prefixed_grows at (j + 1))) (grows_same L (length s) j (name_of at at j) (λ out. out))))
     where
       L : Named → Type 0
@@ -453,16 +442,16 @@ module _ (need : ℕ → ℕ) (s t : List ℕ) (targets : Targets need (s ++ t))
 
   -- a byte that is wanted was read
   abbrev LatePast : Read → Type 0
-  LatePast (read.End j) = length s < j
-  LatePast (read.Stopped x) = LateStop need (length s) x
+  LatePast (Ok j) = length s < j
+  LatePast (Err x) = LateStop need (length s) x
 
   wanted_past : (at c : ℕ) → Grows LatePast (length s) at (wanted s at c) (wanted (s ++ t) at c)
   unfolding wanted
   wanted_past at c =
-      grows_peek LatePast s t at (read.Stopped Cut) tt (λ b.
+      grows_peek LatePast s t at (Err Cut) tt (λ b.
       grows_cond LatePast (length s) at (eqb b c)
-      (grows_same LatePast (length s) at (read.End (at + 1)) (λ out. omega arith))
-      (grows_same LatePast (length s) at (read.Stopped (Bad at)) (λ out. omega arith)))
+      (grows_same LatePast (length s) at (Ok (at + 1)) (λ out. omega arith))
+      (grows_same LatePast (length s) at (Err (Bad at)) (λ out. omega arith)))
 
   -- and what is said behind it
   past : {A : Type 0} (L : A → Type 0) (at c : ℕ) (f : Read → A) → ((r : Read) → LatePast r → L (f r)) → Grows L (length s) at (f (wanted s at c)) (f (wanted (s ++ t) at c))
@@ -472,8 +461,8 @@ module _ (need : ℕ → ℕ) (s t : List ℕ) (targets : Targets need (s ++ t))
   wanted_grows at c = past (LateRead need (length s)) at c (λ r. r) late
     where
       late : (r : Read) → LatePast r → LateRead need (length s) r
-      late (read.End j) l = omega arith
-      late (read.Stopped x) l = l
+      late (Ok j) l = omega arith
+      late (Err x) l = l
 
   equals_grows : (at : ℕ) → Reads at (equals_end s at) (equals_end (s ++ t) at)
   unfolding equals_end
@@ -483,10 +472,10 @@ module _ (need : ℕ → ℕ) (s t : List ℕ) (targets : Targets need (s ++ t))
   quoted_grows : (name : Name) (at : ℕ) → Grows (LateAttributed need (length s)) (length s) at (quoted_at s name at) (quoted_at (s ++ t) name at)
   unfolding quoted_at
   quoted_grows name at =
-      grows_peek L s t at (attributed.Stopped Cut) tt (λ q.
+      grows_peek L s t at (Err Cut) tt (λ q.
       grows_if L (length s) at (eqb q 0x22 || eqb q 0x27)
-      (λ e. grows_later L (length s) at (at + 1) (omega arith) (grows_after L (length s) (at + 1) need attributed.Stopped (λ x l. l) (value_grows (at + 1) q (quoted_free need (s ++ t) (at + 1) q e)) (λ j. grows_same L (length s) j (attributed.Got (attr_of name (at + 1) j)) (λ out. out))))
-      (λ e. grows_same L (length s) at (attributed.Stopped (Bad at)) (λ out. omega arith)))
+      (λ e. grows_later L (length s) at (at + 1) (omega arith) (grows_after L (length s) (at + 1) need Err (λ x l. l) (value_grows (at + 1) q (quoted_free need (s ++ t) (at + 1) q e)) (λ j. grows_same L (length s) j (Ok (attr_of name (at + 1) j)) (λ out. out))))
+      (λ e. grows_same L (length s) at (Err (Bad at)) (λ out. omega arith)))
     where
       L : Attributed → Type 0
       L = LateAttributed need (length s)
@@ -494,42 +483,42 @@ module _ (need : ℕ → ℕ) (s t : List ℕ) (targets : Targets need (s ++ t))
   attribute_grows : (at : ℕ) → Grows (LateAttributed need (length s)) (length s) at (attribute_at s at) (attribute_at (s ++ t) at)
   unfolding attribute_at
   attribute_grows at =
-      grows_after_name L (length s) at need attributed.Stopped (λ x l. l) (name_grows at) (λ name.
-      grows_after L (length s) name.end need attributed.Stopped (λ x l. l) (equals_grows name.end) (quoted_grows name))
+      grows_after_name L (length s) at need Err (λ x l. l) (name_grows at) (λ name.
+      grows_after L (length s) name.end need Err (λ x l. l) (equals_grows name.end) (quoted_grows name))
     where
       L : Attributed → Type 0
       L = LateAttributed need (length s)
 
   -- ---- what stands behind a tag's name or an attribute
-  abbrev Turns : ℕ → Turn → Turn → Type 0
+  abbrev Turns : ℕ → TurnRead → TurnRead → Type 0
   Turns = Grows (LateTurn need (length s)) (length s)
 
   slash_grows : (at : ℕ) → Turns at (slash_at s at) (slash_at (s ++ t) at)
   unfolding slash_at
-  slash_grows at = grows_later L (length s) at (at + 1) (omega arith) (past L (at + 1) 0x3E (λ (r : Read). after_read turn.Stopped r (λ (j : ℕ). turn.Close j true)) late)
+  slash_grows at = grows_later L (length s) at (at + 1) (omega arith) (past L (at + 1) 0x3E (λ (r : Read). after_read Err r (λ (j : ℕ). Ok (turn.Close j true))) late)
     where
-      L : Turn → Type 0
+      L : TurnRead → Type 0
       L = LateTurn need (length s)
 
-      late : (r : Read) → LatePast r → L (after_read turn.Stopped r (λ (j : ℕ). turn.Close j true))
-      late (read.End j) l = l
-      late (read.Stopped x) l = l
+      late : (r : Read) → LatePast r → L (after_read Err r (λ (j : ℕ). Ok (turn.Close j true)))
+      late (Ok j) l = l
+      late (Err x) l = l
 
   behind_grows : (at i : ℕ) → Turns i (turn_behind s at i) (turn_behind (s ++ t) at i)
   unfolding turn_behind
   behind_grows at i =
-      grows_peek L s t i (turn.Stopped Cut) tt (λ b.
-      grows_cond L (length s) i (eqb b 0x3E) (grows_same L (length s) i (turn.Close (i + 1) false) (λ out. omega arith))
+      grows_peek L s t i (Err Cut) tt (λ b.
+      grows_cond L (length s) i (eqb b 0x3E) (grows_same L (length s) i (Ok (turn.Close (i + 1) false)) (λ out. omega arith))
       (grows_cond L (length s) i (eqb b 0x2F) (slash_grows i)
-      (grows_cond L (length s) i (eqb i at) (grows_same L (length s) i (turn.Stopped (Bad i)) (λ out. omega arith))
-      (grows_cond L (length s) i (begins set.Start [] b) (grows_same L (length s) i (turn.Attribute i) (λ out. out)) (grows_same L (length s) i (turn.Stopped (Bad i)) (λ out. omega arith))))))
+      (grows_cond L (length s) i (eqb i at) (grows_same L (length s) i (Err (Bad i)) (λ out. omega arith))
+      (grows_cond L (length s) i (begins set.Start [] b) (grows_same L (length s) i (Ok (turn.Attribute i)) (λ out. out)) (grows_same L (length s) i (Err (Bad i)) (λ out. omega arith))))))
     where
-      L : Turn → Type 0
+      L : TurnRead → Type 0
       L = LateTurn need (length s)
 
   turn_grows : (at : ℕ) → Turns at (turn_at s at) (turn_at (s ++ t) at)
   unfolding turn_at
-  turn_grows at = grows_after (LateTurn need (length s)) (length s) at need turn.Stopped (λ x l. l) (spaces_grows at) (behind_grows at)
+  turn_grows at = grows_after (LateTurn need (length s)) (length s) at need Err (λ x l. l) (spaces_grows at) (behind_grows at)
 
   -- ---- tags
   abbrev LateTag : TagRead → Type 0
@@ -539,10 +528,10 @@ module _ (need : ℕ → ℕ) (s t : List ℕ) (targets : Targets need (s ++ t))
   unfolding attrs_from
   attrs_grows name zero l i = grows_bind LateTag (length s) i (LateTurn need (length s)) (full_turn name l) (full_turn name l) each (turn_at s i) (turn_at (s ++ t) i) (turn_grows i)
     where
-      each : (r : Turn) → Ext LateTag (full_turn name l r) (full_turn name l r) × (LateTurn need (length s) r → LateTag (full_turn name l r))
-      each (turn.Close next empty) = (inl refl, λ h. h)
-      each (turn.Attribute j) = (inl refl, λ h. omega arith)
-      each (turn.Stopped x) = (inl refl, λ h. h)
+      each : (r : TurnRead) → Ext LateTag (full_turn name l r) (full_turn name l r) × (LateTurn need (length s) r → LateTag (full_turn name l r))
+      each (Ok (turn.Close next empty)) = (inl refl, λ h. h)
+      each (Ok (turn.Attribute j)) = (inl refl, λ h. omega arith)
+      each (Err x) = (inl refl, λ h. h)
   attrs_grows name (suc room) l i =
       grows_bind LateTag (length s) i (LateTurn need (length s)) (turn_then s (more s) name l) (turn_then (s ++ t) (more (s ++ t)) name l) (each (attrs_grows name room)) (turn_at s i) (turn_at (s ++ t) i) (turn_grows i)
     where
@@ -553,13 +542,13 @@ module _ (need : ℕ → ℕ) (s t : List ℕ) (targets : Targets need (s ++ t))
       More = (l' : List Attr) (k : ℕ) → Grows LateTag (length s) k (more s l' k) (more (s ++ t) l' k)
 
       one : More → (r : Attributed) → Ext LateTag (attr_then (more s) l r) (attr_then (more (s ++ t)) l r) × (LateAttributed need (length s) r → LateTag (attr_then (more (s ++ t)) l r))
-      one h (attributed.Got a) = grows_later LateTag (length s) a.stop (a.stop + 1) (omega arith) (h (l ++ (a ∷ [])) (a.stop + 1))
-      one h (attributed.Stopped x) = (inl refl, λ le. le)
+      one h (Ok a) = grows_later LateTag (length s) a.stop (a.stop + 1) (omega arith) (h (l ++ (a ∷ [])) (a.stop + 1))
+      one h (Err x) = (inl refl, λ le. le)
 
-      each : More → (r : Turn) → Ext LateTag (turn_then s (more s) name l r) (turn_then (s ++ t) (more (s ++ t)) name l r) × (LateTurn need (length s) r → LateTag (turn_then (s ++ t) (more (s ++ t)) name l r))
-      each h (turn.Close next empty) = (inl refl, λ le. le)
-      each h (turn.Attribute j) = grows_bind LateTag (length s) j (LateAttributed need (length s)) (attr_then (more s) l) (attr_then (more (s ++ t)) l) (one h) (attribute_at s j) (attribute_at (s ++ t) j) (attribute_grows j)
-      each h (turn.Stopped x) = (inl refl, λ le. le)
+      each : More → (r : TurnRead) → Ext LateTag (turn_then s (more s) name l r) (turn_then (s ++ t) (more (s ++ t)) name l r) × (LateTurn need (length s) r → LateTag (turn_then (s ++ t) (more (s ++ t)) name l r))
+      each h (Ok (turn.Close next empty)) = (inl refl, λ le. le)
+      each h (Ok (turn.Attribute j)) = grows_bind LateTag (length s) j (LateAttributed need (length s)) (attr_then (more s) l) (attr_then (more (s ++ t)) l) (one h) (attribute_at s j) (attribute_at (s ++ t) j) (attribute_grows j)
+      each h (Err x) = (inl refl, λ le. le)
 
   pub tag_grows : (at : ℕ) → Grows LateTag (length s) at (tag_at s at) (tag_at (s ++ t) at)
   unfolding tag_at
@@ -568,21 +557,21 @@ module _ (need : ℕ → ℕ) (s t : List ℕ) (targets : Targets need (s ++ t))
   pub end_tag_grows : (at : ℕ) → Grows (LateEnded need (length s)) (length s) at (end_tag_at s at) (end_tag_at (s ++ t) at)
   unfolding end_tag_at
   end_tag_grows at =
-      grows_after_name L (length s) at need ended.Stopped (λ x l. l) (name_grows at) (λ name.
-      grows_after L (length s) name.end need ended.Stopped (λ x l. l) (spaces_grows name.end) (λ i.
-      past L i 0x3E (λ (r : Read). after_read ended.Stopped r (λ (j : ℕ). ended.Got (record { name = name; next = j }))) (late name)))
+      grows_after_name L (length s) at need Err (λ x l. l) (name_grows at) (λ name.
+      grows_after L (length s) name.end need Err (λ x l. l) (spaces_grows name.end) (λ i.
+      past L i 0x3E (λ (r : Read). after_read Err r (λ (j : ℕ). Ok (record { name = name; next = j }))) (late name)))
     where
       L : Ended → Type 0
       L = LateEnded need (length s)
 
-      late : (name : Name) (r : Read) → LatePast r → L (after_read ended.Stopped r (λ (j : ℕ). ended.Got (record { name = name; next = j })))
-      late name (read.End j) l = l
-      late name (read.Stopped x) l = l
+      late : (name : Name) (r : Read) → LatePast r → L (after_read Err r (λ (j : ℕ). Ok (record { name = name; next = j })))
+      late name (Ok j) l = l
+      late name (Err x) l = l
 
   -- ---- the declaration
   word_grows : (at : ℕ) (word : List ℕ) → Reads at (word_end s at word) (word_end (s ++ t) at word)
   unfolding word_end
-  word_grows at [] = grows_same (LateRead need (length s)) (length s) at (read.End at) (λ out. out)
+  word_grows at [] = grows_same (LateRead need (length s)) (length s) at (Ok at) (λ out. out)
   word_grows at (c ∷ word) = then at (wanted_grows at c) (λ i. word_grows i word)
 
   some_grows : (f : Field) (at quote : ℕ) → Reads at (some_end s f at quote) (some_end (s ++ t) f at quote)
@@ -613,11 +602,11 @@ module _ (need : ℕ → ℕ) (s t : List ℕ) (targets : Targets need (s ++ t))
   turn_from_grows : (at i : ℕ) → Turns i (turn_from s at i) (turn_from (s ++ t) at i)
   unfolding turn_from
   turn_from_grows at i =
-      grows_peek L s t i (turn.Stopped Cut) tt (λ b.
+      grows_peek L s t i (Err Cut) tt (λ b.
       grows_cond L (length s) i (eqb b 0x3F) (slash_grows i)
-      (grows_cond L (length s) i (eqb i at) (grows_same L (length s) i (turn.Stopped (Bad i)) (λ out. omega arith)) (grows_same L (length s) i (turn.Attribute i) (λ out. out))))
+      (grows_cond L (length s) i (eqb i at) (grows_same L (length s) i (Err (Bad i)) (λ out. omega arith)) (grows_same L (length s) i (Ok (turn.Attribute i)) (λ out. out))))
     where
-      L : Turn → Type 0
+      L : TurnRead → Type 0
       L = LateTurn need (length s)
 
   -- what stands behind a field, by what may follow
@@ -625,15 +614,15 @@ module _ (need : ℕ → ℕ) (s t : List ℕ) (targets : Targets need (s ++ t))
   unfolding field_turn
   field_then_grows more more' h at =
       grows_bind L (length s) at (LateTurn need (length s)) (field_then more) (field_then more') each (field_turn s at) (field_turn (s ++ t) at)
-      (grows_after (LateTurn need (length s)) (length s) at need turn.Stopped (λ x l. l) (spaces_grows at) (turn_from_grows at))
+      (grows_after (LateTurn need (length s)) (length s) at need Err (λ x l. l) (spaces_grows at) (turn_from_grows at))
     where
       L : Read → Type 0
       L = LateRead need (length s)
 
-      each : (r : Turn) → Ext L (field_then more r) (field_then more' r) × (LateTurn need (length s) r → L (field_then more' r))
-      each (turn.Close next empty) = (inl refl, λ l. omega arith)
-      each (turn.Attribute i) = h i
-      each (turn.Stopped x) = (inl refl, λ l. l)
+      each : (r : TurnRead) → Ext L (field_then more r) (field_then more' r) × (LateTurn need (length s) r → L (field_then more' r))
+      each (Ok (turn.Close next empty)) = (inl refl, λ l. omega arith)
+      each (Ok (turn.Attribute i)) = h i
+      each (Err x) = (inl refl, λ l. l)
 
   standalone_grows : (at : ℕ) → Reads at (standalone_then s at) (standalone_then (s ++ t) at)
   unfolding standalone_then last_rest
@@ -684,7 +673,7 @@ module _ (need : ℕ → ℕ) (s t : List ℕ) (targets : Targets need (s ++ t))
       L = LateRead need (length s)
 
       behind : List ℕ → ℕ → Read
-      behind l j = cond (is_xml l at j) (cond (is_declared l at) (declaration_end l j) (read.Stopped (Bad at))) (behind_target l j)
+      behind l j = cond (is_xml l at j) (cond (is_declared l at) (declaration_end l j) (Err (Bad at))) (behind_target l j)
 
       late : (j : ℕ) → length s ≤ j → L (behind (s ++ t) j)
       late j out =
@@ -692,7 +681,7 @@ module _ (need : ℕ → ℕ) (s t : List ℕ) (targets : Targets need (s ++ t))
           (λ x. holds_cond L (is_declared (s ++ t) at) (λ e. (declaration_grows j).1 out) (λ e. let three : j ≡ at + 3 = xml_three (s ++ t) at j x in omega (arith, target (subst (λ (k : ℕ). is_xml (s ++ t) at k ≡ true) three x))))
           (λ x. (target_grows j).1 out)
 
-      declared : (j : ℕ) (x : Bool) → is_xml s at j ≡ x → j < length s → Ext L (cond x (cond (is_declared s at) (declaration_end s j) (read.Stopped (Bad at))) (behind_target s j)) (cond x (cond (is_declared (s ++ t) at) (declaration_end (s ++ t) j) (read.Stopped (Bad at))) (behind_target (s ++ t) j))
+      declared : (j : ℕ) (x : Bool) → is_xml s at j ≡ x → j < length s → Ext L (cond x (cond (is_declared s at) (declaration_end s j) (Err (Bad at))) (behind_target s j)) (cond x (cond (is_declared (s ++ t) at) (declaration_end (s ++ t) j) (Err (Bad at))) (behind_target (s ++ t) j))
       declared j true q lt = rw (declared_kept s t at (omega (arith, xml_three s at j q))) (ext_cond L (is_declared s at) (declaration_grows j).0 (inl refl))
       declared j false q lt = (target_grows j).0
 
@@ -703,7 +692,7 @@ module _ (need : ℕ → ℕ) (s t : List ℕ) (targets : Targets need (s ++ t))
   pub misc_grows : (at : ℕ) → get_or (s ++ t) at 0 ≡ 0x3C → Reads (at + 1) (misc_end s at) (misc_end (s ++ t) at)
   unfolding misc_end
   misc_grows at less =
-      grows_seen (LateRead need (length s)) s t (at + 1) (read.Stopped Cut) tt (λ b q.
+      grows_seen (LateRead need (length s)) s t (at + 1) (Err Cut) tt (λ b q.
       grows_if (LateRead need (length s)) (length s) (at + 1) (eqb b 0x3F)
       (λ e. further (instruction_grows (at + 2) (targets at less (q ∙ eqb-true b 0x3F e))))
       (λ e. further (comment_grows (at + 2))))
@@ -720,9 +709,9 @@ module _ (need : ℕ → ℕ) (s t : List ℕ) (targets : Targets need (s ++ t))
   unfolding markup_at misc_ahead
   markup_grows inside closed at less =
       grows_peek L s t (at + 1) (stopped_ahead Cut) tt (λ b.
-      if (eqb b 0x2F) (if inside (only (ahead.Event (begin.End at)) (λ out. out)) bad)
-      (if (opens_misc b) (grows_after L (length s) (at + 1) need stopped_ahead (λ x l. l) (misc_grows at less) (λ j. grows_same L (length s) j (ahead.Misc j) (λ out. out)))
-      (if (inside || not closed) (only (ahead.Event (begin.Start at)) (λ out. out)) bad)))
+      if (eqb b 0x2F) (if inside (only (Break (Ok (begin.End at))) (λ out. out)) bad)
+      (if (opens_misc b) (grows_after L (length s) (at + 1) need stopped_ahead (λ x l. l) (misc_grows at less) (λ j. grows_same L (length s) j (Continue j) (λ out. out)))
+      (if (inside || not closed) (only (Break (Ok (begin.Start at))) (λ out. out)) bad)))
     where
       L : Ahead → Type 0
       L = LateAhead need (length s)
@@ -741,7 +730,7 @@ module _ (need : ℕ → ℕ) (s t : List ℕ) (targets : Targets need (s ++ t))
   either_at_grows inside closed at =
       grows_seen L s t at (stopped_ahead Cut) tt (λ b q.
       grows_if L (length s) at (eqb b 0x3C) (λ e. grows_later L (length s) at (at + 1) (omega arith) (markup_grows inside closed at (q ∙ eqb-true b 0x3C e)))
-      (λ e. grows_cond L (length s) at inside (grows_same L (length s) at (ahead.Event (begin.Text at)) (λ out. out)) (grows_same L (length s) at (stopped_ahead (Bad at)) (λ out. omega arith))))
+      (λ e. grows_cond L (length s) at inside (grows_same L (length s) at (Break (Ok (begin.Text at))) (λ out. out)) (grows_same L (length s) at (stopped_ahead (Bad at)) (λ out. omega arith))))
     where
       L : Ahead → Type 0
       L = LateAhead need (length s)
@@ -783,23 +772,23 @@ module _ (need : ℕ → ℕ) (s t : List ℕ) (targets : Targets need (s ++ t))
   -- ---- and behind any number of misc
   pub begin_late : (at : ℕ) (inside closed : Bool) → length s ≤ at → LateBegin need (length s) (begin_at (s ++ t) at inside closed)
   begin_late at inside closed =
-      begin_held (s ++ t) inside closed (λ (i : ℕ) (b : Begin). length s ≤ i → LateBegin need (length s) b)
+      begin_held (s ++ t) inside closed (λ (i : ℕ) (b : BeginRead). length s ≤ i → LateBegin need (length s) b)
       (λ i b e out. subst (LateAhead need (length s)) e (ahead_late inside closed i out))
       (λ i j b e h k out. k (omega arith))
       at
 
   looked_late : (at : ℕ) (inside closed : Bool) (a : Ahead) → ahead_at (s ++ t) inside closed at ≡ a → LateAhead need (length s) a → LateBegin need (length s) (begin_at (s ++ t) at inside closed)
-  looked_late at inside closed (ahead.Event b) e l = rw (looked (s ++ t) at inside closed (ahead.Event b) e) l
-  looked_late at inside closed (ahead.Misc j) e l = rw (looked (s ++ t) at inside closed (ahead.Misc j) e) (begin_late j inside closed l)
+  looked_late at inside closed (Break b) e l = rw (looked (s ++ t) at inside closed (Break b) e) l
+  looked_late at inside closed (Continue j) e l = rw (looked (s ++ t) at inside closed (Continue j) e) (begin_late j inside closed l)
 
   pub begin_ext : (at : ℕ) (inside closed : Bool) → Ext (LateBegin need (length s)) (begin_at s at inside closed) (begin_at (s ++ t) at inside closed)
   begin_ext at inside closed =
-      begin_held s inside closed (λ (i : ℕ) (b : Begin). Ext (LateBegin need (length s)) b (begin_at (s ++ t) i inside closed))
-      (λ i b e. from i (ahead.Event b) e b (inl refl))
-      (λ i j b e h k. from i (ahead.Misc j) e b k)
+      begin_held s inside closed (λ (i : ℕ) (b : BeginRead). Ext (LateBegin need (length s)) b (begin_at (s ++ t) i inside closed))
+      (λ i b e. from i (Break b) e b (inl refl))
+      (λ i j b e h k. from i (Continue j) e b k)
       at
     where
-      from : (i : ℕ) (a : Ahead) → ahead_at s inside closed i ≡ a → (b : Begin) → Ext (LateBegin need (length s)) b (ahead_then (λ (j : ℕ). begin_at (s ++ t) j inside closed) a) → Ext (LateBegin need (length s)) b (begin_at (s ++ t) i inside closed)
+      from : (i : ℕ) (a : Ahead) → ahead_at s inside closed i ≡ a → (b : BeginRead) → Ext (LateBegin need (length s)) b (ahead_then (λ (j : ℕ). begin_at (s ++ t) j inside closed) a) → Ext (LateBegin need (length s)) b (begin_at (s ++ t) i inside closed)
       from i a e b k =
           ⊎_elim
           (λ q. rw (looked (s ++ t) i inside closed a (q ∙ e)) k)
@@ -808,23 +797,23 @@ module _ (need : ℕ → ℕ) (s t : List ℕ) (targets : Targets need (s ++ t))
 
 -- ---- what stands behind a finished scene
 -- space to the end
-spaces_on : (l t : List ℕ) (i : ℕ) (x : Stop) → run (read.Stopped Cut) space_step 0 l i ≡ read.Stopped x → run (read.Stopped Cut) space_step 0 (l ++ t) i ≡ run (read.Stopped Cut) space_step 0 t (i + length l)
+spaces_on : (l t : List ℕ) (i : ℕ) (x : Stop) → run (Err Cut) space_step 0 l i ≡ Err x → run (Err Cut) space_step 0 (l ++ t) i ≡ run (Err Cut) space_step 0 t (i + length l)
 unfolding run
 spaces_on [] t i x q = let e : i + 0 ≡ i = omega arith in rw e
 spaces_on (b ∷ l) t i x q = by (is_space b) q (spaces_on l t (i + 1) x)
   where
     spaces : List ℕ → ℕ → Read
-    spaces = run (read.Stopped Cut) space_step 0
+    spaces = run (Err Cut) space_step 0
 
     step : Bool → RunNext ℕ Read
-    step y = cond y (go 0) (stop (read.End i))
+    step y = cond y (go 0) (stop (Ok i))
 
-    by : (y : Bool) → follow (step y) (λ (q' : ℕ). run (read.Stopped Cut) space_step q' l (i + 1)) ≡ read.Stopped x → (spaces l (i + 1) ≡ read.Stopped x → spaces (l ++ t) (i + 1) ≡ spaces t (i + 1 + length l))
-        → follow (step y) (λ (q' : ℕ). run (read.Stopped Cut) space_step q' (l ++ t) (i + 1)) ≡ spaces t (i + suc (length l))
+    by : (y : Bool) → follow (step y) (λ (q' : ℕ). run (Err Cut) space_step q' l (i + 1)) ≡ Err x → (spaces l (i + 1) ≡ Err x → spaces (l ++ t) (i + 1) ≡ spaces t (i + 1 + length l))
+        → follow (step y) (λ (q' : ℕ). run (Err Cut) space_step q' (l ++ t) (i + 1)) ≡ spaces t (i + suc (length l))
     by true q ih = let e : i + suc (length l) ≡ i + 1 + length l = omega arith in rw e (ih q)
     by false q ih = let z : ◌≡◌ {A = ℕ} 0 1 = cc in absurd (omega arith)
 
-spaces_behind : (s t : List ℕ) (at : ℕ) (x : Stop) → at ≤ length s → spaces_end s at ≡ read.Stopped x → spaces_end (s ++ t) at ≡ spaces_end (s ++ t) (length s)
+spaces_behind : (s t : List ℕ) (at : ℕ) (x : Stop) → at ≤ length s → spaces_end s at ≡ Err x → spaces_end (s ++ t) at ≡ spaces_end (s ++ t) (length s)
 unfolding spaces_end
 spaces_behind s t at x le q =
     let here : drop at (s ++ t) ≡ drop at s ++ t = drop-append-le at s t le in
@@ -833,16 +822,16 @@ spaces_behind s t at x le q =
     rw (here, there, ← end) (spaces_on (drop at s) t at x q)
 
 -- what is ahead, other than the scene's end
-Unended : Begin → Type 0
-Unended (begin.Start i) = Unit {0}
-Unended (begin.End i) = Unit {0}
-Unended (begin.Text i) = Unit {0}
-Unended begin.Finished = ⊥
-Unended (begin.Stopped x) = Unit {0}
+Unended : BeginRead → Type 0
+Unended (Ok (begin.Start i)) = Unit {0}
+Unended (Ok (begin.End i)) = Unit {0}
+Unended (Ok (begin.Text i)) = Unit {0}
+Unended (Ok begin.Finished) = ⊥
+Unended (Err x) = Unit {0}
 
 Going : Ahead → Type 0
-Going (ahead.Event b) = Unended b
-Going (ahead.Misc j) = Unit {0}
+Going (Break b) = Unended b
+Going (Continue j) = Unit {0}
 
 either_going : (s : List ℕ) (inside closed : Bool) (at : ℕ) → Going (either_at s inside closed at)
 unfolding either_at markup_at misc_ahead Going Unended
@@ -855,34 +844,34 @@ either_going s inside closed at =
     holds_cond Going (inside || not closed) (λ e. tt) (λ e. tt)))))
     (λ e. holds_cond Going inside (λ e. tt) (λ e. tt)))
   where
-    misc : (r : Read) → Going (after_read stopped_ahead r (λ (j : ℕ). ahead.Misc j))
-    misc (read.End j) = tt
-    misc (read.Stopped x) = tt
+    misc : (r : Read) → Going (after_read stopped_ahead r (λ (j : ℕ). Continue j))
+    misc (Ok j) = tt
+    misc (Err x) = tt
 
-ahead_on : (s t : List ℕ) (at : ℕ) → ahead_at s false true at ≡ ahead.Event begin.Finished → at ≤ length s → ahead_at (s ++ t) false true at ≡ ahead_at (s ++ t) false true (length s)
+ahead_on : (s t : List ℕ) (at : ℕ) → ahead_at s false true at ≡ Break (Ok begin.Finished) → at ≤ length s → ahead_at (s ++ t) false true at ≡ ahead_at (s ++ t) false true (length s)
 unfolding ahead_at Going Unended
 ahead_on s t at e le = by (spaces_end s at) refl e
   where
     on : List ℕ → Read → Ahead
     on l r = after_read (ending true) r (λ (i : ℕ). either_at l false true i)
 
-    by : (r : Read) → spaces_end s at ≡ r → on s r ≡ ahead.Event begin.Finished → on (s ++ t) (spaces_end (s ++ t) at) ≡ on (s ++ t) (spaces_end (s ++ t) (length s))
-    by (read.End j) d e = absurd (subst Going e (either_going s false true j))
-    by (read.Stopped x) d e = ap (on (s ++ t)) (spaces_behind s t at x le d)
+    by : (r : Read) → spaces_end s at ≡ r → on s r ≡ Break (Ok begin.Finished) → on (s ++ t) (spaces_end (s ++ t) at) ≡ on (s ++ t) (spaces_end (s ++ t) (length s))
+    by (Ok j) d e = absurd (subst Going e (either_going s false true j))
+    by (Err x) d e = ap (on (s ++ t)) (spaces_behind s t at x le d)
 
-pub finished_on : (s : List ℕ) (at : ℕ) → begin_at s at false true ≡ begin.Finished → at ≤ length s → (t : List ℕ) → begin_at (s ++ t) at false true ≡ begin_at (s ++ t) (length s) false true
+pub finished_on : (s : List ℕ) (at : ℕ) → begin_at s at false true ≡ (Ok begin.Finished) → at ≤ length s → (t : List ℕ) → begin_at (s ++ t) at false true ≡ begin_at (s ++ t) (length s) false true
 finished_on s at q le t = begin_held s false true On event misc at q le
   where
-    On : ℕ → Begin → Type 0
-    On i b = b ≡ begin.Finished → i ≤ length s → begin_at (s ++ t) i false true ≡ begin_at (s ++ t) (length s) false true
+    On : ℕ → BeginRead → Type 0
+    On i b = b ≡ (Ok begin.Finished) → i ≤ length s → begin_at (s ++ t) i false true ≡ begin_at (s ++ t) (length s) false true
 
-    event : (i : ℕ) (b : Begin) → ahead_at s false true i ≡ ahead.Event b → On i b
+    event : (i : ℕ) (b : BeginRead) → ahead_at s false true i ≡ Break b → On i b
     event i b e q le =
-        looked (s ++ t) i false true (ahead_at (s ++ t) false true (length s)) (ahead_on s t i (e ∙ ap ahead.Event q) le) ∙ sym (begin_is (s ++ t) (length s) false true)
+        looked (s ++ t) i false true (ahead_at (s ++ t) false true (length s)) (ahead_on s t i (e ∙ ap Break q) le) ∙ sym (begin_is (s ++ t) (length s) false true)
 
-    kept : (j : ℕ) (a : Ahead) → a ≡ ahead.Misc j → CutAhead a → ⊥
+    kept : (j : ℕ) (a : Ahead) → a ≡ Continue j → CutAhead a → ⊥
     kept j a e (inl c) = let z : ◌≡◌ {A = ℕ} 0 1 = cc in omega arith
     kept j a e (inr c) = let z : ◌≡◌ {A = ℕ} 0 1 = cc in omega arith
 
-    misc : (i j : ℕ) (b : Begin) → ahead_at s false true i ≡ ahead.Misc j → (i < j) × (j ≤ length s) → On j b → On i b
-    misc i j b e h k q le = looked (s ++ t) i false true (ahead.Misc j) (ahead_stable s t false true i (kept j (ahead_at s false true i) e) ∙ e) ∙ k q h.1
+    misc : (i j : ℕ) (b : BeginRead) → ahead_at s false true i ≡ Continue j → (i < j) × (j ≤ length s) → On j b → On i b
+    misc i j b e h k q le = looked (s ++ t) i false true (Continue j) (ahead_stable s t false true i (kept j (ahead_at s false true i) e) ∙ e) ∙ k q h.1

@@ -3,6 +3,7 @@
 --     MeaningNumber, meaning_number          what a tag means is no 2 and no 3
 --     next_stays                             a 2 or a 3 stays
 --     next_until                             a part of the scene that goes beyond the refused byte: the same, or 1
+use Rattle.std.specs.Prelude.{Ok, Err}
 use Prim.Native.Nat.{ℕ, ◌+◌, ◌-◌, ◌≤◌, ◌<◌}
 use mathlib.Core.Path.{◌≡◌, refl, sym, ap, subst, ◌∙◌}
 use mathlib.Core.List.{List, [], ◌∷◌, ◌++◌}
@@ -23,17 +24,11 @@ use Rattle.lexer.specs.Tags.{TagRead, tag_at, end_tag_at}
 use Rattle.lexer.specs.Begins.{begin_at}
 use Rattle.lexer.specs.declared.Stop.{Stop}
 use Rattle.lexer.specs.declared.Stop.TheVariants.{Bad, Long, Cut}
-use Rattle.lexer.specs.declared.Read.{Read}
-use Rattle.lexer.specs.declared.Read.TheVariants as read
+use Rattle.lexer.specs.Reads.{Read, Tagged, Ended, BeginRead}
 use Rattle.lexer.specs.declared.Name.{Name}
 use Rattle.lexer.specs.declared.Attr.{Attr}
 use Rattle.lexer.specs.declared.Tag.{Tag}
-use Rattle.lexer.specs.declared.Tagged.{Tagged}
-use Rattle.lexer.specs.declared.Tagged.TheVariants as tagged
 use Rattle.lexer.specs.declared.EndTag.{EndTag}
-use Rattle.lexer.specs.declared.Ended.{Ended}
-use Rattle.lexer.specs.declared.Ended.TheVariants as ended
-use Rattle.lexer.specs.declared.Begin.{Begin}
 use Rattle.lexer.specs.declared.Begin.TheVariants as begin
 use Rattle.lexer.proofs.ValueLaws.{value_stable, closes_behind}
 use Rattle.lexer.proofs.Stable.{CutTag, tag_stable, end_tag_stable}
@@ -116,8 +111,8 @@ module _ (s t : List ℕ) (z : scene.ReaderState) where
 
   text_late : (at : ℕ) (r : Read) → LateRead need (length s) r → N (scene.text_read (s ++ t) z at r)
   unfolding N
-  text_late at (read.End j) h = tt
-  text_late at (read.Stopped x) h = stopped_late x h
+  text_late at (Ok j) h = tt
+  text_late at (Err x) h = stopped_late x h
 
   text_ext : (at : ℕ) → Closings need (s ++ t) at 0x3C → Ext N (scene.text_read s z at (text_end s at)) (scene.text_read (s ++ t) z at (text_end (s ++ t) at))
   unfolding N
@@ -125,18 +120,18 @@ module _ (s t : List ℕ) (z : scene.ReaderState) where
       ext_bind (LateRead need (length s)) N (scene.text_read s z at) (scene.text_read (s ++ t) z at) same (text_late at) (text_end s at) (text_end (s ++ t) at) (value_ext need s t targets at 0x3C closings)
     where
       same : (r : Read) → Ext N (scene.text_read s z at r) (scene.text_read (s ++ t) z at r)
-      same (read.End j) = inr tt
-      same (read.Stopped x) = stopped_ext x
+      same (Ok j) = inr tt
+      same (Err x) = stopped_ext x
 
   -- 4 is no 2 and no 3
-  got_late : (at : ℕ) (o : scene.Open) (os : List scene.Open) (e : EndTag) → N (scene.end_read (s ++ t) at (o ∷ os) (ended.Got e))
+  got_late : (at : ℕ) (o : scene.Open) (os : List scene.Open) (e : EndTag) → N (scene.end_read (s ++ t) at (o ∷ os) (Ok e))
   unfolding N
   got_late at o os e =
       holds_cond N (same_list (bytes_of (s ++ t) (whole_span e.name)) (bytes_of (s ++ t) o.name)) (λ q. tt) (λ q lo hi. absurd (omega arith))
 
   ended_late : (at : ℕ) (o : scene.Open) (os : List scene.Open) (r : Ended) → LateEnded need (length s) r → N (scene.end_read (s ++ t) at (o ∷ os) r)
-  ended_late at o os (ended.Stopped x) h = stopped_late x h
-  ended_late at o os (ended.Got e) h = got_late at o os e
+  ended_late at o os (Err x) h = stopped_late x h
+  ended_late at o os (Ok e) h = got_late at o os e
 
   end_ext : (at : ℕ) (os : List scene.Open) → Ext N (scene.end_read s at os (end_tag_at s (at + 2))) (scene.end_read (s ++ t) at os (end_tag_at (s ++ t) (at + 2)))
   end_ext at [] = inl refl
@@ -144,21 +139,21 @@ module _ (s t : List ℕ) (z : scene.ReaderState) where
       ext_bind (LateEnded need (length s)) N (scene.end_read s at (o ∷ os)) (scene.end_read (s ++ t) at (o ∷ os)) same (ended_late at o os) (end_tag_at s (at + 2)) (end_tag_at (s ++ t) (at + 2)) (end_tag_ext need s t targets (at + 2))
     where
       same : (r : Ended) → Ext N (scene.end_read s at (o ∷ os) r) (scene.end_read (s ++ t) at (o ∷ os) r)
-      same (ended.Stopped x) = stopped_ext x
-      same (ended.Got e) = inr (got_late at o os e)
+      same (Err x) = stopped_ext x
+      same (Ok e) = inr (got_late at o os e)
 
   end_late : (at : ℕ) → length s ≤ at + 1 → (os : List scene.Open) → N (scene.end_read (s ++ t) at os (end_tag_at (s ++ t) (at + 2)))
   unfolding N
   end_late at le [] = λ lo hi. omega arith
   end_late at le (o ∷ os) = ended_late at o os (end_tag_at (s ++ t) (at + 2)) (end_tag_late need s t targets (at + 2) (omega arith))
 
-  tag_got_late : (at : ℕ) (os : List scene.Open) (r : TagRead) (e : Tag) → N (scene.start_read (s ++ t) at os r (tagged.Got e))
+  tag_got_late : (at : ℕ) (os : List scene.Open) (r : TagRead) (e : Tag) → N (scene.start_read (s ++ t) at os r (Ok e))
   unfolding N
   tag_got_late at os r e = meant_late need (length s) at os e (meaning_of (s ++ t) (scene.bindings_of os) e.name r.attrs) (meaning_number (s ++ t) (scene.bindings_of os) e.name r.attrs)
 
   tagged_late : (at : ℕ) (os : List scene.Open) (r : TagRead) (a : Tagged) → LateTagged need (length s) a → N (scene.start_read (s ++ t) at os r a)
-  tagged_late at os r (tagged.Stopped x) h = stopped_late x h
-  tagged_late at os r (tagged.Got e) h = tag_got_late at os r e
+  tagged_late at os r (Err x) h = stopped_late x h
+  tagged_late at os r (Ok e) h = tag_got_late at os r e
 
   start_ext : (at : ℕ) (os : List scene.Open) → Ext N (scene.start_read s at os (tag_at s (at + 1)) (tag_at s (at + 1)).answer) (scene.start_read (s ++ t) at os (tag_at (s ++ t) (at + 1)) (tag_at (s ++ t) (at + 1)).answer)
   start_ext at os =
@@ -170,32 +165,32 @@ module _ (s t : List ℕ) (z : scene.ReaderState) where
       (tag_ext need s t targets (at + 1))
     where
       same : (r : TagRead) (a : Tagged) → Ext N (scene.start_read s at os r a) (scene.start_read (s ++ t) at os r a)
-      same r (tagged.Stopped x) = stopped_ext x
-      same r (tagged.Got e) = inr (tag_got_late at os r e)
+      same r (Err x) = stopped_ext x
+      same r (Ok e) = inr (tag_got_late at os r e)
 
   begun_ext : (inside : Bool) → inside ≡ not (scene.is_nil z.opened) → Ext N (scene.read_at s z (begin_at s z.place inside z.closed)) (scene.read_at (s ++ t) z (begin_at (s ++ t) z.place inside z.closed))
   unfolding N
   begun_ext inside around = by (begin_at (s ++ t) z.place inside z.closed) refl (begin_ext need s t targets z.place inside z.closed)
     where
-      closings : (at : ℕ) → begin_at (s ++ t) z.place inside z.closed ≡ begin.Text at → Closings need (s ++ t) at 0x3C
+      closings : (at : ℕ) → begin_at (s ++ t) z.place inside z.closed ≡ Ok (begin.Text at) → Closings need (s ++ t) at 0x3C
       closings at q = settled_closings (s ++ t) z (rw (← around, q)) at
 
-      same : (b : Begin) → begin_at (s ++ t) z.place inside z.closed ≡ b → Ext N (scene.read_at s z b) (scene.read_at (s ++ t) z b)
-      same (begin.Stopped x) q = stopped_ext x
-      same begin.Finished q = inr tt
-      same (begin.Text at) q = text_ext at (closings at q)
-      same (begin.End at) q = end_ext at z.opened
-      same (begin.Start at) q = start_ext at z.opened
+      same : (b : BeginRead) → begin_at (s ++ t) z.place inside z.closed ≡ b → Ext N (scene.read_at s z b) (scene.read_at (s ++ t) z b)
+      same (Err x) q = stopped_ext x
+      same (Ok begin.Finished) q = inr tt
+      same (Ok (begin.Text at)) q = text_ext at (closings at q)
+      same (Ok (begin.End at)) q = end_ext at z.opened
+      same (Ok (begin.Start at)) q = start_ext at z.opened
 
-      late : (b : Begin) → begin_at (s ++ t) z.place inside z.closed ≡ b → LateBegin need (length s) b → N (scene.read_at (s ++ t) z b)
-      late (begin.Stopped x) q h = stopped_late x h
-      late begin.Finished q h = tt
-      late (begin.Text at) q h = text_late at (text_end (s ++ t) at) (value_late need s t targets at 0x3C (closings at q) h)
-      late (begin.End at) q h = end_late at h z.opened
-      late (begin.Start at) q h = tagged_late at z.opened (tag_at (s ++ t) (at + 1)) (tag_at (s ++ t) (at + 1)).answer (tag_late need s t targets (at + 1) h)
+      late : (b : BeginRead) → begin_at (s ++ t) z.place inside z.closed ≡ b → LateBegin need (length s) b → N (scene.read_at (s ++ t) z b)
+      late (Err x) q h = stopped_late x h
+      late (Ok begin.Finished) q h = tt
+      late (Ok (begin.Text at)) q h = text_late at (text_end (s ++ t) at) (value_late need s t targets at 0x3C (closings at q) h)
+      late (Ok (begin.End at)) q h = end_late at h z.opened
+      late (Ok (begin.Start at)) q h = tagged_late at z.opened (tag_at (s ++ t) (at + 1)) (tag_at (s ++ t) (at + 1)).answer (tag_late need s t targets (at + 1) h)
 
-      by : (b : Begin) → begin_at (s ++ t) z.place inside z.closed ≡ b → Ext (LateBegin need (length s)) (begin_at s z.place inside z.closed) b → Ext N (scene.read_at s z (begin_at s z.place inside z.closed)) (scene.read_at (s ++ t) z b)
-      by b q (inl e) = subst (λ (a : Begin). Ext N (scene.read_at s z a) (scene.read_at (s ++ t) z b)) e (same b q)
+      by : (b : BeginRead) → begin_at (s ++ t) z.place inside z.closed ≡ b → Ext (LateBegin need (length s)) (begin_at s z.place inside z.closed) b → Ext N (scene.read_at s z (begin_at s z.place inside z.closed)) (scene.read_at (s ++ t) z b)
+      by b q (inl e) = subst (λ (a : BeginRead). Ext N (scene.read_at s z a) (scene.read_at (s ++ t) z b)) e (same b q)
       by b q (inr l) = inr (late b q l)
 
   -- with more bytes the reader says the same, or no 2 and no 3 that is settled before the scene's end
@@ -227,21 +222,21 @@ module _ (s t : List ℕ) (z : scene.ReaderState) where
   text_stays : (at : ℕ) → Kept Other (scene.text_read s z at (text_end s at)) (scene.text_read (s ++ t) z at (text_end (s ++ t) at))
   unfolding Other
   text_stays at =
-      through (λ (r : Read). r ≡ read.Stopped Cut) (scene.text_read s z at) (scene.text_read (s ++ t) z at) (λ r e. rw e (λ lo hi. omega arith)) same (text_end s at) (text_end (s ++ t) at) (value_stable s t at 0x3C)
+      through (λ (r : Read). r ≡ Err Cut) (scene.text_read s z at) (scene.text_read (s ++ t) z at) (λ r e. rw e (λ lo hi. omega arith)) same (text_end s at) (text_end (s ++ t) at) (value_stable s t at 0x3C)
     where
       same : (r : Read) → Kept Other (scene.text_read s z at r) (scene.text_read (s ++ t) z at r)
-      same (read.End j) n = absurd (n tt)
-      same (read.Stopped x) n = stopped_stays x n
+      same (Ok j) n = absurd (n tt)
+      same (Err x) n = stopped_stays x n
 
   end_stays : (at : ℕ) (os : List scene.Open) → Kept Other (scene.end_read s at os (end_tag_at s (at + 2))) (scene.end_read (s ++ t) at os (end_tag_at (s ++ t) (at + 2)))
   unfolding Other
   end_stays at [] = λ n. refl
   end_stays at (o ∷ os) =
-      through (λ (r : Ended). r ≡ ended.Stopped Cut) (scene.end_read s at (o ∷ os)) (scene.end_read (s ++ t) at (o ∷ os)) (λ r e. rw e (λ lo hi. omega arith)) same (end_tag_at s (at + 2)) (end_tag_at (s ++ t) (at + 2)) (end_tag_stable s t (at + 2))
+      through (λ (r : Ended). r ≡ Err Cut) (scene.end_read s at (o ∷ os)) (scene.end_read (s ++ t) at (o ∷ os)) (λ r e. rw e (λ lo hi. omega arith)) same (end_tag_at s (at + 2)) (end_tag_at (s ++ t) (at + 2)) (end_tag_stable s t (at + 2))
     where
       same : (r : Ended) → Kept Other (scene.end_read s at (o ∷ os) r) (scene.end_read (s ++ t) at (o ∷ os) r)
-      same (ended.Stopped x) = stopped_stays x
-      same (ended.Got e) = λ n. absurd (n (holds_cond Other (same_list (bytes_of s (whole_span e.name)) (bytes_of s o.name)) (λ q. tt) (λ q lo hi. omega arith)))
+      same (Err x) = stopped_stays x
+      same (Ok e) = λ n. absurd (n (holds_cond Other (same_list (bytes_of s (whole_span e.name)) (bytes_of s o.name)) (λ q. tt) (λ q lo hi. omega arith)))
 
   start_stays : (at : ℕ) (os : List scene.Open) → Kept Other (scene.start_read s at os (tag_at s (at + 1)) (tag_at s (at + 1)).answer) (scene.start_read (s ++ t) at os (tag_at (s ++ t) (at + 1)) (tag_at (s ++ t) (at + 1)).answer)
   unfolding Other
@@ -258,20 +253,20 @@ module _ (s t : List ℕ) (z : scene.ReaderState) where
       other e (meant x as' own) h = tt
 
       same : (r : TagRead) (a : Tagged) → Kept Other (scene.start_read s at os r a) (scene.start_read (s ++ t) at os r a)
-      same r (tagged.Stopped x) = stopped_stays x
-      same r (tagged.Got e) = λ n. absurd (n (other e (meaning_of s (scene.bindings_of os) e.name r.attrs) (meaning_number s (scene.bindings_of os) e.name r.attrs)))
+      same r (Err x) = stopped_stays x
+      same r (Ok e) = λ n. absurd (n (other e (meaning_of s (scene.bindings_of os) e.name r.attrs) (meaning_number s (scene.bindings_of os) e.name r.attrs)))
 
   begun_stays : (inside : Bool) → Kept Other (scene.read_at s z (begin_at s z.place inside z.closed)) (scene.read_at (s ++ t) z (begin_at (s ++ t) z.place inside z.closed))
   unfolding Other
   begun_stays inside =
       through CutBegin (scene.read_at s z) (scene.read_at (s ++ t) z) (λ b. ⊎_elim (λ e. rw e (λ lo hi. omega arith)) (λ e. rw e tt)) same (begin_at s z.place inside z.closed) (begin_at (s ++ t) z.place inside z.closed) (begin_stable s t z.place inside z.closed)
     where
-      same : (b : Begin) → Kept Other (scene.read_at s z b) (scene.read_at (s ++ t) z b)
-      same (begin.Stopped x) = stopped_stays x
-      same begin.Finished = λ n. absurd (n tt)
-      same (begin.Text at) = text_stays at
-      same (begin.End at) = end_stays at z.opened
-      same (begin.Start at) = start_stays at z.opened
+      same : (b : BeginRead) → Kept Other (scene.read_at s z b) (scene.read_at (s ++ t) z b)
+      same (Err x) = stopped_stays x
+      same (Ok begin.Finished) = λ n. absurd (n tt)
+      same (Ok (begin.Text at)) = text_stays at
+      same (Ok (begin.End at)) = end_stays at z.opened
+      same (Ok (begin.Start at)) = start_stays at z.opened
 
   pub next_stays : (n p : ℕ) → 2 ≤ n → n ≤ 3 → scene.next s z ≡ scene.refusal n p → scene.next (s ++ t) z ≡ scene.refusal n p
   unfolding scene.next Other
@@ -284,27 +279,27 @@ module _ (s t : List ℕ) (z : scene.ReaderState) where
 
 -- ---- behind a finished scene
 -- what begins behind it and is refused is refused there
-behind_finished : (s t : List ℕ) (z : scene.ReaderState) (n p : ℕ) (b : Begin) → BeginInside (s ++ t) (length s) false true b → scene.read_at (s ++ t) z b ≡ scene.refusal n p → length s ≤ p
-behind_finished s t z n p (begin.Stopped (Bad j)) i e = let y : j ≡ p = cc in omega arith
-behind_finished s t z n p (begin.Stopped (Long j)) i e = let y : j ≡ p = cc in omega arith
-behind_finished s t z n p (begin.Stopped Cut) i e = let y : length (s ++ t) ≡ p = cc in omega (arith, length-append s t)
-behind_finished s t z n p begin.Finished i e = let y : ◌≡◌ {A = ℕ} 0 1 = cc in absurd (omega arith)
-behind_finished s t z n p (begin.Text at) i e = absurd (differ (sym i.3))
-behind_finished s t z n p (begin.End at) i e = absurd (differ (sym i.4))
-behind_finished s t z n p (begin.Start at) i e = absurd (differ (sym i.4))
+behind_finished : (s t : List ℕ) (z : scene.ReaderState) (n p : ℕ) (b : BeginRead) → BeginInside (s ++ t) (length s) false true b → scene.read_at (s ++ t) z b ≡ scene.refusal n p → length s ≤ p
+behind_finished s t z n p (Err (Bad j)) i e = let y : j ≡ p = cc in omega arith
+behind_finished s t z n p (Err (Long j)) i e = let y : j ≡ p = cc in omega arith
+behind_finished s t z n p (Err Cut) i e = let y : length (s ++ t) ≡ p = cc in omega (arith, length-append s t)
+behind_finished s t z n p (Ok begin.Finished) i e = let y : ◌≡◌ {A = ℕ} 0 1 = cc in absurd (omega arith)
+behind_finished s t z n p (Ok (begin.Text at)) i e = absurd (differ (sym i.3))
+behind_finished s t z n p (Ok (begin.End at)) i e = absurd (differ (sym i.4))
+behind_finished s t z n p (Ok (begin.Start at)) i e = absurd (differ (sym i.4))
 
 -- behind the root nothing begins but the end
-finished_only : (s : List ℕ) (z : scene.ReaderState) (j : ℕ) (b : Begin) → BeginInside s z.place false true b → scene.read_at s z b ≡ scene.finished j → b ≡ begin.Finished
-finished_only s z j (begin.Stopped x) i e = let y : ◌≡◌ {A = ℕ} 0 1 = cc in absurd (omega arith)
-finished_only s z j begin.Finished i e = refl
-finished_only s z j (begin.Text at) i e = absurd (differ (sym i.3))
-finished_only s z j (begin.End at) i e = absurd (differ (sym i.4))
-finished_only s z j (begin.Start at) i e = absurd (differ (sym i.4))
+finished_only : (s : List ℕ) (z : scene.ReaderState) (j : ℕ) (b : BeginRead) → BeginInside s z.place false true b → scene.read_at s z b ≡ scene.finished j → b ≡ (Ok begin.Finished)
+finished_only s z j (Err x) i e = let y : ◌≡◌ {A = ℕ} 0 1 = cc in absurd (omega arith)
+finished_only s z j (Ok begin.Finished) i e = refl
+finished_only s z j (Ok (begin.Text at)) i e = absurd (differ (sym i.3))
+finished_only s z j (Ok (begin.End at)) i e = absurd (differ (sym i.4))
+finished_only s z j (Ok (begin.Start at)) i e = absurd (differ (sym i.4))
 
 module _ (s t : List ℕ) (z : scene.ReaderState) (h : Held s z) where
   begun_late : (j n p : ℕ) (closed : Bool) → closed ≡ true → scene.read_at s z (begin_at s z.place false closed) ≡ scene.finished j → scene.read_at (s ++ t) z (begin_at (s ++ t) z.place false closed) ≡ scene.refusal n p → length s ≤ p
   begun_late j n p true c e q =
-      let fin : begin_at s z.place false true ≡ begin.Finished = finished_only s z j (begin_at s z.place false true) (begin_inside s z.place false true) e in
+      let fin : begin_at s z.place false true ≡ (Ok begin.Finished) = finished_only s z j (begin_at s z.place false true) (begin_inside s z.place false true) e in
       behind_finished s t z n p (begin_at (s ++ t) (length s) false true) (begin_inside (s ++ t) (length s) false true) (ap (scene.read_at (s ++ t) z) (sym (finished_on s z.place fin h.place t)) ∙ q)
   begun_late j n p false c e q = absurd (differ (sym c))
 

@@ -1,6 +1,7 @@
 -- Bytes behind a scene with which a comment, an instruction or the declaration that was cut is read to its end.
 --     declaration_goes, instruction_completed, misc_completed    sixteen bytes suffice, unless the target is overfull
 --     misc_begins                                                behind a <
+use Rattle.std.specs.Prelude.{Ok, Err}
 use Prim.Native.Nat.{ℕ, zero, suc, ◌+◌, ◌≤◌, ◌<◌, zero-le}
 use mathlib.Core.Path.{◌≡◌, refl, sym, ap, subst, ◌∙◌}
 use mathlib.Core.List.{List, [], ◌∷◌, ◌++◌, append_assoc}
@@ -28,8 +29,7 @@ use Rattle.lexer.specs.Tags.{wanted, slash_at}
 use Rattle.lexer.specs.Declaration.{word_end, is_letter, is_field_byte, some_step, some_end, version_end, encoding_end, answer_end, standalone_end, field_word, field_value, quoted_end, field_end, turn_from, field_turn, field_then, last_rest, standalone_then, encoding_rest, encoding_then, either_then, version_rest, version_then, declaration_end}
 use Rattle.lexer.specs.Misc.{MiscState, misc_state, free_step, comment_step, comment_rest, comment_end, content_step, content_end, behind_target, is_xml, is_declared, instruction_end, misc_end}
 use Rattle.lexer.specs.declared.Stop.TheVariants.{Bad, Long, Cut}
-use Rattle.lexer.specs.declared.Read.{Read}
-use Rattle.lexer.specs.declared.Read.TheVariants as read
+use Rattle.lexer.specs.Reads.{Read}
 use Rattle.lexer.specs.declared.Turn.TheVariants as turn
 use Rattle.lexer.specs.declared.Field.{Field}
 use Rattle.lexer.specs.declared.Field.TheVariants as field
@@ -86,17 +86,17 @@ module _ (step : MiscState → ℕ → ℕ → RunNext MiscState Read) (k : ℕ)
             rw (h.0, append_assoc u.rest w.word t)
             (rest_read step set.Char u.character u.allowed (λ (n : ℕ). misc_state 0) (λ n l b i some e. goes l b i some) u.rest begun (w.word ++ t) i u.some u.lacks u.form
             ∙ w.stops t (i + length u.rest)
-            ∙ ap read.End (omega arith));
+            ∙ ap Ok (omega arith));
       }
 
-  free_ends : ((q : MiscState) (b i : ℕ) → Kept q → Turned Kept NotCut (step q b i)) → Ends (λ (s : List ℕ) (at : ℕ). run (read.Stopped Cut) step (misc_state 0 []) (drop at s) at) (marked 0 zero-le).word k
+  free_ends : ((q : MiscState) (b i : ℕ) → Kept q → Turned Kept NotCut (step q b i)) → Ends (λ (s : List ℕ) (at : ℕ). run (Err Cut) step (misc_state 0 []) (drop at s) at) (marked 0 zero-le).word k
   unfolding each
   free_ends turn = ends_machine step k Kept turn (λ q. each q.mark q.begun) (misc_state 0 []) (inl (refl, zero-le))
 
 comment_marked : (m : ℕ) → m ≤ 2 → Stops comment_step 6 (misc_state m [])
 unfolding run computing
-comment_marked zero h = record { word = 0x2D ∷ 0x2D ∷ 0x3E ∷ []; few = omega arith; stops = λ u i. ap read.End (omega arith) }
-comment_marked (suc zero) h = record { word = 0x2D ∷ 0x3E ∷ []; few = omega arith; stops = λ u i. ap read.End (omega arith) }
+comment_marked zero h = record { word = 0x2D ∷ 0x2D ∷ 0x3E ∷ []; few = omega arith; stops = λ u i. ap Ok (omega arith) }
+comment_marked (suc zero) h = record { word = 0x2D ∷ 0x3E ∷ []; few = omega arith; stops = λ u i. ap Ok (omega arith) }
 comment_marked (suc (suc zero)) h = record { word = 0x3E ∷ []; few = omega arith; stops = λ u i. refl }
 comment_marked (suc (suc (suc m))) h = absurd (omega arith)
 
@@ -117,9 +117,9 @@ content_marked : (m : ℕ) → m ≤ 2 → Stops content_step 5 (misc_state m []
 unfolding run computing
 content_marked m h = record { word = 0x3F ∷ 0x3E ∷ []; few = omega arith; stops = λ u i. by (eqb m 1) u i }
   where
-    by : (x : Bool) (u : List ℕ) (i : ℕ) → follow (cond {A = RunNext MiscState Read} (x && false) (stop (read.End (i + 1))) (free_step 1 [] 0x3F i)) (λ (p : MiscState). run (read.Stopped Cut) content_step p (0x3E ∷ u) (i + 1)) ≡ read.End (i + 2)
-    by true u i = ap read.End (omega arith)
-    by false u i = ap read.End (omega arith)
+    by : (x : Bool) (u : List ℕ) (i : ℕ) → follow (cond {A = RunNext MiscState Read} (x && false) (stop (Ok (i + 1))) (free_step 1 [] 0x3F i)) (λ (p : MiscState). run (Err Cut) content_step p (0x3E ∷ u) (i + 1)) ≡ Ok (i + 2)
+    by true u i = ap Ok (omega arith)
+    by false u i = ap Ok (omega arith)
 
 content_ends : Ends content_end (0x3F ∷ 0x3E ∷ []) 5
 unfolding content_end content_marked
@@ -142,7 +142,7 @@ some_ends f c quote fit = ends_machine (some_step f quote) 2 (λ (q : ℕ). Unit
 
     each : (q : ℕ) (x : Bool) → eqb q 1 ≡ x → Stops (some_step f quote) 2 q
     each q true x = record { word = quote ∷ []; few = omega arith; stops = λ u i. rw (x, eq-eqb quote quote refl) }
-    each q false x = record { word = c ∷ quote ∷ []; few = omega arith; stops = λ u i. rw (x, fit, eq-eqb quote quote refl) (ap read.End (omega arith)) }
+    each q false x = record { word = c ∷ quote ∷ []; few = omega arith; stops = λ u i. rw (x, fit, eq-eqb quote quote refl) (ap Ok (omega arith)) }
 
 -- ---- the fields of a declaration
 version_ends : (quote : ℕ) → Ends (λ (s : List ℕ) (at : ℕ). version_end s at quote) (bytes "1.0" ++ (quote ∷ [])) 4
@@ -165,7 +165,7 @@ encoding_ends : (quote : ℕ) → Ends (λ (s : List ℕ) (at : ℕ). encoding_e
 unfolding encoding_end
 encoding_ends quote =
     let some = some_ends field.Encoding 0x61 quote refl in
-    ends_peek (λ (b : ℕ) (s : List ℕ) (at : ℕ). cond (is_letter b) (some_end s field.Encoding at quote) (read.Stopped (Bad at))) 0x61 (quote ∷ []) 2
+    ends_peek (λ (b : ℕ) (s : List ℕ) (at : ℕ). cond (is_letter b) (some_end s field.Encoding at quote) (Err (Bad at))) 0x61 (quote ∷ []) 2
     some.fresh
     (λ b. goes_cond (Some field.Encoding quote) Refused 2 (is_letter b) some.goes (goes_bad 2))
 
@@ -201,7 +201,7 @@ quoted_text f = 0x27 ∷ (field_text f ++ (0x27 ∷ []))
 quoted_ends : (f : Field) → Ends (λ (s : List ℕ) (at : ℕ). quoted_end s f at) (quoted_text f) (length (field_text f) + 1)
 unfolding quoted_end
 quoted_ends f =
-    ends_peek (λ (q : ℕ) (s : List ℕ) (at : ℕ). cond (eqb q 0x22 || eqb q 0x27) (field_value f s (at + 1) q) (read.Stopped (Bad at))) 0x27 (field_text f ++ (0x27 ∷ [])) k
+    ends_peek (λ (q : ℕ) (s : List ℕ) (at : ℕ). cond (eqb q 0x22 || eqb q 0x27) (field_value f s (at + 1) q) (Err (Bad at))) 0x27 (field_text f ++ (0x27 ∷ [])) k
     (fresh_next (Valued f 0x27) (field_text f ++ (0x27 ∷ [])) k (value_ends f 0x27) 0x27)
     (λ q.
     goes_cond (Next (Valued f q) (field_text f ++ (q ∷ [])) k (value_ends f q)) Refused k (eqb q 0x22 || eqb q 0x27)
@@ -261,15 +261,15 @@ module _ (more : Form) (m : ℕ) (h : Goes more m) where
       (ends_spaced turned 0x3F (0x3E ∷ []) k k refl each (omega arith) two)
     where
       byte : ℕ → ℕ → Form
-      byte at b s i = cond (eqb b 0x3F) (wanted s (i + 1) 0x3E) (cond (eqb i at) (read.Stopped (Bad i)) (more s i))
+      byte at b s i = cond (eqb b 0x3F) (wanted s (i + 1) 0x3E) (cond (eqb i at) (Err (Bad i)) (more s i))
 
       turned : ℕ → Form
       turned at = Peeked (byte at)
 
-      behind : (at : ℕ) → Goes (λ (s : List ℕ) (i : ℕ). cond (eqb i at) (read.Stopped (Bad i)) (more s i)) k
+      behind : (at : ℕ) → Goes (λ (s : List ℕ) (i : ℕ). cond (eqb i at) (Err (Bad i)) (more s i)) k
       behind at s i lt e = by (eqb i at) refl e
         where
-          by : (t : Bool) → eqb i at ≡ t → cond t (read.Stopped (Bad i)) (more s i) ≡ read.Stopped Cut → Rest (λ (s : List ℕ) (i : ℕ). cond (eqb i at) (read.Stopped (Bad i)) (more s i)) s i k
+          by : (t : Bool) → eqb i at ≡ t → cond t (Err (Bad i)) (more s i) ≡ Err Cut → Rest (λ (s : List ℕ) (i : ℕ). cond (eqb i at) (Err (Bad i)) (more s i)) s i k
           by true q e = let z : ◌≡◌ {A = ℕ} 0 1 = cc in absurd (omega arith)
           by false q e =
               let r = goes_more more m k le h s i lt e in
@@ -280,27 +280,27 @@ module _ (more : Form) (m : ℕ) (h : Goes more m) where
           ends_peek (byte at) 0x3F (0x3E ∷ []) k
           (fresh_next (OneByte 0x3E) (0x3E ∷ []) 0 (ends_wanted 0x3E) 0x3F)
           (λ b.
-          goes_cond (Next (OneByte 0x3E) (0x3E ∷ []) 0 (ends_wanted 0x3E)) (λ (s : List ℕ) (i : ℕ). cond (eqb i at) (read.Stopped (Bad i)) (more s i)) k (eqb b 0x3F)
+          goes_cond (Next (OneByte 0x3E) (0x3E ∷ []) 0 (ends_wanted 0x3E)) (λ (s : List ℕ) (i : ℕ). cond (eqb i at) (Err (Bad i)) (more s i)) k (eqb b 0x3F)
           (goes_next (OneByte 0x3E) (0x3E ∷ []) 0 (ends_wanted 0x3E) k (omega arith) (omega arith))
           (behind at))
 
-      closes : (s : List ℕ) (r : Read) → field_then (λ (i : ℕ). more s i) (after_read turn.Stopped r (λ (next : ℕ). turn.Close next true)) ≡ r
-      closes s (read.End j) = refl
-      closes s (read.Stopped x) = refl
+      closes : (s : List ℕ) (r : Read) → field_then (λ (i : ℕ). more s i) (after_read Err r (λ (next : ℕ). Ok (turn.Close next true))) ≡ r
+      closes s (Ok j) = refl
+      closes s (Err x) = refl
 
       -- by the tests
-      chooses : (s : List ℕ) (at i : ℕ) (a b c : Bool) → field_then (λ (i : ℕ). more s i) (cond a (cond b (after_read turn.Stopped (wanted s (i + 1) 0x3E) (λ (next : ℕ). turn.Close next true)) (cond c (turn.Stopped (Bad i)) (turn.Attribute i))) (turn.Stopped Cut)) ≡ cond a (cond b (wanted s (i + 1) 0x3E) (cond c (read.Stopped (Bad i)) (more s i))) (read.Stopped Cut)
+      chooses : (s : List ℕ) (at i : ℕ) (a b c : Bool) → field_then (λ (i : ℕ). more s i) (cond a (cond b (after_read Err (wanted s (i + 1) 0x3E) (λ (next : ℕ). Ok (turn.Close next true))) (cond c (Err (Bad i)) (Ok (turn.Attribute i)))) (Err Cut)) ≡ cond a (cond b (wanted s (i + 1) 0x3E) (cond c (Err (Bad i)) (more s i))) (Err Cut)
       chooses s at i true true c = closes s (wanted s (i + 1) 0x3E)
       chooses s at i true false true = refl
       chooses s at i true false false = refl
       chooses s at i false b c = refl
 
-      same : (s : List ℕ) (at : ℕ) (r : Read) → field_then (λ (i : ℕ). more s i) (after_read turn.Stopped r (λ (i : ℕ). turn_from s at i)) ≡ after_read read.Stopped r (λ (i : ℕ). turned at s i)
-      same s at (read.End i) = chooses s at i (ltb i (length s)) (eqb (get_or s i 0) 0x3F) (eqb i at)
-      same s at (read.Stopped x) = refl
+      same : (s : List ℕ) (at : ℕ) (r : Read) → field_then (λ (i : ℕ). more s i) (after_read Err r (λ (i : ℕ). turn_from s at i)) ≡ after_read Err r (λ (i : ℕ). turned at s i)
+      same s at (Ok i) = chooses s at i (ltb i (length s)) (eqb (get_or s i 0) 0x3F) (eqb i at)
+      same s at (Err x) = refl
 
 -- a field, and what stands behind it
-field_then_ends : (f : Field) (g : Form) (kg k : ℕ) → Ends g closing kg → field_left f + 2 ≤ k → kg ≤ k → Ends (λ (s : List ℕ) (at : ℕ). after_read read.Stopped (field_end s f at) (λ (i : ℕ). g s i)) (field_whole f ++ closing) k
+field_then_ends : (f : Field) (g : Form) (kg k : ℕ) → Ends g closing kg → field_left f + 2 ≤ k → kg ≤ k → Ends (λ (s : List ℕ) (at : ℕ). after_read Err (field_end s f at) (λ (i : ℕ). g s i)) (field_whole f ++ closing) k
 field_then_ends f g kg k h le le' =
     ends_then (Fielded f) g (λ s at. field_inside s f at) (λ s t at. field_stable s t f at) (field_whole f) closing (field_left f) kg k (field_ends f) h le le'
 
@@ -337,7 +337,7 @@ version_then_ends = field_then_ends field.Version version_rest 16 16 version_res
 declaration_goes : Goes declaration_end 16
 unfolding declaration_end
 declaration_goes =
-    goes_peek (λ (b : ℕ) (s : List ℕ) (at : ℕ). cond (is_space b) (after_read read.Stopped (spaces_end s at) (λ (i : ℕ). version_then s i)) (read.Stopped (Bad at))) 16
+    goes_peek (λ (b : ℕ) (s : List ℕ) (at : ℕ). cond (is_space b) (after_read Err (spaces_end s at) (λ (i : ℕ). version_then s i)) (Err (Bad at))) 16
     (λ b. goes_cond (Spaced (λ (at : ℕ). version_then)) Refused 16 (is_space b) (ends_spaced (λ (at : ℕ). version_then) 0x76 _ 16 16 refl (λ at. version_then_ends) (omega arith) (omega arith)).goes (goes_bad 16))
 
 -- ---- comments and instructions
@@ -350,10 +350,10 @@ target_ends : Ends behind_target closing 5
 unfolding behind_target
 target_ends =
     let gt = ends_wanted 0x3E in
-    ends_peek (λ (b : ℕ) (s : List ℕ) (at : ℕ). cond (is_space b) (content_end s (at + 1)) (cond (eqb b 0x3F) (wanted s (at + 1) 0x3E) (read.Stopped (Bad at)))) 0x3F (0x3E ∷ []) 5
+    ends_peek (λ (b : ℕ) (s : List ℕ) (at : ℕ). cond (is_space b) (content_end s (at + 1)) (cond (eqb b 0x3F) (wanted s (at + 1) 0x3E) (Err (Bad at)))) 0x3F (0x3E ∷ []) 5
     (fresh_next (OneByte 0x3E) (0x3E ∷ []) 0 gt 0x3F)
     (λ b.
-    goes_cond (Next content_end closing 5 content_ends) (λ (s : List ℕ) (at : ℕ). cond (eqb b 0x3F) (wanted s (at + 1) 0x3E) (read.Stopped (Bad at))) 5 (is_space b) (goes_next content_end closing 5 content_ends 5 (omega arith) (omega arith))
+    goes_cond (Next content_end closing 5 content_ends) (λ (s : List ℕ) (at : ℕ). cond (eqb b 0x3F) (wanted s (at + 1) 0x3E) (Err (Bad at))) 5 (is_space b) (goes_next content_end closing 5 content_ends 5 (omega arith) (omega arith))
     (goes_cond (Next (OneByte 0x3E) (0x3E ∷ []) 0 gt) Refused 5 (eqb b 0x3F) (goes_next (OneByte 0x3E) (0x3E ∷ []) 0 gt 5 (omega arith) (omega arith)) (goes_bad 5)))
 
 xml_not : (s : List ℕ) (at end : ℕ) → (end ≡ at + 3 → ⊥) → is_xml s at end ≡ false
@@ -366,7 +366,7 @@ unfolding computing
 no_question = refl
 
 -- its target, then ?>
-instruction_closes : (s : List ℕ) (at j : ℕ) → part_end s at ≡ read.End j → is_xml s at j ≡ false → behind_target s j ≡ read.End (j + 2) → instruction_end s at ≡ read.End (j + 2)
+instruction_closes : (s : List ℕ) (at j : ℕ) → part_end s at ≡ Ok j → is_xml s at j ≡ false → behind_target s j ≡ Ok (j + 2) → instruction_end s at ≡ Ok (j + 2)
 unfolding instruction_end
 instruction_closes s at j p x b = rw (p, x, b)
 
@@ -379,7 +379,7 @@ module _ (s : List ℕ) (at : ℕ) where
       j : ℕ
       j = length s + length p.more
 
-      closed : (w : List ℕ) → length w ≤ 1 → (j + length w ≡ at + 3 → ⊥) → ((u : List ℕ) → run (read.Stopped Cut) part_step (part_state p.room []) (w ++ (0x3F ∷ 0x3E ∷ u)) j ≡ read.End (j + length w)) → Rest instruction_end s at 16
+      closed : (w : List ℕ) → length w ≤ 1 → (j + length w ≡ at + 3 → ⊥) → ((u : List ℕ) → run (Err Cut) part_step (part_state p.room []) (w ++ (0x3F ∷ 0x3E ∷ u)) j ≡ Ok (j + length w)) → Rest instruction_end s at 16
       closed w le n part =
           let m = p.more ++ w in
           let size = length-append p.more w in
@@ -394,16 +394,16 @@ module _ (s : List ℕ) (at : ℕ) where
                 (instruction_closes S at (j + length w)
                 (rw (append_assoc p.more w (0x3F ∷ 0x3E ∷ u)) (p.reads (w ++ (0x3F ∷ 0x3E ∷ u)) ∙ part u))
                 (xml_not S at (j + length w) n)
-                (fresh_behind behind_target closing target_ends.fresh s m u (j + length w) (omega arith) ∙ ap read.End (omega arith))
-                ∙ ap read.End (omega arith));
+                (fresh_behind behind_target closing target_ends.fresh s m u (j + length w) (omega arith) ∙ ap Ok (omega arith))
+                ∙ ap Ok (omega arith));
           }
 
       by : (t : Bool) → eqb j (at + 3) ≡ t → Rest instruction_end s at 16
-      by false x = closed [] (omega arith) (λ e. eqb-false j (at + 3) x (omega arith)) (λ u. part_stops p.room 0x3F j (0x3E ∷ u) p.some no_question ∙ ap read.End (omega arith))
+      by false x = closed [] (omega arith) (λ e. eqb-false j (at + 3) x (omega arith)) (λ u. part_stops p.room 0x3F j (0x3E ∷ u) p.some no_question ∙ ap Ok (omega arith))
       by true x = let three = eqb-true j (at + 3) x in closed (0x61 ∷ []) (omega arith) (λ e. omega arith) (λ u. letter_then p.room 0x3F j (0x3E ∷ u) (omega (arith, p.left)) (omega (arith, p.some)) no_question)
 
   -- the target is whole
-  target_whole : (j : ℕ) → part_end s at ≡ read.End j → PartTo s at j → (x : Bool) → is_xml s at j ≡ x → (d : Bool) → is_declared s at ≡ d → cond x (cond d (declaration_end s j) (read.Stopped (Bad at))) (behind_target s j) ≡ read.Stopped Cut → Rest instruction_end s at 16
+  target_whole : (j : ℕ) → part_end s at ≡ Ok j → PartTo s at j → (x : Bool) → is_xml s at j ≡ x → (d : Bool) → is_declared s at ≡ d → cond x (cond d (declaration_end s j) (Err (Bad at))) (behind_target s j) ≡ Err Cut → Rest instruction_end s at 16
   unfolding instruction_end
   target_whole j p to true x true d e =
       let three = xml_three s at j x in
@@ -428,16 +428,16 @@ module _ (s : List ℕ) (at : ℕ) where
             rw (read_so (part_end s at) (part_end (s ++ t) at) j p (part_stable s t at), xml_kept s t at j to.1, x) (r.done u);
       }
 
-  instruction_completed : at ≤ length s → instruction_end s at ≡ read.Stopped Cut → Rest instruction_end s at 16 ⊎ Overfull s (λ (S : List ℕ) (p : ℕ). instruction_end S at ≡ read.Stopped (Long p))
+  instruction_completed : at ≤ length s → instruction_end s at ≡ Err Cut → Rest instruction_end s at 16 ⊎ Overfull s (λ (S : List ℕ) (p : ℕ). instruction_end S at ≡ Err (Long p))
   unfolding instruction_end
   instruction_completed le e = by (part_end s at) refl (part_inside s at) e
     where
-      by : (r : Read) → part_end s at ≡ r → ReadInside (PartTo s at) s at (part_end s at) → after_read read.Stopped r (λ (j : ℕ). cond (is_xml s at j) (cond (is_declared s at) (declaration_end s j) (read.Stopped (Bad at))) (behind_target s j)) ≡ read.Stopped Cut → Rest instruction_end s at 16 ⊎ Overfull s (λ (S : List ℕ) (p : ℕ). instruction_end S at ≡ read.Stopped (Long p))
-      by (read.End j) p in' e = inl (target_whole j p (subst (ReadInside (PartTo s at) s at) p in') (is_xml s at j) refl (is_declared s at) refl e)
-      by (read.Stopped x) p in' e = or_full target_cut (λ t k r. rw r) (part_completed s at le (p ∙ e))
+      by : (r : Read) → part_end s at ≡ r → ReadInside (PartTo s at) s at (part_end s at) → after_read Err r (λ (j : ℕ). cond (is_xml s at j) (cond (is_declared s at) (declaration_end s j) (Err (Bad at))) (behind_target s j)) ≡ Err Cut → Rest instruction_end s at 16 ⊎ Overfull s (λ (S : List ℕ) (p : ℕ). instruction_end S at ≡ Err (Long p))
+      by (Ok j) p in' e = inl (target_whole j p (subst (ReadInside (PartTo s at) s at) p in') (is_xml s at j) refl (is_declared s at) refl e)
+      by (Err x) p in' e = or_full target_cut (λ t k r. rw r) (part_completed s at le (p ∙ e))
 
 -- ---- a misc whose < stands at a place, a ! or ? behind it
-pub misc_completed : (s : List ℕ) (at : ℕ) → at + 1 < length s → misc_end s at ≡ read.Stopped Cut → Rest misc_end s at 16 ⊎ Overfull s (λ (S : List ℕ) (p : ℕ). misc_end S at ≡ read.Stopped (Long p))
+pub misc_completed : (s : List ℕ) (at : ℕ) → at + 1 < length s → misc_end s at ≡ Err Cut → Rest misc_end s at 16 ⊎ Overfull s (λ (S : List ℕ) (p : ℕ). misc_end S at ≡ Err (Long p))
 unfolding misc_end
 misc_completed s at lt e = by (eqb (get_or s (at + 1) 0) 0x3F) refl (rw (lt-ltb (at + 1) (length s) lt) at e)
   where
@@ -452,7 +452,7 @@ misc_completed s at lt e = by (eqb (get_or s (at + 1) 0) 0x3F) refl (rw (lt-ltb 
               rw (lt-ltb (at + 1) (length (s ++ (r.more ++ u))) b.0, b.1, q) (sym (same (s ++ (r.more ++ u))) ∙ r.done u);
         }
 
-    by : (t : Bool) → eqb (get_or s (at + 1) 0) 0x3F ≡ t → cond t (instruction_end s (at + 2)) (comment_end s (at + 2)) ≡ read.Stopped Cut → Rest misc_end s at 16 ⊎ Overfull s (λ (S : List ℕ) (p : ℕ). misc_end S at ≡ read.Stopped (Long p))
+    by : (t : Bool) → eqb (get_or s (at + 1) 0) 0x3F ≡ t → cond t (instruction_end s (at + 2)) (comment_end s (at + 2)) ≡ Err Cut → Rest misc_end s at 16 ⊎ Overfull s (λ (S : List ℕ) (p : ℕ). misc_end S at ≡ Err (Long p))
     by true q e =
         or_full (kept instruction_end true q (λ l. refl))
         (λ t p r. let b = byte_kept s t (at + 1) lt in rw (lt-ltb (at + 1) (length (s ++ t)) b.0, b.1, q) r)
@@ -460,7 +460,7 @@ misc_completed s at lt e = by (eqb (get_or s (at + 1) 0) 0x3F) refl (rw (lt-ltb 
     by false q e = inl (kept comment_end false q (λ l. refl) (ends_at comment_end (bytes "---->") 6 16 comment_end_ends (omega arith) (omega arith) s (at + 2) (omega arith) e))
 
 -- its < is the scene's last byte: <?a?>
-pub misc_begins : (s u : List ℕ) (at : ℕ) → at + 1 ≡ length s → misc_end (s ++ (bytes "?a?>" ++ u)) at ≡ read.End (length s + 4)
+pub misc_begins : (s u : List ℕ) (at : ℕ) → at + 1 ≡ length s → misc_end (s ++ (bytes "?a?>" ++ u)) at ≡ Ok (length s + 4)
 unfolding misc_end
 misc_begins s u at e =
     let w : List ℕ = 0x3F ∷ 0x61 ∷ 0x3F ∷ 0x3E ∷ u in
@@ -468,8 +468,8 @@ misc_begins s u at e =
     let b0 = byte_in s [] w 0 (at + 1) (omega arith) (omega arith) in
     let b1 = byte_in s [] w 1 (at + 2) (omega arith) (omega arith) in
     let b2 = byte_in s [] w 2 (at + 2 + 1) (omega arith) (omega arith) in
-    let part : part_end S (at + 2) ≡ read.End (at + 2 + 1) = letter_part S (at + 2) 0x3F b1 b2 no_question in
+    let part : part_end S (at + 2) ≡ Ok (at + 2 + 1) = letter_part S (at + 2) 0x3F b1 b2 no_question in
     let no : is_xml S (at + 2) (at + 2 + 1) ≡ false = xml_not S (at + 2) (at + 2 + 1) (λ f. omega arith) in
-    let ends : behind_target S (at + 2 + 1) ≡ read.End (at + 2 + 1 + 2) = fresh_behind behind_target closing target_ends.fresh s (0x3F ∷ 0x61 ∷ []) u (at + 2 + 1) (omega arith) ∙ ap read.End (omega arith) in
+    let ends : behind_target S (at + 2 + 1) ≡ Ok (at + 2 + 1 + 2) = fresh_behind behind_target closing target_ends.fresh s (0x3F ∷ 0x61 ∷ []) u (at + 2 + 1) (omega arith) ∙ ap Ok (omega arith) in
     let last : at + 2 + 1 + 2 ≡ length s + 4 = omega arith in
-    rw (lt-ltb (at + 1) (length S) b0.0, b0.1) (instruction_closes S (at + 2) (at + 2 + 1) part no ends ∙ ap read.End last)
+    rw (lt-ltb (at + 1) (length S) b0.0, b0.1) (instruction_closes S (at + 2) (at + 2 + 1) part no ends ∙ ap Ok last)

@@ -1,5 +1,5 @@
 -- Demand 1: the stages of a step, in document 01's order; when a number is given; what a step changes. Definitions.
-use Rattle.std.specs.Prelude.{ℕ, ◌+◌, ◌-◌, ◌*◌, ◌≤◌, ◌<◌, ◌≡◌, List, ◌∷◌, ◌++◌, Bool, true, false, cond, not, ◌&&◌, ◌⊎◌, length, drop, get_or, eqb}
+use Rattle.std.specs.Prelude.{ℕ, ◌+◌, ◌-◌, ◌*◌, ◌≤◌, ◌<◌, ◌≡◌, List, ◌∷◌, ◌++◌, Bool, true, false, cond, not, ◌&&◌, ◌⊎◌, length, drop, get_or, eqb, Ok, Err}
 use Rattle.laws.specs.Over.{overwrite}
 use Rattle.laws.specs.Gather.{gather}
 use Rattle.table.specs.Table.{Table, decode, standard}
@@ -8,7 +8,7 @@ use Rattle.utf8.specs.Utf8.{utf8}
 use Rattle.lexer.specs.Values.{closes}
 use Rattle.lexer.specs.Misc.{is_xml}
 use Rattle.lexer.specs.Begins.{begin_at}
-use Rattle.lexer.specs.declared.Begin.{Begin}
+use Rattle.lexer.specs.Reads.{BeginRead}
 use Rattle.lexer.specs.declared.Begin.TheVariants as begin
 use Rattle.reader.specs.Events as scene
 use Rattle.model.specs.Theory.{Record}
@@ -115,12 +115,12 @@ NoRoom table s z out p =
     × ((rs : List (Record Body ℕ)) × (z'' : Session) × (plan_of (decode table) s z ≡ event p rs z'') × (length out < 16 * length rs))
 
 -- what the reader reads next is a text
-abbrev pub is_text : Begin → Bool
-is_text (begin.Start at) = false
-is_text (begin.End at) = false
-is_text (begin.Text at) = true
-is_text begin.Finished = false
-is_text (begin.Stopped x) = false
+abbrev pub is_text : BeginRead → Bool
+is_text (Ok (begin.Start at)) = false
+is_text (Ok (begin.End at)) = false
+is_text (Ok (begin.Text at)) = true
+is_text (Ok begin.Finished) = false
+is_text (Err x) = false
 
 abbrev pub reads_text : List ℕ → scene.ReaderState → Bool
 reads_text s z = is_text (begin_at s z.place (not (scene.is_nil z.opened)) z.closed)

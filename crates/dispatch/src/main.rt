@@ -4,31 +4,39 @@
 ghost use Rattle.std.specs.Prelude.{◌≤◌, length};
 
 use dispatcher::Session;
-use printing::Loaded;
 use printing::files::read_file;
 use printing::lines::{print_answer, print_records};
 use std::io;
 use std::rt::Files;
+use table::Answer;
 
-// Steps from a fresh session until a number is not 0. Each event reads a byte or ends an awaited end, so that many steps suffice.
-fn dispatch_scene(rt: &impl Print, table: &[u8], scene: &[u8], out: &mut [u8]) -> io::Result<()>
+// Steps from a fresh session until a number is not 0, and prints the records. Each event reads a byte or ends an awaited end, so that many steps suffice.
+fn dispatch_scene(rt: &impl Print, table: &[u8], scene: &[u8], out: &mut [u8]) -> io::Result<Answer>
     requires { (length scene.now ≤ 65536) × (length out.old ≤ 65536) }
 {
+    let steps = 2 * scene.len() + 2;
     let mut session = Session::fresh();
-    let mut records: usize = 0;
-    let mut events: usize = 0;
-    while events < 2 * scene.len() + 2 {
+    let mut records = 0;
+    for events in 0..steps {
         let stepped = session.step(table, scene, out);
         let answer = stepped.answer;
         if answer.number != 0 {
-            return print_answer(rt, answer.number, answer.place, events, records);
+            return Ok(Answer {
+                events,
+                records,
+                ..answer
+            });
         }
         print_records(rt, out, answer.records)?;
-        events += 1;
         records += answer.records;
         session = stepped.session;
     }
-    print_answer(rt, 0, session.place, events, records)
+    Ok(Answer {
+        number: 0,
+        place: session.place,
+        events: steps,
+        records,
+    })
 }
 
 // Both files are read before a line is printed.
@@ -40,15 +48,13 @@ fn dispatch_files(
 ) -> io::Result<()>
     requires { (length scene.old ≤ 65536) × (length out.old ≤ 65536) }
 {
-    let rules_read = read_file(rt, b"rules.bin", table);
-    let scene_read = read_file(rt, b"scene.xml", scene);
-    let Loaded::Bytes(n) = rules_read else {
+    let rules_read = read_file(rt, "rules.bin", table);
+    let scene_read = read_file(rt, "scene.xml", scene);
+    let (Some(rules), Some(scene)) = (rules_read, scene_read) else {
         return Ok(());
     };
-    let Loaded::Bytes(m) = scene_read else {
-        return Ok(());
-    };
-    dispatch_scene(rt, &table[..n], &scene[..m], out)
+    let answer = dispatch_scene(rt, rules, scene, out)?;
+    print_answer(rt, answer)
 }
 
 fn main(rt: HostRuntime) -> io::Result<()> {

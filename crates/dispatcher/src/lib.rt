@@ -199,7 +199,8 @@ fn steps_within(scene: &[u8]) -> usize
     ensures { (1 ≤ result) × (length scene.now ≤ 16777215 → result ≡ 2 * length scene.now + 2) }
 {
     if Session::LONGEST < scene.len() {
-        return 1;
+        1
+    } else {
+        2 * scene.len() + 2
     }
-    2 * scene.len() + 2
 }

@@ -6,6 +6,7 @@ use Prim.Native.Nat.{ℕ, suc, ◌+◌, ◌-◌, ◌*◌, ◌≤◌, ◌<◌}
 use mathlib.Core.Path.{◌≡◌, refl, sym, ap, ◌∙◌}
 use mathlib.Core.List.{List, [], ◌∷◌, ◌++◌, map, append-nil, append_assoc, map-append}
 use mathlib.Core.Logic.{⊎_elim}
+use Rattle.std.specs.Prelude.{Option, Some, None}
 use native.Mathlib.Nat.{add-zero, zero-add}
 use native.Mathlib.Omega.{arith}
 use borrow.Author.Tests.{le-leb, lt-leb}
@@ -23,23 +24,26 @@ use Rattle.strands.specs.Packed.{strand_in, packed, words_at}
 use Rattle.strands.specs.Rules.{rules_in}
 use Rattle.strands.specs.Entries.{made_by, entries_by, entries_from, stay_entry, counted, strand_word, schema_word}
 
-pub counted_in : (n : ℕ) → n ≤ 16 → counted n ≡ n
+pub counted_in : (n : ℕ) → n ≤ 16 → counted n ≡ Some n
 counted_in n h = rw (le-leb n 16 h)
 
-pub counted_past : (n : ℕ) → 16 < n → counted n ≡ 17
+pub counted_past : (n : ℕ) → 16 < n → counted n ≡ None
 counted_past n h = rw (lt-leb n 16 h)
 
-pub counted_few : (n r : ℕ) → r ≡ counted n → r ≤ 16 → (n ≤ 16) × (r ≡ n)
-counted_few n r e h =
+pub counted_some : (n r : ℕ) → Some r ≡ counted n → (n ≤ 16) × (r ≡ n)
+counted_some n r e =
     ⊎_elim
-    (λ (k : n ≤ 16). (k, e ∙ counted_in n k))
-    (λ k. let z : r ≡ 17 = e ∙ counted_past n k in absurd (omega arith))
+    (λ (k : n ≤ 16). let p : Some r ≡ Some n = e ∙ counted_in n k in (k, cc))
+    (λ k. let p : Some r ≡ None = e ∙ counted_past n k in cc)
     (le_or_lt n 16)
 
-pub counted_many : (n r : ℕ) → r ≡ counted n → 16 < r → 16 < n
-counted_many n r e h =
+pub counted_few : (n r : ℕ) → Some r ≡ counted n → r ≤ 16
+counted_few n r e = let p = counted_some n r e in omega arith
+
+pub counted_none : (n : ℕ) → None ≡ counted n → 16 < n
+counted_none n e =
     ⊎_elim
-    (λ (k : n ≤ 16). let z : r ≡ n = e ∙ counted_in n k in omega arith)
+    (λ (k : n ≤ 16). let p : None ≡ Some n = e ∙ counted_in n k in cc)
     (λ k. k)
     (le_or_lt n 16)
 
@@ -52,7 +56,7 @@ pub record Laying (es : List Entry) (words₀ schemas₀ : List ℕ) (n : ℕ) (
   pub schemas_are : schemas ≡ overwrite schemas₀ n (map schema_word done)
 
 -- what a function that lays them ends with
-pub record Ended (es : List Entry) (words₀ schemas₀ : List ℕ) (n : ℕ) (words schemas : List ℕ) (r : ℕ) : Type 0 where
+pub record Ended (es : List Entry) (words₀ schemas₀ : List ℕ) (n : ℕ) (words schemas : List ℕ) (r : Option ℕ) : Type 0 where
   pub number : r ≡ counted (n + length es)
   pub strands : n + length es ≤ 16 → words ≡ overwrite words₀ n (map strand_word es)
   pub marks : n + length es ≤ 16 → schemas ≡ overwrite schemas₀ n (map schema_word es)
@@ -98,9 +102,9 @@ module _ (es : List Entry) (words₀ schemas₀ : List ℕ) (n : ℕ) where
 
     -- the next ones are laid by another function
     pub laying_more : (part rest' : List Entry) → rest ≡ part ++ rest' → n ≤ length words₀ → n ≤ length schemas₀ → (words' schemas' : List ℕ) (r : ℕ)
-        → Ended part words schemas k words' schemas' r → r ≤ 16 → Laying es words₀ schemas₀ n words' schemas' r rest'
-    laying_more part rest' d hw hs words' schemas' r z h =
-        let f = counted_few (k + length part) r z.number h in
+        → Ended part words schemas k words' schemas' (Some r) → Laying es words₀ schemas₀ n words' schemas' r rest'
+    laying_more part rest' d hw hs words' schemas' r z =
+        let f = counted_some (k + length part) r z.number in
         record {
           done = y.done ++ part;
           split = append_assoc y.done part rest' ∙ ap (λ (r : List Entry). y.done ++ r) (sym d) ∙ y.split;
@@ -110,26 +114,26 @@ module _ (es : List Entry) (words₀ schemas₀ : List ℕ) (n : ℕ) where
         }
 
     -- more than sixteen
-    past : 16 < n + length es → Ended es words₀ schemas₀ n words schemas 17
+    past : 16 < n + length es → Ended es words₀ schemas₀ n words schemas None
     past h = record { number = sym (counted_past (n + length es) h); strands = λ k. absurd (omega arith); marks = λ k. absurd (omega arith) }
 
-    pub laying_full : (e : Entry) (rest' : List Entry) → rest ≡ e ∷ rest' → 16 ≤ k → Ended es words₀ schemas₀ n words schemas 17
+    pub laying_full : (e : Entry) (rest' : List Entry) → rest ≡ e ∷ rest' → 16 ≤ k → Ended es words₀ schemas₀ n words schemas None
     laying_full e rest' d h = past (omega (arith, total_length, ap length d))
 
-    pub laying_over : (part rest' : List Entry) → rest ≡ part ++ rest' → (words' schemas' : List ℕ) (r : ℕ) → Ended part words schemas k words' schemas' r → 16 < r
-        → Ended es words₀ schemas₀ n words' schemas' 17
-    laying_over part rest' d words' schemas' r z h =
-        let m = counted_many (k + length part) r z.number h in
+    pub laying_over : (part rest' : List Entry) → rest ≡ part ++ rest' → (words' schemas' : List ℕ) → Ended part words schemas k words' schemas' None
+        → Ended es words₀ schemas₀ n words' schemas' None
+    laying_over part rest' d words' schemas' z =
+        let m = counted_none (k + length part) z.number in
         let g : 16 < n + length es = omega (arith, total_length, ap length d, length-append part rest', m) in
         record { number = sym (counted_past (n + length es) g); strands = λ q. absurd (omega arith); marks = λ q. absurd (omega arith) }
 
     -- none is left
-    pub laying_end : rest ≡ [] → k ≤ 16 → Ended es words₀ schemas₀ n words schemas k
+    pub laying_end : rest ≡ [] → k ≤ 16 → Ended es words₀ schemas₀ n words schemas (Some k)
     laying_end d h =
         let all : y.done ≡ es = sym (append-nil y.done) ∙ ap (λ (r : List Entry). y.done ++ r) (sym d) ∙ y.split in
         let t : k ≡ n + length es = omega (arith, total_length, ap length d) in
         record {
-          number = t ∙ sym (counted_in (n + length es) (omega arith));
+          number = ap Some t ∙ sym (counted_in (n + length es) (omega arith));
           strands = λ q. y.words_are ∙ ap (λ (l : List Entry). overwrite words₀ n (map strand_word l)) all;
           marks = λ q. y.schemas_are ∙ ap (λ (l : List Entry). overwrite schemas₀ n (map schema_word l)) all;
         }
@@ -186,7 +190,7 @@ module _ (strands : List ℕ) (level n : ℕ) (words₀ schemas₀ words schemas
     pub stay_end : n ≤ j → j ≤ 16 → (words ≡ overwrite words₀ 0 (map strand_word (map stay_entry (words_at strands level n)))) × (schemas ≡ overwrite schemas₀ 0 (map schema_word (map stay_entry (words_at strands level n))))
     stay_end h f =
         let z = laying_end (map stay_entry (words_at strands level n)) words₀ schemas₀ 0 words schemas j (map stay_entry (row_from strands level n j)) y (ap (map stay_entry) (row_end strands level n j h)) f in
-        let g = counted_few (0 + length (map stay_entry (words_at strands level n))) j z.number f in
+        let g = counted_some (0 + length (map stay_entry (words_at strands level n))) j z.number in
         (z.strands g.0, z.marks g.0)
 
   pub stay_start : Laying (map stay_entry (words_at strands level n)) words₀ schemas₀ 0 words₀ schemas₀ 0 (map stay_entry (row_from strands level n 0))
@@ -201,31 +205,31 @@ module _ (strands : List ℕ) (level n : ℕ) (words₀ schemas₀ words schemas
       abbrev es : List Entry
       es = entries_from index class (words_at strands level n)
 
-      abbrev Answer : List ℕ → List ℕ → ℕ → Type 0
+      abbrev Answer : List ℕ → List ℕ → Option ℕ → Type 0
       Answer words' schemas' r =
           (r ≡ counted (length es)) × (length es ≤ 16 → words' ≡ overwrite words₀ 0 (map strand_word es)) × (length es ≤ 16 → schemas' ≡ overwrite schemas₀ 0 (map schema_word es))
 
-      answer : (words' schemas' : List ℕ) (r : ℕ) → Ended es words₀ schemas₀ 0 words' schemas' r → Answer words' schemas' r
+      answer : (words' schemas' : List ℕ) (r : Option ℕ) → Ended es words₀ schemas₀ 0 words' schemas' r → Answer words' schemas' r
       answer words' schemas' r z = (z.number ∙ ap counted (zero-add (length es)), λ h. z.strands (omega arith), λ h. z.marks (omega arith))
 
-      module _ (h : j < n) (w : ℕ) (ew : w ≡ get_or strands (16 * level + j) 0) (words' schemas' : List ℕ) (r : ℕ) (z : Ended (entries_by index class (strand_in w)) words schemas k words' schemas' r) where
+      module _ (h : j < n) (w : ℕ) (ew : w ≡ get_or strands (16 * level + j) 0) (words' schemas' : List ℕ) where
         next : entries_from index class (row_from strands level n j) ≡ entries_by index class (strand_in w) ++ entries_from index class (row_from strands level n (j + 1))
         unfolding gather
         next =
             ap (entries_from index class) (row_here strands level n j h)
             ∙ ap (λ (x : ℕ). entries_by index class (strand_in x) ++ entries_from index class (row_from strands level n (j + 1))) (sym ew)
 
-        pub take_more : r ≤ 16 → Laying (entries_from index class (words_at strands level n)) words₀ schemas₀ 0 words' schemas' r (entries_from index class (row_from strands level n (j + 1)))
-        take_more f =
-            laying_more es words₀ schemas₀ 0 words schemas k (entries_from index class (row_from strands level n j)) y (entries_by index class (strand_in w)) (entries_from index class (row_from strands level n (j + 1))) next (omega arith) (omega arith) words' schemas' r z f
+        pub take_more : (r : ℕ) → Ended (entries_by index class (strand_in w)) words schemas k words' schemas' (Some r) → Laying (entries_from index class (words_at strands level n)) words₀ schemas₀ 0 words' schemas' r (entries_from index class (row_from strands level n (j + 1)))
+        take_more r z =
+            laying_more es words₀ schemas₀ 0 words schemas k (entries_from index class (row_from strands level n j)) y (entries_by index class (strand_in w)) (entries_from index class (row_from strands level n (j + 1))) next (omega arith) (omega arith) words' schemas' r z
 
-        pub take_over : 16 < r → Answer words' schemas' 17
-        take_over f =
-            answer words' schemas' 17
-            (laying_over es words₀ schemas₀ 0 words schemas k (entries_from index class (row_from strands level n j)) y (entries_by index class (strand_in w)) (entries_from index class (row_from strands level n (j + 1))) next words' schemas' r z f)
+        pub take_over : Ended (entries_by index class (strand_in w)) words schemas k words' schemas' None → Answer words' schemas' None
+        take_over z =
+            answer words' schemas' None
+            (laying_over es words₀ schemas₀ 0 words schemas k (entries_from index class (row_from strands level n j)) y (entries_by index class (strand_in w)) (entries_from index class (row_from strands level n (j + 1))) next words' schemas' z)
 
-      pub take_end : n ≤ j → k ≤ 16 → Answer words schemas k
+      pub take_end : n ≤ j → k ≤ 16 → Answer words schemas (Some k)
       unfolding gather
       take_end h f =
-          answer words schemas k
+          answer words schemas (Some k)
           (laying_end es words₀ schemas₀ 0 words schemas k (entries_from index class (row_from strands level n j)) y (ap (entries_from index class) (row_end strands level n j h)) f)

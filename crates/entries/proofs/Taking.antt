@@ -1,82 +1,103 @@
--- The strands that one makes at a new section, rule by rule: the start, the turn and the ways out of the loop.
+-- The strands that one makes at a new section, rule by rule: a rule, the turn and the ways out of the loop.
 use Prim.Native.Nat.{ℕ, ◌+◌, ◌≤◌, ◌<◌}
-use mathlib.Core.Path.{◌≡◌, refl, sym, ap, ◌∙◌}
-use mathlib.Core.List.{List, [], ◌∷◌, map}
+use mathlib.Core.Path.{◌≡◌, refl, sym, ap, subst, ◌∙◌}
+use mathlib.Core.List.{List, [], ◌∷◌, ◌++◌, map}
 use native.Mathlib.Omega.{arith}
-use lib.ListN.{length, get_or, set}
-use Rattle.table.specs.Table.{rule_of, standard, fallback}
-use Rattle.table.specs.Index.{next_rule, chosen_of}
+use Rattle.std.specs.Prelude.{Option, Some, None}
+use lib.ListN.{length, set, length-append, length-map}
+use Rattle.laws.specs.Over.{overwrite}
+use Rattle.laws.proofs.Over.{over_none}
+use Rattle.table.specs.Table.{standard, fallback}
 use Rattle.table.specs.declared.Rule.{Rule}
-use Rattle.table.specs.declared.Chosen.{Chosen}
 use Rattle.model.specs.Stream.{Entry}
 use Rattle.strands.specs.Packed.{strand_in, packed}
 use Rattle.strands.specs.Rules.{rules_in}
-use Rattle.strands.specs.Entries.{made_by, entries_by}
-use Rattle.strands.proofs.Ruled.{left, At, at_first, left_first, at_end, at_here, left_next}
-use Rattle.entries.proofs.Laying.{Laying, Ended, laying_start, laying_one, laying_full, laying_end, rules_none, rules_some}
+use Rattle.strands.specs.Entries.{made_by, entries_by, strand_word, schema_word}
+use Rattle.entries.proofs.Laying.{Laying, Ended, laying_start, laying_one, laying_more, laying_full, laying_over, laying_end, rules_none, rules_some}
 
--- a rule's next mode fits in five bits, and so does that of the fallback
-pub rule_next : (q : Rule) (w : ℕ) → q ≡ rule_of w → q.next < 32
-rule_next q w e = omega (arith, ap (λ (r : Rule). r.next) e)
-
+-- a rule of the fallback fits in five bits too
 pub fallback_next : (q : Rule) (mode : ℕ) → q ≡ fallback standard.element 0 mode → mode < 32 → q.next < 32
 fallback_next q mode e h = omega (arith, ap (λ (r : Rule). r.next) e)
 
--- where no rule fits
-module _ (w mode : ℕ) (words₀ schemas₀ : List ℕ) (n : ℕ) where
+-- one rule
+module _ (w : ℕ) (q : Rule) (words₀ schemas₀ : List ℕ) (n : ℕ) where
   abbrev one : Entry
-  one = made_by (strand_in w) (fallback standard.element 0 mode)
+  one = made_by (strand_in w) q
 
-  pub one_full : 16 ≤ n → Ended (one ∷ []) words₀ schemas₀ n words₀ schemas₀ 17
+  pub one_full : 16 ≤ n → Ended (one ∷ []) words₀ schemas₀ n words₀ schemas₀ None
   one_full h = laying_full (one ∷ []) words₀ schemas₀ n words₀ schemas₀ n (one ∷ []) (laying_start (one ∷ []) words₀ schemas₀ n) one [] refl h
 
-  pub one_laid : n < 16 → length words₀ ≡ 16 → length schemas₀ ≡ 16 → (q : Rule) → q ≡ fallback standard.element 0 mode → (v : ℕ) → v ≡ packed (made_by (strand_in w) q).strand
-      → Ended (one ∷ []) words₀ schemas₀ n (set words₀ n v) (set schemas₀ n q.schema) (n + 1)
-  one_laid h lw ls q e v ev =
-      laying_end (one ∷ []) words₀ schemas₀ n (set words₀ n v) (set schemas₀ n q.schema) (n + 1) []
-      (laying_one (one ∷ []) words₀ schemas₀ n words₀ schemas₀ n (one ∷ []) (laying_start (one ∷ []) words₀ schemas₀ n) one [] refl (omega arith) (omega arith) v q.schema (ev ∙ ap (λ (r : Rule). packed (made_by (strand_in w) r).strand) e) (ap (λ (r : Rule). r.schema) e))
+  pub one_laid : n < 16 → length words₀ ≡ 16 → length schemas₀ ≡ 16 → (v u : ℕ) → v ≡ packed one.strand → u ≡ q.schema
+      → Ended (one ∷ []) words₀ schemas₀ n (set words₀ n v) (set schemas₀ n u) (Some (n + 1))
+  one_laid h lw ls v u ev eu =
+      laying_end (one ∷ []) words₀ schemas₀ n (set words₀ n v) (set schemas₀ n u) (n + 1) []
+      (laying_one (one ∷ []) words₀ schemas₀ n words₀ schemas₀ n (one ∷ []) (laying_start (one ∷ []) words₀ schemas₀ n) one [] refl (omega arith) (omega arith) v u ev eu)
       refl
       (omega arith)
 
-module _ (index : List ℕ) (class w mode : ℕ) (em : mode ≡ (strand_in w).mode) (c : Chosen) where
+-- nothing laid leaves a list
+nothing_laid : (f : Entry → ℕ) (l : List ℕ) (n : ℕ) (done : List Entry) → length done ≡ 0 → overwrite l n (map f done) ≡ l
+nothing_laid f l n [] h = over_none l n
+nothing_laid f l n (e ∷ done) h = absurd (omega arith)
+
+module _ (index : List ℕ) (class w mode : ℕ) (em : mode ≡ (strand_in w).mode) where
   abbrev made : Rule → Entry
   made = made_by (strand_in w)
+
+  abbrev all : List Entry
+  all = map made (rules_in index mode 0 class)
 
   abbrev es : List Entry
   es = entries_by index class (strand_in w)
 
-  module _ (size : length index ≡ 256) (ec : c ≡ chosen_of index mode 0 class) where
-    all_left : left index c c.first ≡ rules_in index (strand_in w).mode 0 class
-    all_left = left_first index mode 0 class c size ec ∙ ap (λ (m : ℕ). rules_in index m 0 class) em
+  -- there are some, or none
+  some_made : 0 < length all → es ≡ all
+  some_made h = by (rules_in index mode 0 class) refl h
+    where
+      by : (rs : List Rule) → rs ≡ rules_in index mode 0 class → 0 < length (map made rs) → es ≡ all
+      by [] e k = absurd (omega arith)
+      by (q ∷ rs) e k =
+          rules_some index class (strand_in w) q rs (ap (λ (m : ℕ). rules_in index m 0 class) (sym em) ∙ sym e)
+          ∙ ap (λ (m : ℕ). map made (rules_in index m 0 class)) (sym em)
 
-    start_at_lem : At index c c.first
-    start_at_lem = at_first index mode 0 class c size ec
+  none_made : length all ≡ 0 → es ≡ made (fallback standard.element 0 mode) ∷ []
+  none_made h = by (rules_in index mode 0 class) refl h
+    where
+      by : (rs : List Rule) → rs ≡ rules_in index mode 0 class → length (map made rs) ≡ 0 → es ≡ made (fallback standard.element 0 mode) ∷ []
+      by [] e k =
+          rules_none index class (strand_in w) (ap (λ (m : ℕ). rules_in index m 0 class) (sym em) ∙ sym e)
+          ∙ ap (λ (m : ℕ). made (fallback standard.element 0 m) ∷ []) (sym em)
+      by (q ∷ rs) e k = absurd (omega arith)
 
-    -- there is none
-    only : c.end ≤ c.first → es ≡ made (fallback standard.element 0 mode) ∷ []
-    only h =
-        rules_none index class (strand_in w) (sym all_left ∙ at_end index c c.first start_at_lem h)
-        ∙ ap (λ (m : ℕ). made (fallback standard.element 0 m) ∷ []) (sym em)
+  module _ (words₀ schemas₀ : List ℕ) (n : ℕ) (words schemas : List ℕ) (k : ℕ) (left : List Rule) (y : Laying (map (made_by (strand_in w)) (rules_in index mode 0 class)) words₀ schemas₀ n words schemas k (map (made_by (strand_in w)) left)) where
+    long : length y.done + length left ≡ length all
+    long = omega (arith, ap length y.split, length-append y.done (map made left), length-map left made)
 
-    module _ (words₀ schemas₀ : List ℕ) (n : ℕ) where
-      pub none_taken : c.end ≤ c.first → (words schemas : List ℕ) (r : ℕ) → Ended (made (fallback standard.element 0 mode) ∷ []) words₀ schemas₀ n words schemas r → Ended es words₀ schemas₀ n words schemas r
-      none_taken h words schemas r z = rw (only h) z
+    -- a rule is laid, or is one too many
+    module _ (q : Rule) (rest : List Rule) (e : left ≡ q ∷ rest) (words' schemas' : List ℕ) where
+      next : map made left ≡ (made q ∷ []) ++ map made rest
+      next = ap (map made) e
 
-      -- there are some
-      pub some_start : c.first < c.end → Laying es words₀ schemas₀ n words₀ schemas₀ n (map made (left index c c.first))
-      some_start h =
-          let e = rules_some index class (strand_in w) (rule_of (get_or index c.first 0)) (left index c (c.first + 1)) (sym all_left ∙ start_at_lem.here h) in
-          rw (e ∙ ap (map made) (sym all_left)) (laying_start (map made (left index c c.first)) words₀ schemas₀ n)
+      pub rule_laid : (r : ℕ) → n ≤ length words₀ → n ≤ length schemas₀ → Ended (made_by (strand_in w) q ∷ []) words schemas k words' schemas' (Some r)
+          → Laying (map (made_by (strand_in w)) (rules_in index mode 0 class)) words₀ schemas₀ n words' schemas' r (map (made_by (strand_in w)) rest)
+      rule_laid r hw hs z = laying_more all words₀ schemas₀ n words schemas k (map made left) y (made q ∷ []) (map made rest) next hw hs words' schemas' r z
 
-  module _ (words₀ schemas₀ : List ℕ) (n : ℕ) (words schemas : List ℕ) (k i : ℕ) (y : Laying es words₀ schemas₀ n words schemas k (map made (left index c i))) (a : At index c i) where
-    pub some_full : i < c.end → 16 ≤ k → Ended es words₀ schemas₀ n words schemas 17
-    some_full h f = laying_full es words₀ schemas₀ n words schemas k (map made (left index c i)) y (made (rule_of (get_or index i 0))) (map made (left index c (i + 1))) (ap (map made) (a.here h)) f
+      pub rule_over : Ended (made_by (strand_in w) q ∷ []) words schemas k words' schemas' None → Ended (entries_by index class (strand_in w)) words₀ schemas₀ n words' schemas' None
+      rule_over z = rw (some_made (omega (arith, long, ap (length {A = Rule}) e))) (laying_over all words₀ schemas₀ n words schemas k (map made left) y (made q ∷ []) (map made rest) next words' schemas' z)
 
-    pub some_end : c.end ≤ i → k ≤ 16 → Ended es words₀ schemas₀ n words schemas k
-    some_end h f = laying_end es words₀ schemas₀ n words schemas k (map made (left index c i)) y (ap (map made) (at_end index c i a h)) f
+    -- all are laid, or there were none
+    pub rules_laid : left ≡ [] → k ≤ 16 → (k ≡ n → ⊥) → Ended (entries_by index class (strand_in w)) words₀ schemas₀ n words schemas (Some k)
+    rules_laid e few some =
+        rw (some_made (omega (arith, long, y.count, some))) (laying_end all words₀ schemas₀ n words schemas k (map made left) y (ap (map made) e) few)
 
-    pub some_one : i < c.end → k < 16 → length words₀ ≡ 16 → length schemas₀ ≡ 16 → (q : Rule) → q ≡ rule_of (get_or index i 0) → (v : ℕ) → v ≡ packed (made_by (strand_in w) q).strand
-        → (j : ℕ) → j ≡ next_rule index (i + 1) c.end c.key → Laying es words₀ schemas₀ n (set words k v) (set schemas k q.schema) (k + 1) (map made (left index c j))
-    some_one h f lw ls q e v ev j ej =
-        rw (left_next index c i j a h ej)
-        (laying_one es words₀ schemas₀ n words schemas k (map made (left index c i)) y (made q) (map made (left index c (i + 1))) (ap (map made) (at_here index c i q a h e)) (omega arith) (omega arith) v q.schema ev refl)
+    pub fallback_laid : left ≡ [] → k ≡ n → (q : Rule) → q ≡ fallback standard.element 0 mode → (words' schemas' : List ℕ) (r : Option ℕ) → Ended (made_by (strand_in w) q ∷ []) words schemas k words' schemas' r
+        → Ended (entries_by index class (strand_in w)) words₀ schemas₀ n words' schemas' r
+    fallback_laid e same q eq words' schemas' r z =
+        let none : length y.done ≡ 0 = omega (arith, y.count, same) in
+        let ew : words ≡ words₀ = y.words_are ∙ nothing_laid strand_word words₀ n y.done none in
+        let ec : schemas ≡ schemas₀ = y.schemas_are ∙ nothing_laid schema_word schemas₀ n y.done none in
+        let es_are : made q ∷ [] ≡ es = ap (λ (x : Rule). made x ∷ []) eq ∙ sym (none_made (omega (arith, long, none, ap (length {A = Rule}) e))) in
+        subst (λ (l : List Entry). Ended l words₀ schemas₀ n words' schemas' r) es_are
+        (subst (λ (x : List ℕ). Ended (made q ∷ []) x schemas₀ n words' schemas' r) ew
+        (subst (λ (x : List ℕ). Ended (made q ∷ []) words x n words' schemas' r) ec
+        (subst (λ (x : ℕ). Ended (made q ∷ []) words schemas x words' schemas' r) same z)))

@@ -1,6 +1,5 @@
--- The units that open at an element, counted and numbered strand by strand.
+-- The units that open at an element, numbered strand by strand.
 --     here_back               a packed strand says whether its unit opens here
---     here_yes, here_no       a turn of the loop that counts
 --     Numbering, numbering-*  the loop that numbers: its start, its turns and its end
 use Prim.Native.Nat.{ℕ, suc, ◌+◌, ◌*◌, ◌/◌, ◌%◌, ◌^◌, ◌≤◌, ◌<◌}
 use mathlib.Core.Path.{◌≡◌, refl, sym, ap, ◌∙◌}
@@ -11,13 +10,13 @@ use native.Mathlib.Nat.{add-zero}
 use native.Mathlib.Numerals.{add-one}
 use native.Mathlib.Omega.{arith}
 use lib.Dec.{eqb}
-use lib.ListN.{length, get_or, set, take, drop, length-append, length-map, length-set}
+use lib.ListN.{length, get_or, set, take, drop, drop_of_length-le, length-append, length-map, length-set}
+use Rattle.std.proofs.lemmas.List.{length-take}
 use lib.Seq.{slice, slice_empty, append_snoc, set-get_or, drop-set-lt, get_or-drop, drop-drop}
 use Rattle.laws.specs.Gather.{total}
 use Rattle.laws.specs.Members.{All}
 use Rattle.laws.specs.Over.{overwrite}
 use Rattle.laws.specs.Reading.{slice_here}
-use Rattle.laws.proofs.Gather.{total_more}
 use Rattle.laws.proofs.Over.{over_none, over_set}
 use Rattle.table.specs.declared.Action.{Action}
 use Rattle.table.specs.declared.Action.TheVariants.{Attach, Unwrap, Validate}
@@ -40,20 +39,6 @@ here_bit mode action true (some u) m a = let e : (mode + action * 2 ^ 5 + 2 ^ 7 
 pub here_back : (r : HeldStrand ℕ) → r.mode < 32 → (strand_in (packed r)).here ≡ r.here
 unfolding strand_in packed
 here_back r m = here_bit r.mode (action_number r.action) r.here r.target m (action_few r.action)
-
--- ---- the count
-abbrev pub opens_here : ℕ → ℕ
-opens_here w = cond (strand_in w).here 1 0
-
-module _ (words : List ℕ) (j k : ℕ) (e : k ≡ here_count (take j words)) (h : j < length words) (b : Bool) (d : b ≡ (strand_in (get_or words j 0)).here) where
-  more : here_count (take (j + 1) words) ≡ k + cond b 1 0
-  more = total_more opens_here words j 0 h ∙ ap (λ (n : ℕ). n + opens_here (get_or words j 0)) (sym e) ∙ ap (λ (t : Bool). k + cond t 1 0) (sym d)
-
-  pub here_yes : b ≡ true → k + 1 ≡ here_count (take (j + 1) words)
-  here_yes t = sym (more ∙ ap (λ (z : Bool). k + cond z 1 0) t)
-
-  pub here_no : b ≡ false → k ≡ here_count (take (j + 1) words)
-  here_no t = sym (more ∙ ap (λ (z : Bool). k + cond z 1 0) t ∙ add-zero k)
 
 -- ---- the numbers
 pub allot_yes : (u : ℕ) (e : Entry) (es : List Entry) → e.strand.here ≡ true → allot u (e ∷ es) ≡ record { strand = aimed_at e.strand u; schema = e.schema } ∷ allot (u + 1) es
@@ -79,15 +64,15 @@ pub record Numbered (all₀ : List ℕ) (n unit : ℕ) (es : List Entry) (all : 
   pub all_are : all ≡ overwrite all₀ 0 (map strand_word done)
 
 pub record Numbering (all₀ : List ℕ) (n unit : ℕ) (all : List ℕ) (u j : ℕ) : Type 0 where
-  pub size₀ : length all₀ ≡ 16
-  pub size : length all ≡ 16
+  pub size₀ : length all₀ ≡ n
+  pub size : length all ≡ n
   pub few : n ≤ 16
   pub inside : j ≤ n
   pub bound : u + here_count (slice j n all₀) ≤ 65536
   pub behind : drop j all ≡ drop j all₀
   pub numbered : (es : List Entry) → length es ≡ n → take n all₀ ≡ map strand_word es → All Unnumbered es → Numbered all₀ n unit es all u j
 
-pub numbering_start : (all₀ : List ℕ) (n unit : ℕ) → length all₀ ≡ 16 → n ≤ 16 → unit + here_count (take n all₀) ≤ 65536 → Numbering all₀ n unit all₀ unit 0
+pub numbering_start : (all₀ : List ℕ) (n unit : ℕ) → length all₀ ≡ n → n ≤ 16 → unit + here_count (take n all₀) ≤ 65536 → Numbering all₀ n unit all₀ unit 0
 numbering_start all₀ n unit s f b =
     record {
       size₀ = s;
@@ -226,5 +211,14 @@ module _ (all₀ : List ℕ) (n unit : ℕ) (all : List ℕ) (u j : ℕ) (y : Nu
 
 -- where the ways of a turn meet
 pub numbering_same : (all₀ : List ℕ) (n unit : ℕ) (all all' : List ℕ) (u u' j : ℕ) → all' ≡ all → u' ≡ u → Numbering all₀ n unit all u j
-    → (u' ≤ 65536) × (length all' ≡ 16) × Numbering all₀ n unit all' u' j
+    → (u' ≤ 65536) × (length all' ≡ n) × Numbering all₀ n unit all' u' j
 numbering_same all₀ n unit all all' u u' j ea eu y = rw (ea, eu) (omega (arith, y.bound), y.size, y)
+
+-- the strands numbered, and those behind them as they were
+pub part_numbered : (words part xs : List ℕ) (n : ℕ) → length xs ≡ n → n ≤ length words → part ≡ overwrite (take n words) 0 xs → part ++ drop n words ≡ overwrite words 0 xs
+unfolding overwrite
+part_numbered words part xs n l h e =
+    let m : 0 + length xs ≡ n = omega arith in
+    let none : drop (0 + length xs) (take n words) ≡ [] = drop_of_length-le (take n words) {i = 0 + length xs} (omega (arith, length-take n words)) in
+    let same : part ≡ xs = e ∙ ap (λ (z : List ℕ). xs ++ z) none ∙ append-nil xs in
+    ap (λ (z : List ℕ). z ++ drop n words) same ∙ ap (λ (i : ℕ). xs ++ drop i words) (sym m)

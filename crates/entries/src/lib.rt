@@ -10,11 +10,10 @@ ghost use Rattle.strands.specs.Packed.{strand_in, words_at};
 ghost use Rattle.strands.specs.Levels.{level_strands};
 ghost use Rattle.strands.specs.Entries.{made_by, entries_by, entries_from, stay_entry, counted, strand_word, schema_word, here_count, Unnumbered};
 
-use index::{choose, next_rule};
 use strands::LEVELS;
 use strands::levels::strand_at;
 use strands::packed::{aimed, is_here, made_by, mode_of, stay_of};
-use table::words::rule_of;
+use strands::rules::rules_in;
 use table::{Action, Rule};
 
 // The schema of reject.
@@ -34,32 +33,29 @@ fn fallback_of(mode: u8) -> Rule
     }
 }
 
-// The strand that one makes where no rule fits, put behind n others; how many there are then, 17 for more than 16.
-fn take_fallback(
+// The strand that a rule makes of one, put behind n others; how many there are then, none for more than 16.
+fn take_rule(
     w: u32,
-    mode: u8,
+    rule: Rule,
     words: &mut [u32; 16],
     schemas: &mut [u32; 16],
     n: usize,
-) -> usize
-    requires { (n ≤ 16) × (mode < 32) }
-    ensures { let es = made_by (strand_in w) (fallback standard.element 0 mode) ∷ [] in
+) -> Option<usize>
+    requires { (n ≤ 16) × (rule.next < 32) }
+    ensures { let es = made_by (strand_in w) rule ∷ [] in
         (result ≡ counted (n + length es))
         × (n + length es ≤ 16 → words.new ≡ overwrite words.old n (map strand_word es))
         × (n + length es ≤ 16 → schemas.new ≡ overwrite schemas.old n (map schema_word es)) }
 {
     if 16 <= n {
-        return 17;
+        return None;
     }
-    let strand_words: &mut [u32] = words;
-    let schema_words: &mut [u32] = schemas;
-    let rule = fallback_of(mode);
-    strand_words[n] = made_by(w, rule);
-    schema_words[n] = rule.schema as u32;
-    n + 1
+    words[n] = made_by(w, rule);
+    schemas[n] = u32::from(rule.schema);
+    Some(n + 1)
 }
 
-// The strands that one makes at a new section of this class, put behind n others; how many there are then, 17 for more than 16.
+// The strands that one makes at a new section of this class, put behind n others; how many there are then, none for more than 16.
 pub fn take_rules(
     index: &[u32; 256],
     w: u32,
@@ -67,7 +63,7 @@ pub fn take_rules(
     words: &mut [u32; 16],
     schemas: &mut [u32; 16],
     n: usize,
-) -> usize
+) -> Option<usize>
     requires { n ≤ 16 }
     ensures { let es = entries_by index.now class (strand_in w) in
         (result ≡ counted (n + length es))
@@ -75,29 +71,17 @@ pub fn take_rules(
         × (n + length es ≤ 16 → schemas.new ≡ overwrite schemas.old n (map schema_word es)) }
 {
     let mode = mode_of(w);
-    let c = choose(index, mode, 0, class);
-    let rules: &[u32] = index;
-    let mut i = c.first;
-    if c.end <= i {
-        return take_fallback(w, mode, words, schemas, n);
-    }
-    let strand_words: &mut [u32] = words;
-    let schema_words: &mut [u32] = schemas;
     let mut k = n;
-    while i < c.end {
-        if 16 <= k {
-            return 17;
-        }
-        let rule = rule_of(rules[i]);
-        strand_words[k] = made_by(w, rule);
-        schema_words[k] = rule.schema as u32;
-        k += 1;
-        i = next_rule(index, i + 1, c.end, c.key);
+    for rule in rules_in(index, mode, 0, class) {
+        k = take_rule(w, rule, words, schemas, k)?;
     }
-    k
+    if k == n {
+        return take_rule(w, fallback_of(mode), words, schemas, k);
+    }
+    Some(k)
 }
 
-// The strands of a new section below a level of n strands; how many, 17 for more than 16.
+// The strands of a new section below a level of n strands; how many, none for more than 16.
 pub fn take_all(
     index: &[u32; 256],
     levels: &[u32; LEVELS],
@@ -106,7 +90,7 @@ pub fn take_all(
     class: u8,
     words: &mut [u32; 16],
     schemas: &mut [u32; 16],
-) -> usize
+) -> Option<usize>
     requires { (level < 64) × (n ≤ 16) }
     ensures { let es = entries_from index.now class (words_at (level_strands levels.now) level n) in
         (result ≡ counted (length es))
@@ -114,17 +98,11 @@ pub fn take_all(
         × (length es ≤ 16 → schemas.new ≡ overwrite schemas.old 0 (map schema_word es)) }
 {
     let mut k = 0;
-    let mut j = 0;
-    while j < n {
+    for j in 0..n {
         let w = strand_at(levels, level, j);
-        let more = take_rules(index, w, class, words, schemas, k);
-        if 16 < more {
-            return 17;
-        }
-        k = more;
-        j += 1;
+        k = take_rules(index, w, class, words, schemas, k)?;
     }
-    k
+    Some(k)
 }
 
 // Inside a section the n strands of the level stay.
@@ -140,13 +118,9 @@ pub fn stay_all(
         (words.new ≡ overwrite words.old 0 (map strand_word es))
         × (schemas.new ≡ overwrite schemas.old 0 (map schema_word es)) }
 {
-    let strand_words: &mut [u32] = words;
-    let schema_words: &mut [u32] = schemas;
-    let mut j = 0;
-    while j < n {
-        strand_words[j] = stay_of(strand_at(levels, level, j));
-        schema_words[j] = 0;
-        j += 1;
+    for j in 0..n {
+        words[j] = stay_of(strand_at(levels, level, j));
+        schemas[j] = 0;
     }
 }
 
@@ -155,16 +129,7 @@ pub fn new_units(words: &[u32; 16], n: usize) -> usize
     requires { n ≤ 16 }
     ensures { (result ≡ here_count (take n words.now)) × (result ≤ 16) }
 {
-    let all: &[u32] = words;
-    let mut k = 0;
-    let mut j = 0;
-    while j < n {
-        if is_here(all[j]) {
-            k += 1;
-        }
-        j += 1;
-    }
-    k
+    words[..n].iter().filter(|w| is_here(**w)).count()
 }
 
 // The units that open here get the numbers from `unit` on, in strand order.
@@ -172,15 +137,11 @@ pub fn number_units(words: &mut [u32; 16], n: usize, unit: usize)
     requires { (n ≤ 16) × (unit + here_count (take n words.old) ≤ 65536) }
     ensures { (es : List Entry) → length es ≡ n → take n words.old ≡ map strand_word es → All Unnumbered es → words.new ≡ overwrite words.old 0 (map strand_word (allot unit es)) }
 {
-    let all: &mut [u32] = words;
     let mut u = unit;
-    let mut j = 0;
-    while j < n {
-        let w = all[j];
-        if is_here(w) {
-            all[j] = aimed(w, u);
+    for w in &mut words[..n] {
+        if is_here(*w) {
+            *w = aimed(*w, u);
             u += 1;
         }
-        j += 1;
     }
 }

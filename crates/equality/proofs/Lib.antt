@@ -2,3 +2,4 @@ pub mod Chain
 pub mod Each
 pub mod Turns
 pub mod Sameness
+pub mod Bound

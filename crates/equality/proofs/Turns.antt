@@ -1,8 +1,8 @@
 -- The turns and ends of the code.
 --     strand_said                              two strands of numbers
---     strands-*                                the loop over the strands of a level
+--     strands_unlike                           levels of which one has more strands
 --     within_start, -done, -out, -on           the loop that looks how many strands each level has
---     level_few, within_levels                 what it says of a level, and of all
+--     level_few, within_levels, within_bound   what it says of a level, of all, and of the bindings
 --     words_part                               the numbers of a level's strands, as the code takes them out of the array
 --     level-*                                  two levels, test by test
 use Prim.Native.Nat.{ℕ, zero, suc, ◌+◌, ◌-◌, ◌*◌, ◌/◌, ◌%◌, ◌≤◌, ◌<◌}
@@ -16,7 +16,7 @@ use native.Mathlib.Nat.{add-zero, sub-zero, zero-add}
 use borrow.Author.Tests.{ne_eqb, le-ltb, lt-ltb, le-leb, lt-leb, leb-true}
 use lib.ListN.{length, get_or, take, drop, length-map}
 use lib.Dec.{leb, ltb, eqb}
-use Rattle.laws.specs.Reading.{le_or_lt, drop_here, drop_out}
+use Rattle.laws.specs.Reading.{le_or_lt}
 use Rattle.laws.specs.Lists.{all, tabulate}
 use Rattle.laws.specs.Tests.{untold'}
 use Rattle.laws.proofs.Flags.{eqb_same, and_left, and_right}
@@ -31,7 +31,7 @@ use Rattle.strands.proofs.LevelNumbers.{strand_part}
 use Rattle.equality.specs.Same.{same_flag, same_each, same_span, same_target, same_strand, HeldLevel, same_level, held_level}
 use Rattle.equality.specs.Checks.{within_arrays}
 use Rattle.equality.proofs.Chain.{chain_out, chain_on, chain_unlike, chain_alike}
-use Rattle.equality.proofs.Each.{each_unlike, each_out, each_on}
+use Rattle.equality.proofs.Each.{each_unlike}
 
 -- ---- two strands
 -- 2 and 3 are validate
@@ -84,24 +84,9 @@ strand_said a b =
     (here_said (a / 128 % 2) (b / 128 % 2) (omega arith) (omega arith))))
 
 -- ---- the strands of a level
-module _ (a b : List ℕ) where
-  pub strands_unlike : (length a ≡ length b → ⊥) → false ≡ same_each same_strand (map strand_in a) (map strand_in b)
-  strands_unlike h =
-      each_unlike same_strand (map strand_in a) (map strand_in b) (λ e. h (sym (length-map a strand_in) ∙ e ∙ length-map b strand_in))
-
-  module _ (long : length a ≡ length b) (i : ℕ) (v : Bool) (inv : same_each same_strand (map strand_in (drop i a)) (map strand_in (drop i b)) ≡ v) where
-    pub strands_done : length a ≤ i → true ≡ v
-    unfolding same_each
-    strands_done h = rw (drop_out a i h, drop_out b i (omega arith)) at inv
-
-    module _ (h : i < length a) (r : Bool) (e : r ≡ same_strand (strand_in (get_or a i 0)) (strand_in (get_or b i 0))) where
-      pub strands_out : not r ≡ true → false ≡ v
-      strands_out =
-          each_out same_strand _ _ v inv _ _ _ _ (ap (map strand_in) (drop_here a i h)) (ap (map strand_in) (drop_here b i (omega arith))) r e
-
-      pub strands_on : not r ≡ false → same_each same_strand (map strand_in (drop (i + 1) a)) (map strand_in (drop (i + 1) b)) ≡ v
-      strands_on =
-          each_on same_strand _ _ v inv _ _ _ _ (ap (map strand_in) (drop_here a i h)) (ap (map strand_in) (drop_here b i (omega arith))) r e
+pub strands_unlike : (a b : List ℕ) → (length a ≡ length b → ⊥) → false ≡ same_each same_strand (map strand_in a) (map strand_in b)
+strands_unlike a b h =
+    each_unlike same_strand (map strand_in a) (map strand_in b) (λ e. h (sym (length-map a strand_in) ∙ e ∙ length-map b strand_in))
 
 -- ---- how many strands each level has
 module _ (spaces : List ℕ) (n : ℕ) where
@@ -156,15 +141,15 @@ module _ (names spaces strands names' spaces' strands' : List ℕ) (k : ℕ) whe
   abbrev other : HeldLevel
   other = held_level names' spaces' strands' k
 
-  module _ (w w' : Span) (ew : w ≡ name_in names k) (ew' : w' ≡ name_in names' k) (r : Bool) (er : r ≡ same_span w w') where
-    pub level_name : not r ≡ true → false ≡ same_level one other
+  module _ (w w' : Span) (ew : w ≡ name_in names k) (ew' : w' ≡ name_in names' k) (r : Bool) (er : r ≡ not (same_span w w')) where
+    pub level_name : r ≡ true → false ≡ same_level one other
     unfolding held_level
-    level_name = chain_out r (same_span one.name other.name) (behind_name one other) (er ∙ ap₂ same_span ew ew')
+    level_name f = chain_out (same_span w w') (same_span one.name other.name) (behind_name one other) (ap₂ same_span ew ew') (sym er ∙ f)
 
-    module _ (fr : not r ≡ false) (m m' : ℕ) (em : m ≡ get_or spaces (4 * k + 0) 0) (em' : m' ≡ get_or spaces' (4 * k + 0) 0) where
+    module _ (fr : r ≡ false) (m m' : ℕ) (em : m ≡ get_or spaces (4 * k + 0) 0) (em' : m' ≡ get_or spaces' (4 * k + 0) 0) where
       past_name : (v : Bool) → v ≡ behind_name one other → v ≡ same_level one other
       unfolding held_level
-      past_name = chain_on r (same_span one.name other.name) (behind_name one other) (er ∙ ap₂ same_span ew ew') fr
+      past_name = chain_on (same_span w w') (same_span one.name other.name) (behind_name one other) (ap₂ same_span ew ew') (sym er ∙ fr)
 
       class_at_lem : (l : List ℕ) → get_or l (4 * k + 0) 0 ≡ get_or l (4 * k) 0
       class_at_lem l = ap (λ (i : ℕ). get_or l i 0) (add-zero (4 * k))
@@ -173,17 +158,17 @@ module _ (names spaces strands names' spaces' strands' : List ℕ) (k : ℕ) whe
       unfolding held_level
       level_class f = past_name false (chain_unlike m m' one.class other.class (behind_class one other) (em ∙ class_at_lem spaces) (em' ∙ class_at_lem spaces') f)
 
-      module _ (fm : m ≡ m') (u u' : Span) (eu : u ≡ one.uri) (eu' : u' ≡ other.uri) (q : Bool) (eq : q ≡ same_span u u') where
+      module _ (fm : m ≡ m') (u u' : Span) (eu : u ≡ one.uri) (eu' : u' ≡ other.uri) (q : Bool) (eq : q ≡ not (same_span u u')) where
         past_class : (v : Bool) → v ≡ behind_class one other → v ≡ same_level one other
         unfolding held_level
         past_class v e = past_name v (chain_alike m m' one.class other.class (behind_class one other) (em ∙ class_at_lem spaces) (em' ∙ class_at_lem spaces') fm v e)
 
-        pub level_uri_lem : not q ≡ true → false ≡ same_level one other
-        level_uri_lem f = past_class false (chain_out q (same_span one.uri other.uri) (behind_uri one other) (eq ∙ ap₂ same_span eu eu') f)
+        pub level_uri_lem : q ≡ true → false ≡ same_level one other
+        level_uri_lem f = past_class false (chain_out (same_span u u') (same_span one.uri other.uri) (behind_uri one other) (ap₂ same_span eu eu') (sym eq ∙ f))
 
-        module _ (fq : not q ≡ false) (n n' : ℕ) (en : n ≡ one.bindings) (en' : n' ≡ other.bindings) where
+        module _ (fq : q ≡ false) (n n' : ℕ) (en : n ≡ one.bindings) (en' : n' ≡ other.bindings) where
           past_uri : (v : Bool) → v ≡ behind_uri one other → v ≡ same_level one other
-          past_uri v e = past_class v (chain_on q (same_span one.uri other.uri) (behind_uri one other) (eq ∙ ap₂ same_span eu eu') fq v e)
+          past_uri v e = past_class v (chain_on (same_span u u') (same_span one.uri other.uri) (behind_uri one other) (ap₂ same_span eu eu') (sym eq ∙ fq) v e)
 
           pub level_bindings : (n ≡ n' → ⊥) → false ≡ same_level one other
           level_bindings f = past_uri false (chain_unlike n n' one.bindings other.bindings (behind_bindings one other) en en' f)
@@ -204,6 +189,10 @@ module _ (names spaces strands names' spaces' strands' : List ℕ) (k : ℕ) whe
                 (e ∙ ap₂ (λ (s t : List ℕ). same_each same_strand (map strand_in s) (map strand_in t)) (ex ∙ ap (words_at strands k) ej) (ey ∙ ap (words_at strands' k) (f ∙ ej')))
 
 -- ---- the arrays
+pub within_bound : (depth bound : ℕ) (spaces : List ℕ) (r : Bool) → r ≡ within_arrays depth bound spaces → r ≡ true → bound ≤ 64
+unfolding within_arrays
+within_bound depth bound spaces r e t = leb-true bound 64 (and_left (leb bound 64) _ (and_right (leb depth 64) _ (sym e ∙ t)))
+
 pub within_levels : (depth bound : ℕ) (spaces : List ℕ) (r : Bool) → r ≡ within_arrays depth bound spaces → not r ≡ false
     → (depth ≤ 64) × (all (λ (k : ℕ). leb (get_or spaces (4 * k + 3) 0) 16) (tabulate (λ (k : ℕ). k) 0 depth) ≡ true)
 unfolding within_arrays

@@ -6,7 +6,6 @@ ghost use Rattle.strands.specs.Packed.{strand_in};
 ghost use Rattle.strands.specs.Levels.{level_names, level_spaces, level_strands};
 ghost use Rattle.equality.specs.Same.{same_each, same_strand, same_level, held_level};
 
-use crate::bindings::same_span;
 use reader::Span;
 use strands::LEVELS;
 use strands::levels::{count_at, name_at, owned_at, space_at};
@@ -16,12 +15,10 @@ pub fn strands_within(levels: &[u32; LEVELS], depth: usize) -> bool
     requires { depth ≤ 64 }
     ensures { result ≡ all (λ (k : ℕ). leb (get_or (level_spaces levels.now) (4 * k + 3) 0) 16) (tabulate (λ (k : ℕ). k) 0 depth) }
 {
-    let mut k = 0;
-    while k < depth {
+    for k in 0..depth {
         if 16 < count_at(levels, k) {
             return false;
         }
-        k += 1;
     }
     true
 }
@@ -42,17 +39,7 @@ fn same_strand(a: u32, b: u32) -> bool
 fn same_strands(a: &[u32], b: &[u32]) -> bool
     ensures { result ≡ same_each same_strand (map strand_in a.now) (map strand_in b.now) }
 {
-    if a.len() != b.len() {
-        return false;
-    }
-    let mut i = 0;
-    while i < a.len() {
-        if !same_strand(a[i], b[i]) {
-            return false;
-        }
-        i += 1;
-    }
-    true
+    a.len() == b.len() && a.iter().zip(b).all(|(x, y)| same_strand(*x, *y))
 }
 
 // The span of a level's URI.
@@ -71,13 +58,13 @@ fn same_level(levels: &[u32; LEVELS], other: &[u32; LEVELS], k: usize) -> bool
     requires { (k < 64) × (get_or (level_spaces levels.now) (4 * k + 3) 0 ≤ 16) }
     ensures { result ≡ same_level (held_level (level_names levels.now) (level_spaces levels.now) (level_strands levels.now) k) (held_level (level_names other.now) (level_spaces other.now) (level_strands other.now) k) }
 {
-    if !same_span(name_at(levels, k), name_at(other, k)) {
+    if name_at(levels, k) != name_at(other, k) {
         return false;
     }
     if space_at(levels, k, 0) != space_at(other, k, 0) {
         return false;
     }
-    if !same_span(uri_at(levels, k), uri_at(other, k)) {
+    if uri_at(levels, k) != uri_at(other, k) {
         return false;
     }
     if owned_at(levels, k) != owned_at(other, k) {
@@ -87,11 +74,8 @@ fn same_level(levels: &[u32; LEVELS], other: &[u32; LEVELS], k: usize) -> bool
     if n != count_at(other, k) {
         return false;
     }
-    let words: &[u32] = levels;
-    let others: &[u32] = other;
-    let from = 24 * k + 8;
-    let to = from + n;
-    same_strands(&words[from..to], &others[from..to])
+    let at = 24 * k + 8;
+    same_strands(&levels[at..at + n], &other[at..at + n])
 }
 
 // Are the first so many levels the same?
@@ -99,12 +83,10 @@ pub fn same_levels(levels: &[u32; LEVELS], other: &[u32; LEVELS], depth: usize) 
     requires { (depth ≤ 64) × (all (λ (k : ℕ). leb (get_or (level_spaces levels.now) (4 * k + 3) 0) 16) (tabulate (λ (k : ℕ). k) 0 depth) ≡ true) }
     ensures { result ≡ same_each same_level (tabulate (held_level (level_names levels.now) (level_spaces levels.now) (level_strands levels.now)) 0 depth) (tabulate (held_level (level_names other.now) (level_spaces other.now) (level_strands other.now)) 0 depth) }
 {
-    let mut k = 0;
-    while k < depth {
+    for k in 0..depth {
         if !same_level(levels, other, k) {
             return false;
         }
-        k += 1;
     }
     true
 }

@@ -1,145 +1,123 @@
 // The reader's events, one after the other.
 ghost use Rattle.std.specs.Prelude.{◌+◌, ◌<◌, length};
 
-use crate::print;
+use crate::start::Start;
 use lexer::stops::{number_of, place_of};
-use lexer::{Begin, EndTag, Ended, Read, Stop, Tag, Tagged};
+use lexer::{Begin, EndTag, Stop, Tag};
 use misc::begins::begin_at;
-use namespaces::spaces::found_in;
-use namespaces::{meaning, meant_number};
-use reader::bindings::{at_most, put_keys};
-use reader::kinds::{all_plain, is_declaration, kind_of, minus};
+use namespaces::meaning;
+use reader::bindings::put_keys;
+use reader::kinds::all_plain;
 use reader::scopes::{name_in, part_in, same_name};
-use reader::{Found, Meant, Scope, Span};
+use reader::{Element, Scope, Span};
 use std::io;
-use tags::{attr_in, end_tag, start_tag};
+use tags::{end_tag, start_tag};
 use values::text_end;
 
-// Where the reader is; number 0 while it goes on, else the number and the place that it stops with.
+// Why no event is left: the number and the place that the reader stops with, or a line that could not be printed.
+enum Halt {
+    Stopped(u8, usize),
+    Unprinted(io::Error),
+}
+
+impl From<io::Error> for Halt {
+    fn from(e: io::Error) -> Halt {
+        Halt::Unprinted(e)
+    }
+}
+
+fn stopped_by(s: &[u8], x: Stop) -> Halt {
+    Halt::Stopped(number_of(x), place_of(s, x))
+}
+
+// Where the reader is: its place, whether the root has closed, whether the end of a /> is awaited, and what is open.
 #[derive(Clone, Copy)]
 struct Walk {
     place: usize,
     closed: bool,
     awaited: bool,
     scope: Scope,
-    number: u8,
-    at: usize,
-}
-
-fn between(from: usize, to: usize) -> Span {
-    Span {
-        at: from,
-        len: minus(to, from),
-    }
-}
-
-fn going(place: usize, closed: bool, awaited: bool, scope: Scope) -> Walk {
-    Walk {
-        place,
-        closed,
-        awaited,
-        scope,
-        number: 0,
-        at: 0,
-    }
 }
 
 impl Walk {
-    fn stopped(mut self, number: u8, at: usize) -> Walk {
-        self.number = number;
-        self.at = at;
-        self
-    }
-
-    fn stopped_by(self, s: &[u8], x: Stop) -> Walk {
-        self.stopped(number_of(x), place_of(s, x))
+    fn fresh() -> Walk {
+        Walk {
+            place: 0,
+            closed: false,
+            awaited: false,
+            scope: Scope::fresh(),
+        }
     }
 
     // The innermost element ends: its name's part, and the < of its tag.
-    fn ended(self, rt: &impl Print, part: Span, at: usize, place: usize) -> io::Result<Walk> {
-        print::word(rt, b"end")?;
-        print::number(rt, at)?;
-        print::span(rt, part)?;
-        print::line_end(rt)?;
+    fn ended(self, rt: &impl Print, part: Span, at: usize, place: usize) -> Result<Walk, Halt> {
+        println!(rt; "end {at} {} {}", part.at, part.len)?;
         let scope = self.scope.close();
-        let closed = scope.depth == 0;
-        Ok(going(place, closed, false, scope))
+        Ok(Walk {
+            place,
+            closed: scope.depth == 0,
+            awaited: false,
+            scope,
+        })
     }
 
-    fn innermost(self) -> Span {
-        let scope = self.scope;
-        let levels = scope.levels;
-        name_in(&levels, minus(scope.depth, 1))
+    fn innermost(&self) -> Span {
+        name_in(&self.scope.levels, self.scope.depth.saturating_sub(1))
     }
 
     // The end of a tag />.
-    fn awaited_end(self, rt: &impl Print, s: &[u8]) -> io::Result<Walk> {
+    fn awaited_end(self, rt: &impl Print, s: &[u8]) -> Result<Walk, Halt> {
         let name = self.innermost();
-        let part = part_in(s, name);
-        let place = self.place;
-        self.ended(rt, part, minus(name.at, 1), place)
+        let at = name.at.saturating_sub(1);
+        self.ended(rt, part_in(s, name), at, self.place)
     }
 
     // An end tag whose < stands at a place.
-    fn end_read(self, rt: &impl Print, s: &[u8], at: usize, t: EndTag) -> io::Result<Walk> {
-        let whole = between(t.name.at, t.name.end);
-        if same_name(s, whole, self.innermost()) {
-            return self.ended(rt, between(t.name.part, t.name.end), at, t.next);
+    fn end_read(self, rt: &impl Print, s: &[u8], at: usize, t: EndTag) -> Result<Walk, Halt> {
+        let whole = Span::between(t.name.at, t.name.end);
+        if !same_name(s, whole, self.innermost()) {
+            return Err(Halt::Stopped(4, at));
         }
-        Ok(self.stopped(4, at))
+        self.ended(rt, Span::between(t.name.part, t.name.end), at, t.next)
     }
 
-    fn end(self, rt: &impl Print, s: &[u8], at: usize) -> io::Result<Walk>
+    fn end(self, rt: &impl Print, s: &[u8], at: usize) -> Result<Walk, Halt>
         requires { at + 1 < length s.now }
     {
         match end_tag(s, at + 2) {
-            Ended::Got(t) => self.end_read(rt, s, at, t),
-            Ended::Stopped(x) => Ok(self.stopped_by(s, x)),
+            Ok(t) => self.end_read(rt, s, at, t),
+            Err(x) => Err(stopped_by(s, x)),
         }
     }
 
-    fn text(mut self, rt: &impl Print, s: &[u8], at: usize) -> io::Result<Walk> {
+    fn text_read(self, rt: &impl Print, at: usize, place: usize) -> Result<Walk, Halt> {
+        let text = Span::between(at, place);
+        println!(rt; "text {} {}", text.at, text.len)?;
+        Ok(Walk { place, ..self })
+    }
+
+    fn text(self, rt: &impl Print, s: &[u8], at: usize) -> Result<Walk, Halt> {
         match text_end(s, at) {
-            Read::End(end) => {
-                print::word(rt, b"text")?;
-                print::span(rt, between(at, end))?;
-                print::line_end(rt)?;
-                self.place = end;
-                Ok(self)
-            }
-            Read::Stopped(x) => Ok(self.stopped_by(s, x)),
+            Ok(place) => self.text_read(rt, at, place),
+            Err(x) => Err(stopped_by(s, x)),
         }
     }
 
-    // The element that a tag means, opened unless 21 or 22 stops it.
-    fn element(
-        self,
-        rt: &impl Print,
-        s: &[u8],
-        at: usize,
-        t: Tag,
-        f: Found,
-        owned: usize,
-        attrs: &[usize; 80],
-        own: &[u32; 64],
-        spaces: &[usize; 16],
-    ) -> io::Result<Walk> {
-        let whole = between(t.name.at, t.name.end);
-        let scope = self.scope;
-        let outer = scope.bindings;
-        let opened = scope.open(whole, own, owned);
-        let number = opened.number;
-        if number != 0 {
-            return Ok(self.stopped(number, at));
-        }
-        print::word(rt, b"start")?;
-        print::number(rt, at)?;
-        print::span(rt, whole)?;
-        print::namespace(rt, f, own, &outer)?;
-        print::line_end(rt)?;
-        attributes(rt, s, t.count, attrs, own, &outer, spaces)?;
-        let inner = opened.scope;
-        Ok(going(t.next, false, t.empty, inner))
+    // The element of a start tag with so many declarations, opened unless 21 or 22 stops it.
+    fn element(self, rt: &impl Print, s: &[u8], start: Start, owned: usize) -> Result<Walk, Halt> {
+        let tag = start.tag;
+        let name = Span::between(tag.name.at, tag.name.end);
+        let scope = match self.scope.open(name, start.own, owned) {
+            Ok(scope) => scope,
+            Err(error) => return Err(Halt::Stopped(error.number(), start.at)),
+        };
+        start.print(rt, s)?;
+        Ok(Walk {
+            place: tag.next,
+            closed: false,
+            awaited: tag.empty,
+            scope,
+        })
     }
 
     fn start_read(
@@ -147,22 +125,22 @@ impl Walk {
         rt: &impl Print,
         s: &[u8],
         at: usize,
-        t: Tag,
+        tag: Tag,
         attrs: &[usize; 80],
-    ) -> io::Result<Walk> {
+    ) -> Result<Walk, Halt> {
         let mut own = [0u32; 64];
         let mut known = [0u64; 2 * Scope::KNOWN];
         let mut spaces = [0usize; 16];
-        let scope = self.scope;
-        let outer = scope.bindings;
-        let bound = at_most(Scope::BINDINGS, scope.bound);
+        let outer = self.scope.bindings;
+        let bound = self.scope.bound.min(Scope::BINDINGS);
         put_keys(s, &outer, bound, 0, &mut known);
+        let plain = all_plain(s, attrs, tag.count);
         let m = meaning(
             s,
-            t.name,
+            tag.name,
             attrs,
-            t.count,
-            all_plain(s, attrs, t.count),
+            tag.count,
+            plain,
             &mut own,
             &outer,
             bound,
@@ -170,91 +148,57 @@ impl Walk {
             &mut spaces,
         );
         match m {
-            Meant::Element(f, owned) => {
-                self.element(rt, s, at, t, f, owned, attrs, &own, &spaces)
+            Ok(Element { found, owned }) => {
+                let start = Start {
+                    at,
+                    tag,
+                    found,
+                    attrs,
+                    own: &own,
+                    outer: &outer,
+                    spaces: &spaces,
+                };
+                self.element(rt, s, start, owned)
             }
-            Meant::Undeclared => Ok(self.stopped(meant_number(m), at)),
-            Meant::Twice => Ok(self.stopped(meant_number(m), at)),
+            Err(error) => Err(Halt::Stopped(error.number(), at)),
         }
     }
 
-    fn start(self, rt: &impl Print, s: &[u8], at: usize) -> io::Result<Walk>
+    fn start(self, rt: &impl Print, s: &[u8], at: usize) -> Result<Walk, Halt>
         requires { at + 1 < length s.now }
     {
         let mut attrs = [0usize; 80];
         match start_tag(s, at + 1, &mut attrs) {
-            Tagged::Got(t) => self.start_read(rt, s, at, t, &attrs),
-            Tagged::Stopped(x) => Ok(self.stopped_by(s, x)),
+            Ok(t) => self.start_read(rt, s, at, t, &attrs),
+            Err(x) => Err(stopped_by(s, x)),
         }
     }
 
     // The next event, printed; or what stops the reader.
-    fn next(self, rt: &impl Print, s: &[u8]) -> io::Result<Walk> {
+    fn next(self, rt: &impl Print, s: &[u8]) -> Result<Walk, Halt> {
         let inside = self.scope.depth != 0;
-        if self.awaited & inside {
+        if self.awaited && inside {
             return self.awaited_end(rt, s);
         }
         match begin_at(s, self.place, inside, self.closed) {
-            Begin::Start(at) => self.start(rt, s, at),
-            Begin::End(at) => self.end(rt, s, at),
-            Begin::Text(at) => self.text(rt, s, at),
-            Begin::Finished => Ok(self.stopped(9, s.len())),
-            Begin::Stopped(x) => Ok(self.stopped_by(s, x)),
+            Ok(Begin::Start(at)) => self.start(rt, s, at),
+            Ok(Begin::End(at)) => self.end(rt, s, at),
+            Ok(Begin::Text(at)) => self.text(rt, s, at),
+            Ok(Begin::Finished) => Err(Halt::Stopped(9, s.len())),
+            Err(x) => Err(stopped_by(s, x)),
         }
     }
 }
 
-// A line for the k-th attribute, if it is no declaration: its part, its value and its namespace.
-fn attribute(
-    rt: &impl Print,
-    s: &[u8],
-    k: usize,
-    attrs: &[usize; 80],
-    own: &[u32; 64],
-    outer: &[u32; 256],
-    spaces: &[usize; 16],
-) -> io::Result<()> {
-    if 16 <= k {
-        return Ok(());
-    }
-    let a = attr_in(attrs, k);
-    if is_declaration(kind_of(s, a.name)) {
-        return Ok(());
-    }
-    print::word(rt, b"attribute")?;
-    print::span(rt, between(a.name.part, a.name.end))?;
-    print::span(rt, between(a.value, a.stop))?;
-    print::namespace(rt, found_in(spaces[k]), own, outer)?;
-    print::line_end(rt)
-}
-
-fn attributes(
-    rt: &impl Print,
-    s: &[u8],
-    count: usize,
-    attrs: &[usize; 80],
-    own: &[u32; 64],
-    outer: &[u32; 256],
-    spaces: &[usize; 16],
-) -> io::Result<()> {
-    let mut k = 0;
-    while k < count {
-        attribute(rt, s, k, attrs, own, outer, spaces)?;
-        k += 1;
-    }
-    Ok(())
-}
-
-// Every event of the scene. Each reads a byte or ends an awaited end, so that many turns suffice.
+// Every event of the scene, then what the reader stops with. Each event reads a byte or ends an awaited end, so that many turns suffice.
 pub fn print_events(rt: &impl Print, s: &[u8]) -> io::Result<()> {
-    let mut w = going(0, false, false, Scope::fresh());
-    let mut left: usize = 131074;
-    while 0 < left {
-        w = w.next(rt, s)?;
-        if w.number != 0 {
-            return print::stop(rt, w.number, w.at);
+    let mut walk = Walk::fresh();
+    for _ in 0..131074 {
+        match walk.next(rt, s) {
+            Ok(next) => walk = next,
+            Err(Halt::Stopped(number, at)) => return println!(rt; "{number} {at}"),
+            Err(Halt::Unprinted(e)) => return Err(e),
         }
-        left -= 1;
     }
     Ok(())
 }

@@ -1,5 +1,5 @@
 -- The greater of two numbers, and the greatest of some.
-use Prim.Native.Nat.{ℕ, zero, suc, ◌≤◌, ◌<◌}
+use Prim.Native.Nat.{ℕ, zero, suc, max, ◌≤◌, ◌<◌}
 use mathlib.Core.Path.{◌≡◌, subst}
 use mathlib.Core.Logic.{⊎_elim}
 use native.Mathlib.Omega.{arith}
@@ -12,6 +12,10 @@ greater_second a b h = rw (lt-ltb a b h)
 
 pub greater_first : (a b : ℕ) → b ≤ a → a ≡ greater_of a b
 greater_first a b h = rw (le-ltb a b h)
+
+-- as the library's `max` gives it
+pub greater_max : (a b : ℕ) → max a b ≡ greater_of a b
+greater_max a b = ⊎_elim (λ le. omega (arith, greater_first a b le)) (λ lt. omega (arith, greater_second a b lt)) (le_or_lt b a)
 
 pub greater_most : (a b : ℕ) → (a ≤ greater_of a b) × (b ≤ greater_of a b)
 greater_most a b =

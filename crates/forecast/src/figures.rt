@@ -3,7 +3,7 @@ ghost use Rattle.std.specs.Prelude.{◌≡◌, true, ◌≤◌, length};
 ghost use Rattle.table.specs.Table.{decode, header_of};
 ghost use Rattle.table.specs.Index.{index_of};
 ghost use Rattle.table.specs.Judge.{Accepted};
-ghost use Rattle.forecast.specs.Forecasts.{greater_of, figures_of};
+ghost use Rattle.forecast.specs.Forecasts.{figures_of};
 
 use attributes::HELD;
 use reader::Scope;
@@ -21,15 +21,6 @@ pub struct Forecast {
     pub units: usize,
     pub strands: usize,
     pub depth: usize,
-}
-
-fn greater(a: usize, b: usize) -> usize
-    ensures { result ≡ greater_of a b }
-{
-    if a < b {
-        return b;
-    }
-    a
 }
 
 // Events are taken until a number is not 0.
@@ -77,8 +68,8 @@ pub fn figures_of(table: &[u8], index: &[u32; 256], scene: &[u8]) -> Forecast
         }
         let next = turn.head;
         if head.depth < next.depth {
-            strands = greater(strands, count_at(&levels, head.depth));
-            depth = greater(depth, next.depth);
+            strands = strands.max(count_at(&levels, head.depth));
+            depth = depth.max(next.depth);
         }
         records += turn.records;
         head = next;

@@ -1,4 +1,4 @@
-// The forecast as a static library for hosts: the call of `forecast`. include/calcivorne.h is the manual.
+// The forecast as a static library for hosts: the call of `forecast`. include/calcivorne.h is the manual. A crate is a library or a static library and not both, so that the C interface needs the calls here once more.
 #![tactic(auto)]
 
 ghost use Rattle.std.specs.Prelude.{◌≡◌};

@@ -1,26 +1,12 @@
 // The rules of a table unpacked once, so that those of a mode, kind and class are found without a search over all.
+// Places 0 to 127 are the rules' words, 128 + b the first rule of the mode and kind b, 192 + b the place behind its last, 0 where there is none.
 #![tactic(auto)]
 
-ghost use Rattle.std.specs.Prelude.{◌≡◌, cond, ◌<◌, eqb};
-ghost use Rattle.table.specs.Index.{bucket_of, up_to, index_of, next_rule, word_in, bucket, chosen_of};
+ghost use Rattle.std.specs.Prelude.{◌≡◌, ◌<◌};
+ghost use Rattle.table.specs.Index.{bucket_of, index_of, next_rule, word_in, chosen_of};
 
 use table::words::{key_of, word_at};
 use table::{Chosen, Header};
-
-fn wide(n: u32) -> usize
-    ensures { result ≡ n }
-{
-    n as usize
-}
-
-fn up_to(n: usize) -> usize
-    ensures { result ≡ up_to n }
-{
-    if n <= 128 {
-        return n;
-    }
-    128
-}
 
 // Mode and kind of a rule.
 fn bucket_of(w: u32) -> usize
@@ -29,86 +15,68 @@ fn bucket_of(w: u32) -> usize
     (w >> 26) as usize
 }
 
-fn first_of(end: u32, first: u32, i: u8) -> u32
-    ensures { result ≡ cond (eqb end 0) i first }
-{
-    if end == 0 {
-        return i as u32;
-    }
-    first
-}
-
 // The index of a table with this header.
 pub fn load(table: &[u8], header: Header) -> [u32; 256]
     ensures { result ≡ index_of table.now header }
 {
-    let n = up_to(header.rules as usize);
     let mut index: [u32; 256] = [0; 256];
-    let mut i: u8 = 0;
-    while (i as usize) < n {
+    for i in 0..header.rules.min(128) {
         let w = word_at(table, i);
         let b = bucket_of(w);
-        let first = first_of(index[192 + b], index[128 + b], i);
-        index[i as usize] = w;
+        let first = if index[192 + b] == 0 {
+            u32::from(i)
+        } else {
+            index[128 + b]
+        };
+        index[usize::from(i)] = w;
         index[128 + b] = first;
-        index[192 + b] = (i as u32) + 1;
-        i += 1;
+        index[192 + b] = u32::from(i) + 1;
     }
     index
 }
 
-// The i-th rule's 32 bits; 0 past the rules.
+// The i-th rule's 32 bits; 0 past the rules, as the definitions read them.
 pub fn word_in(index: &[u32; 256], i: usize) -> u32
     ensures { result ≡ word_in index.now i }
 {
-    if i < 128 {
-        return index[i];
-    }
-    0
+    if i < 128 { index[i] } else { 0 }
 }
 
-// The first rule from `from` on and before `end` that has this key; `end`, at most 128, where there is none.
+// The first rule from `from` on and before `end` that has this key; `end`, at most 128, where there is none, so that the rules from it to the end are none.
 pub fn next_rule(index: &[u32; 256], from: usize, end: usize, key: u32) -> usize
     ensures { result ≡ next_rule index.now from end key }
 {
-    let last = up_to(end);
-    let mut i = from;
-    while i < last {
+    let last = end.min(128);
+    for i in from..last {
         if key_of(index[i]) == key {
             return i;
         }
-        i += 1;
     }
     last
 }
 
-fn bucket_for(mode: u8, kind: u8) -> u8
-    ensures { result ≡ bucket mode kind }
-{
-    mode % 32 * 2 + kind % 2
-}
-
-// The rules that name the class if there is one, else those that name any.
+// The rules that name the class if there is one, else those that name any. The kind is the bit of a rule: 0 for elements, 1 for attributes.
 pub fn choose(index: &[u32; 256], mode: u8, kind: u8, class: u8) -> Chosen
     ensures { result ≡ chosen_of index.now mode kind class }
 {
-    let b = bucket_for(mode, kind);
-    let from = wide(index[128 + (b as usize)]);
-    let end = up_to(wide(index[192 + (b as usize)]));
-    let naming = (b as u32) * 256 + (class as u32);
-    let i = next_rule(index, from, end, naming);
-    if i < end {
+    let b = mode % 32 * 2 + kind % 2;
+    let at = usize::from(b);
+    let from = index[128 + at] as usize;
+    let end = (index[192 + at] as usize).min(128);
+    let key = u32::from(b) * 256;
+    let naming = key + u32::from(class);
+    let first = next_rule(index, from, end, naming);
+    if first < end {
         return Chosen {
             key: naming,
-            first: i,
+            first,
             end,
         };
     }
-    let any = (b as u32) * 256 + 255;
-    let j = next_rule(index, from, end, any);
+    let any = key + 255;
     Chosen {
         key: any,
-        first: j,
+        first: next_rule(index, from, end, any),
         end,
     }
 }

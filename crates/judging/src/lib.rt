@@ -1,15 +1,24 @@
 // The judge: whether bytes are a rule table.
 #![tactic(auto)]
 
-ghost use Rattle.std.specs.Prelude.{◌≡◌, ℕ, ◌-◌, ◌≤◌, ◌<◌, List, drop, get_or};
-ghost use Rattle.laws.specs.Lists.{same_list, any, all, any_pair, tabulate};
+ghost use Rattle.std.specs.Prelude.{◌≡◌, ℕ, ◌≤◌, ◌<◌, List, drop, get_or, length, MatchResult};
+ghost use Rattle.laws.specs.Lists.{same_list, any, all, any_pair};
 ghost use Rattle.table.specs.Table.{word_at, words_of, fields_of, uris_from, uris_of};
 ghost use Rattle.table.specs.Judge.{header_fits, length_fits, fields_fit, word_fits, is_empty, keeps, rules_clash, uris_clash, said, judged};
+ghost use Rattle.judging.specs.Faults.{number_of};
 
 use compare::{is_xml_uri, part_of};
 use table::uris::{behind_rules, listed_from, uri_at};
 use table::words::{header_of, key_of, unpack, word_at};
 use table::{Answer, Fields, Header};
+
+// Why bytes are no table, by the numbers of document 01.
+#[derive(Clone, Copy)]
+enum Fault {
+    Length = 10,
+    Field = 11,
+    Clash = 12,
+}
 
 fn header_fits(h: Header) -> bool
     ensures { result ≡ header_fits h }
@@ -26,14 +35,11 @@ fn length_fits(table: &[u8], header: Header) -> bool
     if table.len() < p {
         return false;
     }
-    let mut i: u8 = 0;
-    while i < header.namespaces {
-        let u = uri_at(table, p);
-        if u.at == 0 {
+    for _i in 0..header.namespaces {
+        let Some(u) = uri_at(table, p) else {
             return false;
-        }
+        };
         p = u.at + u.len;
-        i += 1;
     }
     p == table.len()
 }
@@ -50,12 +56,10 @@ fn fields_fit(h: Header, f: Fields) -> bool
 fn words_fit(table: &[u8], header: Header) -> bool
     ensures { result ≡ all (word_fits header) (words_of table.now header) }
 {
-    let mut i: u8 = 0;
-    while i < header.rules {
+    for i in 0..header.rules {
         if !fields_fit(header, unpack(word_at(table, i))) {
             return false;
         }
-        i += 1;
     }
     true
 }
@@ -79,24 +83,19 @@ fn words_of(table: &[u8], header: Header) -> [u32; 256]
     ensures { (k : ℕ) → k < header.rules → get_or result k 0 ≡ word_at table.now k }
 {
     let mut words: [u32; 256] = [0; 256];
-    let mut k: u8 = 0;
-    while k < header.rules {
-        words[k as usize] = word_at(table, k);
-        k += 1;
+    for k in 0..header.rules {
+        words[usize::from(k)] = word_at(table, k);
     }
     words
 }
 
-// Does a rule from the `from`-th on clash with this one?
-fn clash_from(words: &[u32; 256], rules: usize, from: usize, w: u32) -> bool
-    requires { rules ≤ 256 }
-    ensures { result ≡ any (rules_clash w) (tabulate (λ (k : ℕ). get_or words.now k 0) from (rules - from)) }
+// Does one of these rules clash with w? With no early way out, it becomes vector code.
+fn clash_in(words: &[u32], w: u32) -> bool
+    ensures { result ≡ any (rules_clash w) words.now }
 {
     let mut found = false;
-    let mut i = from;
-    while i < rules {
-        found = found | two_clash(w, words[i]);
-        i += 1;
+    for v in words {
+        found |= two_clash(w, *v);
     }
     found
 }
@@ -104,15 +103,12 @@ fn clash_from(words: &[u32; 256], rules: usize, from: usize, w: u32) -> bool
 fn rules_clash(table: &[u8], header: Header) -> bool
     ensures { result ≡ any_pair rules_clash (words_of table.now header) }
 {
-    let rules = header.rules as usize;
-    let words = words_of(table, header);
-    let mut i = 0;
-    while i < rules {
-        let w = words[i];
-        if clash_from(&words, rules, i + 1, w) {
+    let all = words_of(table, header);
+    let words = &all[..usize::from(header.rules)];
+    for (i, w) in words.iter().enumerate() {
+        if clash_in(&words[i + 1..], *w) {
             return true;
         }
-        i += 1;
     }
     false
 }
@@ -139,19 +135,13 @@ fn uris_clash(table: &[u8], header: Header) -> bool
     ensures { result ≡ uris_clash (uris_of table.now header) }
 {
     let mut p = behind_rules(header);
-    let mut i: u8 = 0;
-    while i < header.namespaces {
-        let u = uri_at(table, p);
-        if u.at == 0 {
+    for i in 0..header.namespaces {
+        let Some(u) = uri_at(table, p) else {
             return false;
-        }
+        };
         p = u.at + u.len;
-        i += 1;
         let uri = part_of(table, u.at, u.len);
-        if is_xml_uri(uri) {
-            return true;
-        }
-        if lists(table, p, header.namespaces - i, uri) {
+        if is_xml_uri(uri) || lists(table, p, header.namespaces - (i + 1), uri) {
             return true;
         }
     }
@@ -169,25 +159,35 @@ fn said(number: u8, place: usize) -> Answer
     }
 }
 
-// Is this a table? Its length, or the first fault, in the order that document 01 says.
-pub fn judge(table: &[u8]) -> Answer
-    ensures { result ≡ judged table.now }
+// The first fault, in the order that document 01 says.
+fn check(table: &[u8]) -> Result<(), Fault>
+    ensures { MatchResult result (λ _. said 0 (length table.now) ≡ judged table.now) (λ fault. said (number_of fault) 0 ≡ judged table.now) }
 {
     if table.len() < 4 {
-        return said(10, 0);
+        return Err(Fault::Length);
     }
     let header = header_of(table);
     if !header_fits(header) {
-        return said(11, 0);
+        return Err(Fault::Field);
     }
     if !length_fits(table, header) {
-        return said(10, 0);
+        return Err(Fault::Length);
     }
-    if !words_fit(table, header) | lists_empty(table, header) {
-        return said(11, 0);
+    if !words_fit(table, header) || lists_empty(table, header) {
+        return Err(Fault::Field);
     }
-    if rules_clash(table, header) | uris_clash(table, header) {
-        return said(12, 0);
+    if rules_clash(table, header) || uris_clash(table, header) {
+        return Err(Fault::Clash);
     }
-    said(0, table.len())
+    Ok(())
+}
+
+// Is this a table? Its length, or the first fault's number.
+pub fn judge(table: &[u8]) -> Answer
+    ensures { result ≡ judged table.now }
+{
+    match check(table) {
+        Ok(()) => said(0, table.len()),
+        Err(fault) => said(fault as u8, 0),
+    }
 }

@@ -136,6 +136,10 @@ plain_lanes (suc n) (suc k) quote w a b c d e h t z =
     let f : highs (suc n) m / 256 ≡ highs n (joined (w / 256) (a / 256) (b / 256) (c / 256) (d / 256) (e / 256)) = (high_step n m).1 ∙ ap (highs n) (joined_rest w a b c d e) in
     rw s.0 (plain_lanes n k quote (w / 256) (a / 256) (b / 256) (c / 256) (d / 256) (e / 256) h s.1 (subst (Clear k) f z.1))
 
+-- what a difference leaves: z is 2 ^ 64 less y
+pub taken_back : (x z y : ℕ) → x < 18446744073709551616 → z + y ≡ 18446744073709551616 → ((x + z) % 18446744073709551616 + y) % 18446744073709551616 ≡ x
+taken_back x z y h e = omega arith
+
 -- eight lanes, by the code's differences
 module _ (quote w a b c d e : ℕ) (h : quote < 256) (above : (a + repeated 8 0x20) % 2 ^ 64 ≡ w) (quotes : (b + repeated 8 1) % 2 ^ 64 ≡ bit_xor w (quote * 0x0101010101010101))
     (ampersands : (c + repeated 8 1) % 2 ^ 64 ≡ bit_xor w (repeated 8 0x26)) (starts : (d + repeated 8 1) % 2 ^ 64 ≡ bit_xor w (repeated 8 0x3C)) (ends : (e + repeated 8 1) % 2 ^ 64 ≡ bit_xor w (repeated 8 0x3E)) where

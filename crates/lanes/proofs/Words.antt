@@ -1,12 +1,8 @@
--- Eight bytes as one number: joined by shifts, and the bytes told by the number.
-use Rattle.std.proofs.Common.{◌≡◌, ℕ, suc, ◌+◌, ◌*◌, ◌/◌, ◌%◌, ◌^◌, ◌<◌, ◌≤◌, List, [], ◌∷◌, length, get_or, take, drop, sym, refl, ap, ◌∙◌, mod-eq_of_lt, arith}
-use lib.Bits.{bit_or, or_shifted_r}
+-- Eight bytes as one number: joined, and the bytes told by the number.
+use Rattle.std.proofs.Common.{◌≡◌, ℕ, suc, ◌+◌, ◌*◌, ◌/◌, ◌%◌, ◌<◌, ◌≤◌, List, [], ◌∷◌, length, get_or, take, drop, refl, ap, ◌∙◌, arith}
+use Rattle.std.specs.Int.{from_le_bytes, w64}
 use Rattle.laws.specs.Reading.{drop_here}
 use Rattle.lanes.specs.Words.{little_endian, digits}
-
--- a byte x shifted by k, before a number below 2 ^ k
-put : (x k y n : ℕ) → n ≡ x * 2 ^ k → y < 2 ^ k → n < 18446744073709551616 → bit_or y (n % 18446744073709551616) ≡ n + y
-put x k y n e h l = ap (bit_or y) (mod-eq_of_lt {n = n} {m = 18446744073709551616} l ∙ e) ∙ or_shifted_r x k y h ∙ ap (λ (m : ℕ). m + y) (sym e)
 
 -- a number's last byte and the rest of it
 digit : (b n k : ℕ) (l : List ℕ) → b < 256 → digits k n ≡ l → digits (suc k) (b + 256 * n) ≡ b ∷ l
@@ -17,34 +13,15 @@ digit b n k l h e =
     rw (m, d, e)
 
 module _ (a b c d e f g h : ℕ) (ha : a < 256) (hb : b < 256) (hc : c < 256) (hd : d < 256) (he : e < 256) (hf : f < 256) (hg : g < 256) (hh : h < 256) where
-  -- eight bytes by shifts of 8, 16, .. 56
-  abbrev shifted : ℕ
-  shifted =
-      bit_or (bit_or (bit_or (bit_or (bit_or (bit_or (bit_or a
-      (b * 256 % 18446744073709551616))
-      (c * 65536 % 18446744073709551616))
-      (d * 16777216 % 18446744073709551616))
-      (e * 4294967296 % 18446744073709551616))
-      (f * 1099511627776 % 18446744073709551616))
-      (g * 281474976710656 % 18446744073709551616))
-      (h * 72057594037927936 % 18446744073709551616)
-
-  pub le64 : shifted ≡ little_endian (a ∷ b ∷ c ∷ d ∷ e ∷ f ∷ g ∷ h ∷ [])
+  -- eight bytes as the library joins them
+  pub le64 : from_le_bytes w64 (a ∷ b ∷ c ∷ d ∷ e ∷ f ∷ g ∷ h ∷ []) ≡ little_endian (a ∷ b ∷ c ∷ d ∷ e ∷ f ∷ g ∷ h ∷ [])
   unfolding little_endian
-  le64 =
-      rw (put b 8 a (b * 256) refl ha (omega arith))
-      (rw (put c 16 (b * 256 + a) (c * 65536) refl (omega arith) (omega arith))
-      (rw (put d 24 (c * 65536 + (b * 256 + a)) (d * 16777216) refl (omega arith) (omega arith))
-      (rw (put e 32 (d * 16777216 + (c * 65536 + (b * 256 + a))) (e * 4294967296) refl (omega arith) (omega arith))
-      (rw (put f 40 (e * 4294967296 + (d * 16777216 + (c * 65536 + (b * 256 + a)))) (f * 1099511627776) refl (omega arith) (omega arith))
-      (rw (put g 48 (f * 1099511627776 + (e * 4294967296 + (d * 16777216 + (c * 65536 + (b * 256 + a))))) (g * 281474976710656) refl (omega arith) (omega arith))
-      (rw (put h 56 (g * 281474976710656 + (f * 1099511627776 + (e * 4294967296 + (d * 16777216 + (c * 65536 + (b * 256 + a)))))) (h * 72057594037927936) refl (omega arith) (omega arith))
-      (omega arith)))))))
+  le64 = omega arith
 
-  pub le64_digits : digits 8 shifted ≡ a ∷ b ∷ c ∷ d ∷ e ∷ f ∷ g ∷ h ∷ []
+  pub le64_digits : (n : ℕ) → n ≡ from_le_bytes w64 (a ∷ b ∷ c ∷ d ∷ e ∷ f ∷ g ∷ h ∷ []) → digits 8 n ≡ a ∷ b ∷ c ∷ d ∷ e ∷ f ∷ g ∷ h ∷ []
   unfolding little_endian digits
-  le64_digits =
-      ap (digits 8) le64
+  le64_digits n q =
+      ap (digits 8) (q ∙ le64)
       ∙ digit a (little_endian (b ∷ c ∷ d ∷ e ∷ f ∷ g ∷ h ∷ [])) 7 _ ha
       (digit b (little_endian (c ∷ d ∷ e ∷ f ∷ g ∷ h ∷ [])) 6 _ hb
       (digit c (little_endian (d ∷ e ∷ f ∷ g ∷ h ∷ [])) 5 _ hc

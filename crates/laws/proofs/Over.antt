@@ -95,6 +95,11 @@ module _ {ℓ} {A : Type ℓ} where
   unfolding overwrite
   drop_over xs i ys a = drop_at (take i xs ++ ys) (drop (i + length ys) xs) (i + length ys) (head_length xs i ys a)
 
+  -- bytes copied over a part as long as they are: the borrow checker's `put_mid`
+  pub part_over : (xs : List A) (i k : ℕ) (ys : List A) → length ys ≡ k → take i xs ++ (ys ++ drop k (drop i xs)) ≡ overwrite xs i ys
+  unfolding overwrite
+  part_over xs i k ys h = rw (sym h, drop-drop) (sym (append_assoc (take i xs) ys (drop (i + length ys) xs)))
+
   -- what lies before the part is as it was
   pub get_d_over_before : (xs : List A) (i : ℕ) (ys : List A) (k : ℕ) (d : A) → k < i → i ≤ length xs → get_or (overwrite xs i ys) k d ≡ get_or xs k d
   unfolding overwrite

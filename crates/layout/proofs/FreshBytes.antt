@@ -2,18 +2,19 @@
 use Prim.Native.Nat.{ℕ, zero, suc, ◌+◌, ◌*◌, ◌≤◌, ◌<◌}
 use mathlib.Core.Path.{◌≡◌, refl, sym, ap, ◌∙◌}
 use mathlib.Core.List.{List, [], ◌∷◌, ◌++◌}
-use native.Mathlib.Nat.{zero-add}
 use native.Mathlib.Numerals.{add-one}
 use native.Mathlib.Omega.{arith}
 use lib.ListN.{length, set, take, drop, replicate}
 use Rattle.laws.specs.Lists.{tabulate}
 use Rattle.laws.specs.Gather.{gather}
 use Rattle.laws.specs.Over.{overwrite}
+use Rattle.laws.proofs.Lists.{length_tabulate}
+use Rattle.laws.proofs.Over.{part_over}
 use Rattle.laws.proofs.Gather.{gather_append}
 use Rattle.reader.proofs.Tabulated.{tabulate_same, tabulate_append}
 use Rattle.sessions.specs.Sessions.{fresh_of}
 use Rattle.layout.specs.Layout.{bytes4, level_bytes, session_bytes}
-use Rattle.layout.proofs.Filled.{tabulate_more, fill_start, fill_more}
+use Rattle.layout.proofs.Filled.{tabulate_more}
 use Rattle.layout.proofs.Stored.{gather_upto}
 use Rattle.layout.proofs.Taken.{cut_table}
 
@@ -98,18 +99,14 @@ fresh_bytes =
 
 -- zeros, stored from the first byte on, and then the 1
 module _ (b : List ℕ) where
-  pub clear_start : b ≡ overwrite b 0 (zeros 0)
-  clear_start = fill_start zero_at b 0
-
-  pub clear_more : (c : List ℕ) (i : ℕ) → i < length b → c ≡ overwrite b 0 (zeros i) → set c i 0 ≡ overwrite b 0 (zeros (i + 1))
-  clear_more c i h e = ap (λ (k : ℕ). set c k 0) (sym (zero-add i)) ∙ fill_more zero_at b 0 c i 0 (omega arith) e refl
-
   first_set : (x y : ℕ) (ys : List ℕ) → set (overwrite b 0 (x ∷ ys)) 0 y ≡ overwrite b 0 (y ∷ ys)
   unfolding overwrite
   first_set x y ys = refl
 
-  pub clear_end : (c : List ℕ) (i : ℕ) → i ≡ 7208 → c ≡ overwrite b 0 (zeros i) → set c 0 1 ≡ overwrite b 0 (session_bytes fresh_of)
-  clear_end c i h e =
-      ap (λ (l : List ℕ). set l 0 1) (e ∙ ap (λ (k : ℕ). overwrite b 0 (zeros k)) h ∙ ap (overwrite b 0) (zeros_suc 7207))
+  pub clear_end : (c : List ℕ) (n k : ℕ) → n ≡ k → k ≡ 7208 → c ≡ replicate n 0 → set (c ++ drop k b) 0 1 ≡ overwrite b 0 (session_bytes fresh_of)
+  clear_end c n k h g e =
+      let z : c ≡ zeros 7208 = e ∙ replicate_zeros n ∙ ap zeros (h ∙ g) in
+      let l : length c ≡ k = ap length e ∙ ap length (replicate_zeros n) ∙ length_tabulate zero_at 0 n ∙ h in
+      ap (λ (x : List ℕ). set x 0 1) (part_over b 0 k c l ∙ ap (overwrite b 0) (z ∙ zeros_suc 7207))
       ∙ first_set 0 1 (zeros 7207)
       ∙ ap (overwrite b 0) (sym fresh_bytes)

@@ -12,3 +12,4 @@ pub mod Told
 pub mod Unheld
 pub mod Lent
 pub mod NextStored
+pub mod Eight

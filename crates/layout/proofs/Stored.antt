@@ -1,13 +1,14 @@
 -- Numbers stored one after the other.
 use Prim.Native.Nat.{ℕ, zero, suc, ◌+◌, ◌*◌, ◌≤◌, ◌<◌}
-use mathlib.Core.Path.{◌≡◌, refl, sym, ap, ◌∙◌}
+use mathlib.Core.Path.{◌≡◌, refl, sym, ap, ap₂, ◌∙◌}
 use mathlib.Core.List.{List, [], ◌∷◌, ◌++◌, append_assoc, append-nil}
 use mathlib.Core.Bool.{Bool, true, false}
 use native.Mathlib.Nat.{add-zero}
 use native.Mathlib.Numerals.{add-one}
 use native.Mathlib.Omega.{arith}
 use lib.ListN.{length, get_or, take, drop, length-append, length-drop}
-use lib.Seq.{get_or-drop, length-take-le, take_all}
+use lib.Seq.{length-take-le, take_all}
+use Rattle.std.specs.Int.{from_bool}
 use Rattle.laws.specs.Lists.{tabulate}
 use Rattle.laws.specs.Gather.{gather}
 use Rattle.laws.specs.Over.{overwrite}
@@ -34,55 +35,43 @@ unfolding gather
 words_length [] = refl
 words_length (w ∷ ws) = omega (arith, length-append (bytes4 w) (gather bytes4 ws), words_length ws)
 
-module _ (b : List ℕ) (at : ℕ) (words : List ℕ) (from : ℕ) where
-  pub words_start : b ≡ overwrite b at (gather bytes4 (take 0 (drop from words)))
+module _ (b : List ℕ) (at : ℕ) (words : List ℕ) where
+  pub words_start : b ≡ overwrite b at (gather bytes4 (take 0 words))
   words_start = sym (ap (overwrite b at) (gather_none bytes4) ∙ over_none b at)
 
-  pub words_more : (c d : List ℕ) (i : ℕ) → from + i < length words → at + 4 * i ≤ length b
-      → c ≡ overwrite b at (gather bytes4 (take i (drop from words)))
-      → d ≡ overwrite c (at + 4 * i) (bytes4 (get_or words (from + i) 0))
-      → d ≡ overwrite b at (gather bytes4 (take (i + 1) (drop from words)))
+  pub words_more : (c d : List ℕ) (i : ℕ) → i < length words → at + 4 * i ≤ length b
+      → c ≡ overwrite b at (gather bytes4 (take i words))
+      → d ≡ overwrite c (at + 4 * i) (bytes4 (get_or words i 0))
+      → d ≡ overwrite b at (gather bytes4 (take (i + 1) words))
   words_more c d i h k e f =
-      let l : i < length (drop from words) = omega (arith, length-drop from words) in
-      let w : get_or (drop from words) i 0 ≡ get_or words (from + i) 0 = get_or-drop from words i 0 in
-      over_chain b c d at (at + 4 * i) (gather bytes4 (take i (drop from words))) (bytes4 (get_or words (from + i) 0)) (omega arith)
-      (omega (arith, words_length (take i (drop from words)), length-take-le i (drop from words) (omega arith))) e f
-      ∙ ap (λ (n : ℕ). overwrite b at (gather bytes4 (take i (drop from words)) ++ bytes4 n)) (sym w)
-      ∙ ap (overwrite b at) (sym (gather_more bytes4 (drop from words) i 0 l))
+      over_chain b c d at (at + 4 * i) (gather bytes4 (take i words)) (bytes4 (get_or words i 0)) (omega arith)
+      (omega (arith, words_length (take i words), length-take-le i words (omega arith))) e f
+      ∙ ap (overwrite b at) (sym (gather_more bytes4 words i 0 h))
 
-  pub words_end : (c : List ℕ) (i n : ℕ) → i ≡ n
-      → c ≡ overwrite b at (gather bytes4 (take i (drop from words)))
-      → c ≡ overwrite b at (gather bytes4 (take n (drop from words)))
-  words_end c i n k e = e ∙ ap (λ (m : ℕ). overwrite b at (gather bytes4 (take m (drop from words)))) k
+  pub words_end : (c : List ℕ) (i : ℕ) → i ≡ length words → c ≡ overwrite b at (gather bytes4 (take i words)) → c ≡ overwrite b at (gather bytes4 words)
+  words_end c i k e = e ∙ ap (λ (ws : List ℕ). overwrite b at (gather bytes4 ws)) (take_all i words (omega arith))
 
 pub part_length : (words : List ℕ) (from n : ℕ) → from + n ≤ length words → length (gather bytes4 (take n (drop from words))) ≡ 4 * n
 part_length words from n h = words_length (take n (drop from words)) ∙ ap (λ (k : ℕ). 4 * k) (length-take-le n (drop from words) (omega (arith, length-drop from words)))
 
 -- the first forty bytes
-flags_are : (closed awaited : Bool) → bytes4 (1 + flag closed * 256 + flag awaited * 65536) ++ bytes4 0 ≡ 1 ∷ flag closed ∷ flag awaited ∷ 0 ∷ 0 ∷ 0 ∷ 0 ∷ 0 ∷ []
-flags_are true true = refl
-flags_are true false = refl
-flags_are false true = refl
-flags_are false false = refl
-
-pub flag_few : (t : Bool) → flag t < 2
-flag_few true = omega arith
-flag_few false = omega arith
+pub flag_from : (t : Bool) → from_bool t ≡ flag t
+flag_from true = refl
+flag_from false = refl
 
 pub head_length : (closed awaited : Bool) (place units depth bound : ℕ) → length (head_bytes closed awaited place units depth bound) ≡ 40
 unfolding head_bytes
 head_length closed awaited place units depth bound = refl
 
-pub head_end : (b b₁ b₂ b₃ b₄ b₅ b₆ : List ℕ) (closed awaited : Bool) (c a flags place units depth bound : ℕ)
-    → c ≡ flag closed → a ≡ flag awaited → flags ≡ 1 + c * 256 + a * 65536
-    → b₁ ≡ overwrite b 0 (bytes4 flags) → b₂ ≡ overwrite b₁ 4 (bytes4 0) → b₃ ≡ overwrite b₂ 8 (bytes8 place) → b₄ ≡ overwrite b₃ 16 (bytes8 units)
+pub head_end : (b b₂ b₃ b₄ b₅ b₆ : List ℕ) (closed awaited : Bool) (c a place units depth bound : ℕ)
+    → c ≡ flag closed → a ≡ flag awaited
+    → b₂ ≡ overwrite b 0 (1 ∷ c ∷ a ∷ 0 ∷ 0 ∷ 0 ∷ 0 ∷ 0 ∷ []) → b₃ ≡ overwrite b₂ 8 (bytes8 place) → b₄ ≡ overwrite b₃ 16 (bytes8 units)
     → b₅ ≡ overwrite b₄ 24 (bytes8 depth) → b₆ ≡ overwrite b₅ 32 (bytes8 bound)
     → b₆ ≡ overwrite b 0 (head_bytes closed awaited place units depth bound)
 unfolding head_bytes
-head_end b b₁ b₂ b₃ b₄ b₅ b₆ closed awaited c a flags place units depth bound ec ea ef e₁ e₂ e₃ e₄ e₅ e₆ =
+head_end b b₂ b₃ b₄ b₅ b₆ closed awaited c a place units depth bound ec ea e₂ e₃ e₄ e₅ e₆ =
     let first : List ℕ = 1 ∷ flag closed ∷ flag awaited ∷ 0 ∷ 0 ∷ 0 ∷ 0 ∷ 0 ∷ [] in
-    let n : flags ≡ 1 + flag closed * 256 + flag awaited * 65536 = omega arith in
-    let f₂ : b₂ ≡ overwrite b 0 first = over_chain b b₁ b₂ 0 4 (bytes4 flags) (bytes4 0) (omega arith) refl e₁ e₂ ∙ ap (λ (k : ℕ). overwrite b 0 (bytes4 k ++ bytes4 0)) n ∙ ap (overwrite b 0) (flags_are closed awaited) in
+    let f₂ : b₂ ≡ overwrite b 0 first = e₂ ∙ ap₂ (λ (x y : ℕ). overwrite b 0 (1 ∷ x ∷ y ∷ 0 ∷ 0 ∷ 0 ∷ 0 ∷ 0 ∷ [])) ec ea in
     let f₃ : b₃ ≡ overwrite b 0 (first ++ bytes8 place) = over_chain b b₂ b₃ 0 8 first (bytes8 place) (omega arith) refl f₂ e₃ in
     let f₄ : b₄ ≡ overwrite b 0 (first ++ bytes8 place ++ bytes8 units) = over_chain b b₃ b₄ 0 16 (first ++ bytes8 place) (bytes8 units) (omega arith) refl f₃ e₄ in
     let f₅ : b₅ ≡ overwrite b 0 (first ++ bytes8 place ++ bytes8 units ++ bytes8 depth) = over_chain b b₄ b₅ 0 24 (first ++ bytes8 place ++ bytes8 units) (bytes8 depth) (omega arith) refl f₄ e₅ in
@@ -175,9 +164,6 @@ module _ (levels spaces strands : List ℕ) (m : length levels ≡ 192) (n : len
   levels_end b c k h e = e ∙ ap (λ (n : ℕ). overwrite b 1064 (gather (level_words levels spaces strands) (tabulate (λ (i : ℕ). i) 0 n))) h
 
 -- the whole
-pub bindings_end : (b c words : List ℕ) → length words ≡ 256 → c ≡ overwrite b 40 (gather bytes4 (take 256 (drop 0 words))) → c ≡ overwrite b 40 (gather bytes4 words)
-bindings_end b c words l e = e ∙ ap (λ (ws : List ℕ). overwrite b 40 (gather bytes4 ws)) (take_all 256 words (omega arith))
-
 pub session_end : (b b₁ b₂ b₃ : List ℕ) (z : Session) → length z.scope.bindings ≡ 256
     → b₁ ≡ overwrite b 0 (head_bytes z.closed z.awaited z.place z.units z.scope.depth z.scope.bound)
     → b₂ ≡ overwrite b₁ 40 (gather bytes4 z.scope.bindings)

@@ -19,7 +19,7 @@ abbrev pub asked : (ℕ → Bool) → ℕ → ℕ → Bool
 asked p i n = all p (tabulate (λ (k : ℕ). k) i n)
 
 -- tests that say the same, at other numbers
-asked_same : (p q : ℕ → Bool) (i j n : ℕ) → ((k : ℕ) → k < n → p (i + k) ≡ q (j + k)) → asked p i n ≡ asked q j n
+pub asked_same : (p q : ℕ → Bool) (i j n : ℕ) → ((k : ℕ) → k < n → p (i + k) ≡ q (j + k)) → asked p i n ≡ asked q j n
 unfolding all tabulate
 asked_same p q i j n h = each p i n ∙ ap (all (λ (t : Bool). t)) (tabulate_same p q i j n h) ∙ sym (each q j n)
   where

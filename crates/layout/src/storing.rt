@@ -1,16 +1,15 @@
 // A session in a host's bytes: tested, read and stored.
-ghost use Rattle.std.specs.Prelude.{◌≡◌, ℕ, ◌+◌, ◌*◌, ◌≤◌, ◌<◌, length, get_or, take, drop, eqb};
+ghost use Rattle.std.specs.Prelude.{◌≡◌, ℕ, ◌+◌, ◌*◌, ◌≤◌, ◌<◌, length, get_or, eqb};
 ghost use Rattle.laws.specs.Lists.{all, tabulate};
 ghost use Rattle.laws.specs.Gather.{gather};
 ghost use Rattle.laws.specs.Over.{overwrite};
 ghost use Rattle.strands.specs.Levels.{level_names, level_spaces, level_strands};
 ghost use Rattle.sessions.specs.Sessions.{fresh_of, head_of, session_at};
-ghost use Rattle.layout.specs.Layout.{session_size, word4, word8, bytes4, bytes8, flag, binding_at, strand_at, session_in, packs, holds_session, session_bytes};
+ghost use Rattle.layout.specs.Layout.{session_size, word4, word8, bytes4, bytes8, strand_at, session_in, packs, holds_session, session_bytes};
 ghost use Rattle.layout.specs.Parts.{head_bytes, level_words};
 
 use sessions::Head;
 use strands::LEVELS;
-use table::words::word;
 
 // A session's bytes.
 pub const SESSION_SIZE: usize = 7208;
@@ -20,7 +19,7 @@ fn word4_at(b: &[u8], at: usize) -> u32
     requires { at + 4 ≤ length b.now }
     ensures { result ≡ word4 b.now at }
 {
-    word(b[at + 3], b[at + 2], b[at + 1], b[at])
+    u32::from_le_bytes([b[at], b[at + 1], b[at + 2], b[at + 3]])
 }
 
 // The number in eight bytes.
@@ -33,32 +32,14 @@ pub fn word8_at(b: &[u8], at: usize) -> usize
     (low as usize) + (high as usize) * 4294967296
 }
 
-// The n numbers from `at` on, read into `words` from `from` on.
-fn words_in(b: &[u8], at: usize, words: &mut [u32], from: usize, n: usize)
-    requires { (at + 4 * n ≤ length b.now) × (from + n ≤ length words.old) }
-    ensures { words.new ≡ overwrite words.old from (tabulate (λ (i : ℕ). word4 b.now (at + 4 * i)) 0 n) }
+// The numbers from `at` on, as many as `words` has.
+fn words_in(b: &[u8], at: usize, words: &mut [u32])
+    requires { at + 4 * length words.old ≤ length b.now }
+    ensures { words.new ≡ tabulate (λ (i : ℕ). word4 b.now (at + 4 * i)) 0 (length words.old) }
 {
-    let mut i = 0;
-    while i < n {
-        words[from + i] = word4_at(b, at + 4 * i);
-        i += 1;
+    for i in 0..words.len() {
+        words[i] = word4_at(b, at + 4 * i);
     }
-}
-
-fn levels_in(b: &[u8], words: &mut [u32; LEVELS])
-    requires { session_size ≤ length b.now }
-    ensures { words.new ≡ tabulate (λ (i : ℕ). word4 b.now (1064 + 4 * i)) 0 1536 }
-{
-    let all: &mut [u32] = words;
-    words_in(b, 1064, all, 0, LEVELS);
-}
-
-fn bindings_in(b: &[u8], words: &mut [u32; 256])
-    requires { session_size ≤ length b.now }
-    ensures { words.new ≡ tabulate (λ (i : ℕ). word4 b.now (binding_at i)) 0 256 }
-{
-    let all: &mut [u32] = words;
-    words_in(b, 40, all, 0, 256);
 }
 
 // The arrays of the session that the bytes hold, its levels in one.
@@ -70,8 +51,8 @@ pub fn arrays_in(b: &[u8], levels: &mut [u32; LEVELS], bindings: &mut [u32; 256]
         × (level_spaces levels.new ≡ z.spaces)
         × (level_strands levels.new ≡ z.strands) }
 {
-    levels_in(b, levels);
-    bindings_in(b, bindings);
+    words_in(b, 1064, levels);
+    words_in(b, 40, bindings);
 }
 
 // Its numbers.
@@ -102,54 +83,29 @@ fn no_padding(b: &[u8]) -> bool
     requires { session_size ≤ length b.now }
     ensures { result ≡ all (λ (i : ℕ). eqb (get_or b.now i 0) 0) (tabulate (λ (i : ℕ). i) 3 5) }
 {
-    let mut i = 3;
-    while i < 8 {
-        if b[i] != 0 {
-            return false;
-        }
-        i += 1;
-    }
-    true
+    b[3..8].iter().all(|x| *x == 0)
 }
 
-// The same of the four bytes of each level.
-fn no_level_padding(b: &[u8]) -> bool
-    requires { session_size ≤ length b.now }
-    ensures { result ≡ all (λ (k : ℕ). eqb (word4 b.now (1064 + 96 * k + 28)) 0) (tabulate (λ (k : ℕ). k) 0 64) }
+// Whether each of n numbers, so many bytes apart, is 0. All are asked, with no early way out.
+fn words_zero(b: &[u8], at: usize, step: usize, n: usize) -> bool
+    requires { (j : ℕ) → j < n → at + step * j + 4 ≤ length b.now }
+    ensures { result ≡ all (λ (j : ℕ). eqb (word4 b.now (at + step * j)) 0) (tabulate (λ (j : ℕ). j) 0 n) }
 {
     let mut all = true;
-    let mut k = 0;
-    while k < 64 {
-        all = all & (word4_at(b, 1064 + 96 * k + 28) == 0);
-        k += 1;
+    for j in 0..n {
+        all &= word4_at(b, at + step * j) == 0;
     }
     all
 }
 
-// Whether each of n numbers from `at` on is 0.
-fn words_zero(b: &[u8], at: usize, n: usize) -> bool
-    requires { at + 4 * n ≤ length b.now }
-    ensures { result ≡ all (λ (j : ℕ). eqb (word4 b.now (at + 4 * j)) 0) (tabulate (λ (j : ℕ). j) 0 n) }
-{
-    let mut all = true;
-    let mut j = 0;
-    while j < n {
-        all = all & (word4_at(b, at + 4 * j) == 0);
-        j += 1;
-    }
-    all
-}
-
-// Whether each of them packs a strand.
+// Whether each of n numbers from `at` on packs a strand. All are asked.
 fn words_pack(b: &[u8], at: usize, n: usize) -> bool
     requires { at + 4 * n ≤ length b.now }
     ensures { result ≡ all (λ (j : ℕ). packs (word4 b.now (at + 4 * j))) (tabulate (λ (j : ℕ). j) 0 n) }
 {
     let mut all = true;
-    let mut j = 0;
-    while j < n {
-        all = all & packs_strand(word4_at(b, at + 4 * j));
-        j += 1;
+    for j in 0..n {
+        all &= packs_strand(word4_at(b, at + 4 * j));
     }
     all
 }
@@ -159,25 +115,17 @@ fn level_packs(b: &[u8], at: usize) -> bool
     requires { at + 64 ≤ length b.now }
     ensures { result ≡ all (λ (j : ℕ). packs (word4 b.now (at + 4 * j))) (tabulate (λ (j : ℕ). j) 0 16) }
 {
-    if !words_pack(b, at, 4) {
-        return false;
-    }
-    if words_zero(b, at + 16, 12) {
-        return true;
-    }
-    words_pack(b, at + 16, 12)
+    words_pack(b, at, 4) && (words_zero(b, at + 16, 4, 12) || words_pack(b, at + 16, 12))
 }
 
 fn strands_pack(b: &[u8]) -> bool
     requires { session_size ≤ length b.now }
     ensures { result ≡ all (λ (i : ℕ). packs (word4 b.now (strand_at i))) (tabulate (λ (i : ℕ). i) 0 1024) }
 {
-    let mut k = 0;
-    while k < 64 {
+    for k in 0..64 {
         if !level_packs(b, 1064 + 96 * k + 32) {
             return false;
         }
-        k += 1;
     }
     true
 }
@@ -199,7 +147,8 @@ pub fn holds_session(b: &[u8]) -> bool
     if !no_padding(b) {
         return false;
     }
-    if !no_level_padding(b) {
+    // The number of each level that is free.
+    if !words_zero(b, 1092, 96, 64) {
         return false;
     }
     strands_pack(b)
@@ -210,10 +159,7 @@ fn put4(b: &mut [u8], at: usize, n: u32)
     requires { at + 4 ≤ length b.old }
     ensures { b.new ≡ overwrite b.old at (bytes4 n) }
 {
-    b[at] = (n % 256) as u8;
-    b[at + 1] = (n / 256 % 256) as u8;
-    b[at + 2] = (n / 65536 % 256) as u8;
-    b[at + 3] = (n / 16777216 % 256) as u8;
+    b[at..at + 4].copy_from_slice(&n.to_le_bytes());
 }
 
 // A number stored in eight bytes.
@@ -221,51 +167,31 @@ pub fn put8(b: &mut [u8], at: usize, n: usize)
     requires { at + 8 ≤ length b.old }
     ensures { b.new ≡ overwrite b.old at (bytes8 n) }
 {
-    put4(b, at, (n % 4294967296) as u32);
-    put4(b, at + 4, (n / 4294967296) as u32);
+    b[at..at + 8].copy_from_slice(&n.to_le_bytes());
 }
 
-// The n numbers from `from` on, stored one after the other.
-fn put_words(b: &mut [u8], at: usize, words: &[u32], from: usize, n: usize)
-    requires { (at + 4 * n ≤ length b.old) × (from + n ≤ length words.now) }
-    ensures { b.new ≡ overwrite b.old at (gather bytes4 (take n (drop from words.now))) }
+// Numbers, stored one after the other.
+fn put_words(b: &mut [u8], at: usize, words: &[u32])
+    requires { at + 4 * length words.now ≤ length b.old }
+    ensures { b.new ≡ overwrite b.old at (gather bytes4 words.now) }
 {
-    let mut i = 0;
-    while i < n {
-        put4(b, at + 4 * i, words[from + i]);
-        i += 1;
+    for i in 0..words.len() {
+        put4(b, at + 4 * i, words[i]);
     }
-}
-
-fn flag_of(t: bool) -> u32
-    ensures { result ≡ flag t }
-{
-    if t {
-        return 1;
-    }
-    0
 }
 
 // The first forty bytes.
-fn put_head(
-    b: &mut [u8],
-    closed: bool,
-    awaited: bool,
-    place: usize,
-    units: usize,
-    depth: usize,
-    bound: usize,
-)
+fn put_head(b: &mut [u8], head: Head)
     requires { 40 ≤ length b.old }
-    ensures { b.new ≡ overwrite b.old 0 (head_bytes closed awaited place units depth bound) }
+    ensures { b.new ≡ overwrite b.old 0 (head_bytes head.closed head.awaited head.place head.units head.depth head.bound) }
 {
-    let flags = 1 + flag_of(closed) * 256 + flag_of(awaited) * 65536;
-    put4(b, 0, flags);
-    put4(b, 4, 0);
-    put8(b, 8, place);
-    put8(b, 16, units);
-    put8(b, 24, depth);
-    put8(b, 32, bound);
+    let closed = u8::from(head.closed);
+    let awaited = u8::from(head.awaited);
+    b[..8].copy_from_slice(&[1, closed, awaited, 0, 0, 0, 0, 0]);
+    put8(b, 8, head.place);
+    put8(b, 16, head.units);
+    put8(b, 24, head.depth);
+    put8(b, 32, head.bound);
 }
 
 // The 96 bytes of the k-th level.
@@ -274,30 +200,20 @@ fn put_level(b: &mut [u8], k: usize, levels: &[u32])
     ensures { b.new ≡ overwrite b.old (1064 + 96 * k) (level_words (level_names levels.now) (level_spaces levels.now) (level_strands levels.now) k) }
 {
     let at = 1064 + 96 * k;
-    put_words(b, at, levels, 24 * k, 3);
-    put_words(b, at + 12, levels, 24 * k + 3, 4);
+    let from = 24 * k;
+    put_words(b, at, &levels[from..from + 3]);
+    put_words(b, at + 12, &levels[from + 3..from + 7]);
     put4(b, at + 28, 0);
-    put_words(b, at + 32, levels, 24 * k + 8, 16);
+    put_words(b, at + 32, &levels[from + 8..from + 24]);
 }
 
 fn put_levels(b: &mut [u8], levels: &[u32; LEVELS])
     requires { session_size ≤ length b.old }
     ensures { b.new ≡ overwrite b.old 1064 (gather (level_words (level_names levels.now) (level_spaces levels.now) (level_strands levels.now)) (tabulate (λ (k : ℕ). k) 0 64)) }
 {
-    let all: &[u32] = levels;
-    let mut k = 0;
-    while k < 64 {
-        put_level(b, k, all);
-        k += 1;
+    for k in 0..64 {
+        put_level(b, k, levels);
     }
-}
-
-fn put_bindings(b: &mut [u8], bindings: &[u32; 256])
-    requires { session_size ≤ length b.old }
-    ensures { (b.new ≡ overwrite b.old 40 (gather bytes4 bindings.now)) × (length bindings.now ≡ 256) }
-{
-    let all: &[u32] = bindings;
-    put_words(b, 40, all, 0, 256);
 }
 
 // The bytes of a session's numbers and arrays, laid over the first of `b`.
@@ -305,16 +221,8 @@ pub fn put_session(b: &mut [u8], head: Head, levels: &[u32; LEVELS], bindings: &
     requires { session_size ≤ length b.old }
     ensures { b.new ≡ overwrite b.old 0 (session_bytes (session_at head levels.now bindings.now)) }
 {
-    put_head(
-        b,
-        head.closed,
-        head.awaited,
-        head.place,
-        head.units,
-        head.depth,
-        head.bound,
-    );
-    put_bindings(b, bindings);
+    put_head(b, head);
+    put_words(b, 40, bindings);
     put_levels(b, levels);
 }
 
@@ -323,10 +231,6 @@ pub fn put_fresh(b: &mut [u8])
     requires { session_size ≤ length b.old }
     ensures { b.new ≡ overwrite b.old 0 (session_bytes fresh_of) }
 {
-    let mut i = 0;
-    while i < SESSION_SIZE {
-        b[i] = 0;
-        i += 1;
-    }
+    b[..SESSION_SIZE].fill(0);
     b[0] = 1;
 }

@@ -6,7 +6,8 @@
 --     start_told                     whether a byte can begin a character
 --     char_taken, char_refused       a byte below 80 in text
 --     text_taken, text_refused, text_high   a byte of a text
-use Prim.Native.Nat.{ℕ, zero, suc, ◌+◌, ◌-◌, ◌≤◌, ◌<◌}
+use Rattle.std.specs.Prelude.{Ok, Err}
+use Prim.Native.Nat.{ℕ, ◌+◌, ◌-◌, ◌≤◌, ◌<◌}
 use mathlib.Core.Path.{◌≡◌, refl, sym, ap, ◌∙◌}
 use mathlib.Core.List.{List, [], ◌∷◌, ◌++◌, append_assoc}
 use mathlib.Core.Bool.{Bool, true, false, not, cond, ◌&&◌}
@@ -30,8 +31,7 @@ use Rattle.lexer.specs.Shortcuts.{is_char}
 use Rattle.lexer.specs.Characters.{char_step, char_end}
 use Rattle.lexer.specs.Values.{text_at}
 use Rattle.lexer.specs.declared.Stop.TheVariants.{Bad, Cut}
-use Rattle.lexer.specs.declared.Read.{Read}
-use Rattle.lexer.specs.declared.Read.TheVariants.{End, Stopped}
+use Rattle.lexer.specs.Reads.{Read}
 use Rattle.lexer.proofs.CharacterLaws.{PassedTo, end_of, char_inside, char_low, empty, char_rest}
 use Rattle.lexer.proofs.NameBits.{char_ascii}
 
@@ -39,23 +39,23 @@ pub record CharHeld (x : Set) (s : List ℕ) (p : Read) (f : Form) (i : ℕ) : T
   pub begun : List ℕ
   pub known : f ≡ form_of begun
   pub small : Bounded f
-  pub left : run (Stopped Cut) (char_step x) begun (drop i s) i ≡ p
+  pub left : run (Err Cut) (char_step x) begun (drop i s) i ≡ p
 
 pub held_first : (x : Set) (s : List ℕ) (at : ℕ) (f : Form) → (f ≡ fresh) × Bounded f → CharHeld x s (char_end x s at) f at
 unfolding char_end form_of form_from
 held_first x s at f h = record { begun = []; known = h.0; small = h.1; left = refl }
 
 module _ (x : Set) (s : List ℕ) (p : Read) (f : Form) (i : ℕ) (h : CharHeld x s p f i) where
-  pub held_out : length s ≤ i → Stopped Cut ≡ p
-  held_out le = run_out (Stopped Cut) (char_step x) p h.begun s i h.left le
+  pub held_out : length s ≤ i → Err Cut ≡ p
+  held_out le = run_out (Err Cut) (char_step x) p h.begun s i h.left le
 
   -- g: the form with the byte at i; t: whether the set has it
   module _ (lt : i < length s) (g : Form) (n : (g ≡ next_form f (get_or s i 0)) × Bounded g) (t : Bool) (e : t ≡ form_begins (ranges_of x) g) where
     same : t ≡ begins x h.begun (get_or s i 0)
     same = e ∙ ap (form_begins (ranges_of x)) (n.0 ∙ ap (λ (k : Form). next_form k (get_or s i 0)) h.known) ∙ sym (begins_form x h.begun (get_or s i 0))
 
-    pub held_bad : not t ≡ true → Stopped (Bad i) ≡ p
-    held_bad q = run_stop (Stopped Cut) (char_step x) p h.begun s i h.left lt (Stopped (Bad i)) (rw (← same, not-true t q))
+    pub held_bad : not t ≡ true → Err (Bad i) ≡ p
+    held_bad q = run_stop (Err Cut) (char_step x) p h.begun s i h.left lt (Err (Bad i)) (rw (← same, not-true t q))
 
     module _ (q : not t ≡ false) where
       allowed : begins x h.begun (get_or s i 0) ≡ true
@@ -64,8 +64,8 @@ module _ (x : Set) (s : List ℕ) (p : Read) (f : Form) (i : ℕ) (h : CharHeld 
       whole : is_form (h.begun ++ (get_or s i 0 ∷ [])) ≡ eqb g.left 0
       whole = whole_left x h.begun (get_or s i 0) allowed ∙ ap (λ (k : Form). eqb k.left 0) (sym (n.0 ∙ ap (λ (k : Form). next_form k (get_or s i 0)) h.known))
 
-      pub held_whole : g.left ≡ 0 → End (i + 1) ≡ p
-      held_whole z = run_stop (Stopped Cut) (char_step x) p h.begun s i h.left lt (End (i + 1)) (rw (allowed, whole, eq-eqb g.left 0 z))
+      pub held_whole : g.left ≡ 0 → Ok (i + 1) ≡ p
+      held_whole z = run_stop (Err Cut) (char_step x) p h.begun s i h.left lt (Ok (i + 1)) (rw (allowed, whole, eq-eqb g.left 0 z))
 
       pub held_on : (g.left ≡ 0 → ⊥) → CharHeld x s p g (i + 1)
       held_on z =
@@ -73,7 +73,7 @@ module _ (x : Set) (s : List ℕ) (p : Read) (f : Form) (i : ℕ) (h : CharHeld 
             begun = h.begun ++ (get_or s i 0 ∷ []);
             known = n.0 ∙ ap (λ (k : Form). next_form k (get_or s i 0)) h.known ∙ sym (form_more h.begun (get_or s i 0));
             small = n.1;
-            left = run_go (Stopped Cut) (char_step x) p h.begun s i h.left lt (h.begun ++ (get_or s i 0 ∷ [])) (rw (allowed, whole, ne_eqb g.left 0 z));
+            left = run_go (Err Cut) (char_step x) p h.begun s i h.left lt (h.begun ++ (get_or s i 0 ∷ [])) (rw (allowed, whole, ne_eqb g.left 0 z));
           }
 
 -- ---- a character that stands whole
@@ -105,7 +105,7 @@ module _ (s : List ℕ) (at : ℕ) (f : Form) (i : ℕ) (h : WholeHeld s at f i)
         bytes = next_bytes;
       }
 
-  pub whole_found : (x : Set) (t : Bool) → t ≡ form_begins (ranges_of x) g → t ≡ true → g.left ≡ 0 → char_end x s at ≡ End (at + (i + 1 - at))
+  pub whole_found : (x : Set) (t : Bool) → t ≡ form_begins (ranges_of x) g → t ≡ true → g.left ≡ 0 → char_end x s at ≡ Ok (at + (i + 1 - at))
   unfolding char_end
   whole_found x t e q z =
       let b = begins_so x h.begun (get_or s i 0) (begins_form x h.begun (get_or s i 0) ∙ ap (form_begins (ranges_of x)) (sym next_known) ∙ sym e ∙ q) in
@@ -113,15 +113,11 @@ module _ (s : List ℕ) (at : ℕ) (f : Form) (i : ℕ) (h : WholeHeld s at f i)
       let l : List ℕ = h.begun ++ (get_or s i 0 ∷ []) in
       let w : utf8 b.character ≡ [] ++ l = b.form ∙ ap (λ (r : List ℕ). h.begun ++ (get_or s i 0 ∷ r)) (empty b.rest k) in
       let far : length l ≡ i + 1 - at = omega (arith, h.far, length-append h.begun (get_or s i 0 ∷ [])) in
-      let run : run (Stopped Cut) (char_step x) [] (l ++ drop (i + 1) s) at ≡ End (at + length l) = char_rest x b.character b.allowed l [] (drop (i + 1) s) at (omega (arith, length-append h.begun (get_or s i 0 ∷ []))) w in
+      let run : run (Err Cut) (char_step x) [] (l ++ drop (i + 1) s) at ≡ Ok (at + length l) = char_rest x b.character b.allowed l [] (drop (i + 1) s) at (omega (arith, length-append h.begun (get_or s i 0 ∷ []))) w in
       rw (next_bytes, ← far) run
 
-pub whole_inside : (x : Set) (s : List ℕ) (at n : ℕ) → char_end x s at ≡ End (at + n) → at + n ≤ length s
+pub whole_inside : (x : Set) (s : List ℕ) (at n : ℕ) → char_end x s at ≡ Ok (at + n) → at + n ≤ length s
 whole_inside x s at n e = (end_of (PassedTo s at) s at (at + n) (char_end x s at) (char_inside x s at) e).1
-
-pub whole_fits : (x : Set) (s : List ℕ) (i n : ℕ) → i < length s → ((n ≡ 0 → ⊥) → char_end x s i ≡ End (i + n)) → i + n ≤ length s
-whole_fits x s i zero h f = omega arith
-whole_fits x s i (suc n) h f = whole_inside x s i (suc n) (f (λ z. omega arith))
 
 pub start_told : (x : Set) (b : ℕ) (f g : Form) (t : Bool) → (f ≡ fresh) × Bounded f → (g ≡ next_form f b) × Bounded g → t ≡ form_begins (ranges_of x) g → t ≡ begins x [] b
 unfolding form_of form_from
@@ -129,15 +125,15 @@ start_told x b f g t h n e = e ∙ ap (form_begins (ranges_of x)) (n.0 ∙ ap (�
 
 -- ---- text
 module _ (s : List ℕ) (i : ℕ) (h : i < length s) where
-  low : get_or s i 0 < 0x80 → char_end set.Char s i ≡ cond (is_char (get_or s i 0)) (End (i + 1)) (Stopped (Bad i))
-  low lt = char_low set.Char s i h lt ∙ ap (λ (u : Bool). cond u (End (i + 1)) (Stopped (Bad i))) (sym (char_ascii (get_or s i 0) lt))
+  low : get_or s i 0 < 0x80 → char_end set.Char s i ≡ cond (is_char (get_or s i 0)) (Ok (i + 1)) (Err (Bad i))
+  low lt = char_low set.Char s i h lt ∙ ap (λ (u : Bool). cond u (Ok (i + 1)) (Err (Bad i))) (sym (char_ascii (get_or s i 0) lt))
 
   module _ (lt : get_or s i 0 < 0x80) (t : Bool) (e : t ≡ is_char (get_or s i 0)) where
-    pub char_taken : t ≡ true → End (i + 1) ≡ char_end set.Char s i
-    char_taken q = sym (low lt ∙ ap (λ (u : Bool). cond u (End (i + 1)) (Stopped (Bad i))) (sym e ∙ q))
+    pub char_taken : t ≡ true → Ok (i + 1) ≡ char_end set.Char s i
+    char_taken q = sym (low lt ∙ ap (λ (u : Bool). cond u (Ok (i + 1)) (Err (Bad i))) (sym e ∙ q))
 
-    pub char_refused : t ≡ false → Stopped (Bad i) ≡ char_end set.Char s i
-    char_refused q = sym (low lt ∙ ap (λ (u : Bool). cond u (End (i + 1)) (Stopped (Bad i))) (sym e ∙ q))
+    pub char_refused : t ≡ false → Err (Bad i) ≡ char_end set.Char s i
+    char_refused q = sym (low lt ∙ ap (λ (u : Bool). cond u (Ok (i + 1)) (Err (Bad i))) (sym e ∙ q))
 
 pub text_test : (b : ℕ) (t : Bool) → t ≡ is_char b → (t && not (eqb b 0x3C)) ≡ (is_char b && not (eqb b 0x3C))
 text_test b t e = rw e
@@ -149,17 +145,17 @@ module _ (s : List ℕ) (i : ℕ) (h : i < length s) where
   other r n e = rw (ne_eqb (get_or s i 0) 0x3C n) e
 
   module _ (lt : get_or s i 0 < 0x80) (t : Bool) (e : t ≡ (is_char (get_or s i 0) && not (eqb (get_or s i 0) 0x3C))) where
-    pub text_taken : not t ≡ false → End (i + 1) ≡ text_at s (get_or s i 0) i
+    pub text_taken : not t ≡ false → Ok (i + 1) ≡ text_at s (get_or s i 0) i
     text_taken q =
         let b = get_or s i 0 in
         let y : (is_char b && not (eqb b 0x3C)) ≡ true = sym e ∙ not-false t q in
-        other (End (i + 1)) (eqb-false b 0x3C (not-true (eqb b 0x3C) (and_right (is_char b) (not (eqb b 0x3C)) y))) (char_taken s i h lt (is_char b) refl (and_left (is_char b) (not (eqb b 0x3C)) y))
+        other (Ok (i + 1)) (eqb-false b 0x3C (not-true (eqb b 0x3C) (and_right (is_char b) (not (eqb b 0x3C)) y))) (char_taken s i h lt (is_char b) refl (and_left (is_char b) (not (eqb b 0x3C)) y))
 
-    pub text_refused : not t ≡ true → Stopped (Bad i) ≡ text_at s (get_or s i 0) i
+    pub text_refused : not t ≡ true → Err (Bad i) ≡ text_at s (get_or s i 0) i
     unfolding text_at
     text_refused q = by (eqb (get_or s i 0) 0x3C) refl (is_char (get_or s i 0)) refl (sym e ∙ not-true t q)
       where
-        by : (x : Bool) → eqb (get_or s i 0) 0x3C ≡ x → (y : Bool) → is_char (get_or s i 0) ≡ y → (y && not x) ≡ false → Stopped (Bad i) ≡ cond x (Stopped (Bad i)) (char_end set.Char s i)
+        by : (x : Bool) → eqb (get_or s i 0) 0x3C ≡ x → (y : Bool) → is_char (get_or s i 0) ≡ y → (y && not x) ≡ false → Err (Bad i) ≡ cond x (Err (Bad i)) (char_end set.Char s i)
         by true p y c k = refl
         by false p true c k = absurd (differ k)
         by false p false c k = char_refused s i h lt (is_char (get_or s i 0)) refl c

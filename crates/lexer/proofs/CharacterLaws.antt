@@ -6,6 +6,7 @@
 --     Inner, char_through            a machine whose state holds the bytes of a character
 --     char_rest                      the bytes with which a character that was begun is whole
 --     char_found                     the character that was read
+use Rattle.std.specs.Prelude.{Ok, Err}
 use Prim.Native.Nat.{ℕ, ◌+◌, ◌≤◌, ◌<◌}
 use mathlib.Core.Path.{◌≡◌, refl, sym, ap, subst, ◌∙◌}
 use mathlib.Core.List.{List, [], ◌∷◌, ◌++◌, append_assoc}
@@ -26,18 +27,17 @@ use Rattle.characters.proofs.Laws.{begins_so, begins_some, whole_left, form_shor
 use Rattle.lexer.specs.Stops.{after_read}
 use Rattle.lexer.specs.Characters.{char_step, char_end}
 use Rattle.lexer.specs.declared.Stop.TheVariants.{Bad, Long, Cut}
-use Rattle.lexer.specs.declared.Read.{Read}
-use Rattle.lexer.specs.declared.Read.TheVariants as read
+use Rattle.lexer.specs.Reads.{Read}
 
 -- P: what holds of the end. A byte that cannot stand there is inside the scene; a character, a reference and a value are never too long
 abbrev pub Within : (ℕ → Type 0) → List ℕ → ℕ → Read → Type 0
-Within P s at (read.End j) = P j
-Within P s at (read.Stopped (Bad j)) = (at ≤ j) × (j < length s)
-Within P s at (read.Stopped (Long j)) = ⊥
-Within P s at (read.Stopped Cut) = Unit
+Within P s at (Ok j) = P j
+Within P s at (Err (Bad j)) = (at ≤ j) × (j < length s)
+Within P s at (Err (Long j)) = ⊥
+Within P s at (Err Cut) = Unit
 
 module _ (P : ℕ → Type 0) (s : List ℕ) (at j : ℕ) (r : Read) (w : Within P s at r) where
-  pub end_of : r ≡ read.End j → P j
+  pub end_of : r ≡ Ok j → P j
   end_of e = subst (Within P s at) e w
 
 -- the end of a character or a reference
@@ -46,7 +46,7 @@ PassedTo s at j = (at < j) × (j ≤ length s)
 
 pub char_inside : (x : Set) (s : List ℕ) (at : ℕ) → Within (PassedTo s at) s at (char_end x s at)
 unfolding char_end
-char_inside x s at = run_held (read.Stopped Cut) (char_step x) s (λ (begun : List ℕ) (j : ℕ). at ≤ j) In tt turn [] at (omega arith)
+char_inside x s at = run_held (Err Cut) (char_step x) s (λ (begun : List ℕ) (j : ℕ). at ≤ j) In tt turn [] at (omega arith)
   where
     In : Read → Type 0
     In = Within (PassedTo s at) s at
@@ -60,27 +60,27 @@ char_inside x s at = run_held (read.Stopped Cut) (char_step x) s (λ (begun : Li
         (λ _. holds_cond (Turn j) (is_form (begun ++ (get_or s j 0 ∷ []))) (λ _. omega arith) (λ _. omega arith))
         (λ _. (lo, hi))
 
-pub char_stable : (x : Set) (s t : List ℕ) (at : ℕ) → Stable (read.Stopped Cut) (char_end x s at) (char_end x (s ++ t) at)
+pub char_stable : (x : Set) (s t : List ℕ) (at : ℕ) → Stable (Err Cut) (char_end x s at) (char_end x (s ++ t) at)
 unfolding char_end
-char_stable x s t at = run_stable (read.Stopped Cut) (char_step x) [] s t at
+char_stable x s t at = run_stable (Err Cut) (char_step x) [] s t at
 
 -- a byte below 80 is a character or none
-pub char_low : (x : Set) (s : List ℕ) (at : ℕ) → at < length s → get_or s at 0 < 0x80 → char_end x s at ≡ cond (member (ranges_of x) (get_or s at 0)) (read.End (at + 1)) (read.Stopped (Bad at))
+pub char_low : (x : Set) (s : List ℕ) (at : ℕ) → at < length s → get_or s at 0 < 0x80 → char_end x s at ≡ cond (member (ranges_of x) (get_or s at 0)) (Ok (at + 1)) (Err (Bad at))
 unfolding char_end run
 char_low x s at h lt = rw (drop_here s at h, ascii_begins x (get_or s at 0) lt, ascii_whole (get_or s at 0) lt) (by (member (ranges_of x) (get_or s at 0)))
   where
-    by : (t : Bool) → follow (cond t (stop (read.End (at + 1))) (stop (read.Stopped (Bad at)))) (λ (begun : List ℕ). run (read.Stopped Cut) (char_step x) begun (drop (at + 1) s) (at + 1)) ≡ cond t (read.End (at + 1)) (read.Stopped (Bad at))
+    by : (t : Bool) → follow (cond t (stop (Ok (at + 1))) (stop (Err (Bad at)))) (λ (begun : List ℕ). run (Err Cut) (char_step x) begun (drop (at + 1) s) (at + 1)) ≡ cond t (Ok (at + 1)) (Err (Bad at))
     by true = refl
     by false = refl
 
 -- ---- a machine whose state holds the bytes of a character: `inner begun` where some are read, `whole` behind it
 module _ {St : Type 0} (x : Set) (step : St → ℕ → ℕ → RunNext St Read) (inner : List ℕ → St) (whole : St) where
   abbrev pub char_turn : List ℕ → ℕ → ℕ → RunNext St Read
-  char_turn begun b i = cond (begins x begun b) (go (cond (is_form (begun ++ (b ∷ []))) whole (inner (begun ++ (b ∷ []))))) (stop (read.Stopped (Bad i)))
+  char_turn begun b i = cond (begins x begun b) (go (cond (is_form (begun ++ (b ∷ []))) whole (inner (begun ++ (b ∷ []))))) (stop (Err (Bad i)))
 
   module _ (s : List ℕ) (same : (begun : List ℕ) → 0 < length begun → (b i : ℕ) → step (inner begun) b i ≡ char_turn begun b i) where
     Over : List ℕ → List ℕ → St → ℕ → Type 0
-    Over l begun q i = run (read.Stopped Cut) step q l i ≡ after_read read.Stopped (run (read.Stopped Cut) (char_step x) begun l i) (λ (j : ℕ). run (read.Stopped Cut) step whole (drop j s) j)
+    Over l begun q i = run (Err Cut) step q l i ≡ after_read Err (run (Err Cut) (char_step x) begun l i) (λ (j : ℕ). run (Err Cut) step whole (drop j s) j)
 
     through : (l begun : List ℕ) (q : St) (i : ℕ) → drop i s ≡ l → ((b : ℕ) (l' : List ℕ) → l ≡ b ∷ l' → step q b i ≡ char_turn begun b i) → Over l begun q i
     unfolding run Over
@@ -94,13 +94,13 @@ module _ {St : Type 0} (x : Set) (step : St → ℕ → ℕ → RunNext St Read)
         more : List ℕ
         more = begun ++ (b ∷ [])
 
-        by : drop (i + 1) s ≡ l → ((q' : St) → ((b' : ℕ) (l' : List ℕ) → l ≡ b' ∷ l' → step q' b' (i + 1) ≡ char_turn more b' (i + 1)) → Over l more q' (i + 1)) → (t u : Bool) → follow (cond t (go (cond u whole (inner more))) (stop (read.Stopped (Bad i)))) (λ (q' : St). run (read.Stopped Cut) step q' l (i + 1)) ≡ after_read read.Stopped (follow (cond t (cond u (stop (read.End (i + 1))) (go more)) (stop (read.Stopped (Bad i)))) (λ (begun' : List ℕ). run (read.Stopped Cut) (char_step x) begun' l (i + 1))) (λ (j : ℕ). run (read.Stopped Cut) step whole (drop j s) j)
+        by : drop (i + 1) s ≡ l → ((q' : St) → ((b' : ℕ) (l' : List ℕ) → l ≡ b' ∷ l' → step q' b' (i + 1) ≡ char_turn more b' (i + 1)) → Over l more q' (i + 1)) → (t u : Bool) → follow (cond t (go (cond u whole (inner more))) (stop (Err (Bad i)))) (λ (q' : St). run (Err Cut) step q' l (i + 1)) ≡ after_read Err (follow (cond t (cond u (stop (Ok (i + 1))) (go more)) (stop (Err (Bad i)))) (λ (begun' : List ℕ). run (Err Cut) (char_step x) begun' l (i + 1))) (λ (j : ℕ). run (Err Cut) step whole (drop j s) j)
         by rest ih false u = refl
         by rest ih true true = rw rest
         by rest ih true false = ih (inner more) (λ b' l' e. same more (omega (arith, length-append begun (b ∷ []))) b' (i + 1))
 
     -- from a character's first byte on
-    pub char_through : (q : St) (i : ℕ) → (i < length s → step q (get_or s i 0) i ≡ char_turn [] (get_or s i 0) i) → run (read.Stopped Cut) step q (drop i s) i ≡ after_read read.Stopped (char_end x s i) (λ (j : ℕ). run (read.Stopped Cut) step whole (drop j s) j)
+    pub char_through : (q : St) (i : ℕ) → (i < length s → step q (get_or s i 0) i ≡ char_turn [] (get_or s i 0) i) → run (Err Cut) step q (drop i s) i ≡ after_read Err (char_end x s i) (λ (j : ℕ). run (Err Cut) step whole (drop j s) j)
     unfolding Over char_end
     char_through q i h = through (drop i s) [] q i refl first
       where
@@ -117,7 +117,7 @@ empty (b ∷ l) e = absurd (omega arith)
 
 -- ---- the bytes that are left of a character
 module _ (x : Set) (c : ℕ) (allowed : member (ranges_of x) c ≡ true) where
-  pub char_rest : (rest begun u : List ℕ) (i : ℕ) → 0 < length rest → utf8 c ≡ begun ++ rest → run (read.Stopped Cut) (char_step x) begun (rest ++ u) i ≡ read.End (i + length rest)
+  pub char_rest : (rest begun u : List ℕ) (i : ℕ) → 0 < length rest → utf8 c ≡ begun ++ rest → run (Err Cut) (char_step x) begun (rest ++ u) i ≡ Ok (i + length rest)
   unfolding run
   char_rest [] begun u i h e = absurd (omega arith)
   char_rest (b ∷ []) begun u i h e =
@@ -134,13 +134,13 @@ pub record Found (x : Set) (s : List ℕ) (at j : ℕ) : Type 0 where
   pub bytes : drop at s ≡ utf8 character ++ drop j s
   pub far : at + length (utf8 character) ≡ j
 
-pub char_found : (x : Set) (s : List ℕ) (at j : ℕ) → char_end x s at ≡ read.End j → Found x s at j
+pub char_found : (x : Set) (s : List ℕ) (at j : ℕ) → char_end x s at ≡ Ok j → Found x s at j
 unfolding char_end
-char_found x s at j e = subst P e (run_held (read.Stopped Cut) (char_step x) s I P tt turn [] at (omega arith, refl))
+char_found x s at j e = subst P e (run_held (Err Cut) (char_step x) s I P tt turn [] at (omega arith, refl))
   where
     P : Read → Type 0
-    P (read.End k) = Found x s at k
-    P (read.Stopped y) = Unit {0}
+    P (Ok k) = Found x s at k
+    P (Err y) = Unit {0}
 
     I : List ℕ → ℕ → Type 0
     I begun i = (at + length begun ≡ i) × (drop at s ≡ begun ++ drop i s)

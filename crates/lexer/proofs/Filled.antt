@@ -1,4 +1,5 @@
 -- The loop of `attrs_from`: what is stored, and what a turn does.
+use Rattle.std.specs.Prelude.{Ok, Err}
 use Prim.Native.Nat.{ℕ, ◌+◌, ◌-◌, ◌*◌, ◌≤◌, ◌<◌}
 use mathlib.Core.Path.{◌≡◌, refl, sym, ap, ◌∙◌}
 use mathlib.Core.List.{List, [], ◌∷◌, ◌++◌}
@@ -14,15 +15,9 @@ use Rattle.lexer.specs.Tags.{attribute_at, turn_at, TagRead, tag_closed, tag_sto
 use Rattle.lexer.specs.declared.Stop.{Stop}
 use Rattle.lexer.specs.declared.Stop.TheVariants.{Long}
 use Rattle.lexer.specs.declared.Name.{Name}
-use Rattle.lexer.specs.declared.Named.{Named}
-use Rattle.lexer.specs.declared.Named.TheVariants as named
+use Rattle.lexer.specs.Reads.{Named, Attributed, TurnRead, Tagged}
 use Rattle.lexer.specs.declared.Attr.{Attr}
-use Rattle.lexer.specs.declared.Attributed.{Attributed}
-use Rattle.lexer.specs.declared.Attributed.TheVariants as attributed
-use Rattle.lexer.specs.declared.Turn.{Turn}
 use Rattle.lexer.specs.declared.Turn.TheVariants as turn
-use Rattle.lexer.specs.declared.Tagged.{Tagged}
-use Rattle.lexer.specs.declared.Tagged.TheVariants as tagged
 use Rattle.lexer.proofs.Arrays.{laid_none, laid_more}
 
 -- the whole that is asked for
@@ -58,35 +53,35 @@ module _ (s : List ℕ) (name : Name) (array₀ array : List ℕ) (count at : �
   unfolding attrs_from
   filled_up h = let z : 16 - count ≡ 0 = omega arith in rw z at f.left
 
-  module _ (r : Turn) (p : r ≡ turn_at s at) where
+  module _ (r : TurnRead) (p : r ≡ turn_at s at) where
     -- with room and without
-    decided : (m : Turn) → r ≡ m → (t : TagRead) → ((more : List Attr → ℕ → TagRead) → t ≡ turn_then s more name f.held m) → t ≡ full_turn name f.held m → t ≡ asked s name
+    decided : (m : TurnRead) → r ≡ m → (t : TagRead) → ((more : List Attr → ℕ → TagRead) → t ≡ turn_then s more name f.held m) → t ≡ full_turn name f.held m → t ≡ asked s name
     decided m q t room none =
         let e : m ≡ turn_at s at = sym q ∙ p in
         ⊎_elim (λ h. none ∙ ap (full_turn name f.held) e ∙ filled_up h)
         (λ h. room (λ (l : List Attr) (i : ℕ). attrs_from s name l (16 - (count + 1)) i) ∙ ap (turn_then s (λ (l : List Attr) (i : ℕ). attrs_from s name l (16 - (count + 1)) i) name f.held) e ∙ turned h)
         (le_or_lt 16 count)
 
-    pub closed : (next : ℕ) (empty : Bool) → r ≡ turn.Close next empty → Answered (asked s name) array₀ array (tagged.Got (record { name = name; count = count; next = next; empty = empty }))
+    pub closed : (next : ℕ) (empty : Bool) → r ≡ Ok (turn.Close next empty) → Answered (asked s name) array₀ array (Ok (record { name = name; count = count; next = next; empty = empty }))
     closed next empty q =
         let t = tag_closed name f.held next empty in
-        rw (← f.counted) (answered t refl (decided (turn.Close next empty) q t (λ more. refl) refl))
+        rw (← f.counted) (answered t refl (decided (Ok (turn.Close next empty)) q t (λ more. refl) refl))
 
-    pub stopped : (x : Stop) → r ≡ turn.Stopped x → Answered (asked s name) array₀ array (tagged.Stopped x)
-    stopped x q = let t = tag_stopped f.held x in answered t refl (decided (turn.Stopped x) q t (λ more. refl) refl)
+    pub stopped : (x : Stop) → r ≡ Err x → Answered (asked s name) array₀ array (Err x)
+    stopped x q = let t = tag_stopped f.held x in answered t refl (decided (Err x) q t (λ more. refl) refl)
 
-    module _ (i : ℕ) (q : r ≡ turn.Attribute i) where
-      pub seventeenth : count ≡ 16 → Answered (asked s name) array₀ array (tagged.Stopped (Long i))
+    module _ (i : ℕ) (q : r ≡ Ok (turn.Attribute i)) where
+      pub seventeenth : count ≡ 16 → Answered (asked s name) array₀ array (Err (Long i))
       seventeenth h = answered (tag_stopped f.held (Long i)) refl (rw (sym p ∙ q) at (filled_up (omega arith)))
 
       module _ (n : count ≡ 16 → ⊥) (v : Attributed) (e : v ≡ attribute_at s i) where
         room : count < 16
         room = omega (arith, f.few)
 
-        pub refused : (x : Stop) → v ≡ attributed.Stopped x → Answered (asked s name) array₀ array (tagged.Stopped x)
+        pub refused : (x : Stop) → v ≡ Err x → Answered (asked s name) array₀ array (Err x)
         refused x g = answered (tag_stopped f.held x) refl (rw (sym e ∙ g) at (rw (sym p ∙ q) at (turned room)))
 
-        pub more : (a : Attr) → v ≡ attributed.Got a → (array' : List ℕ) → array' ≡ overwrite array (5 * count) (attr_numbers a) → Filled s name array₀ array' (count + 1) (a.stop + 1)
+        pub more : (a : Attr) → v ≡ Ok a → (array' : List ℕ) → array' ≡ overwrite array (5 * count) (attr_numbers a) → Filled s name array₀ array' (count + 1) (a.stop + 1)
         more a g array' w =
             record {
               held = f.held ++ (a ∷ []);
@@ -98,10 +93,10 @@ module _ (s : List ℕ) (name : Name) (array₀ array : List ℕ) (count at : �
 
 -- the tag's name, and what stands behind it
 module _ (s : List ℕ) (at : ℕ) (r : Named) (p : r ≡ name_at s at) (array₀ : List ℕ) where
-  pub named_tag : (name : Name) → r ≡ named.Got name → (array : List ℕ) (x : Tagged) → Answered (asked s name) array₀ array x → Answered (tag_at s at) array₀ array x
+  pub named_tag : (name : Name) → r ≡ Ok name → (array : List ℕ) (x : Tagged) → Answered (asked s name) array₀ array x → Answered (tag_at s at) array₀ array x
   unfolding tag_at
   named_tag name q array x h = rw (sym p ∙ q) h
 
-  pub nameless_tag : (x : Stop) → r ≡ named.Stopped x → Answered (tag_at s at) array₀ array₀ (tagged.Stopped x)
+  pub nameless_tag : (x : Stop) → r ≡ Err x → Answered (tag_at s at) array₀ array₀ (Err x)
   unfolding tag_at
   nameless_tag x q = rw (sym p ∙ q) (refl, laid_none array₀)

@@ -1,4 +1,5 @@
 -- What the answers of the reading definitions say of positions: each stands inside the slice, at or behind the place where reading began.
+use Rattle.std.specs.Prelude.{Ok, Err}
 use Prim.Native.Nat.{ℕ, zero, suc, ◌+◌, ◌-◌, ◌≤◌, ◌<◌}
 use mathlib.Core.Path.{◌≡◌, refl, sym, subst, ◌∙◌}
 use mathlib.Core.List.{List, [], ◌∷◌, ◌++◌}
@@ -20,22 +21,12 @@ use Rattle.lexer.specs.Values.{value_end}
 use Rattle.lexer.specs.Tags.{wanted, equals_end, quoted_at, attribute_at, slash_at, turn_behind, turn_at, TagRead, tag_stopped, tag_closed, full_turn, attr_then, turn_then, attrs_from, tag_at, end_tag_at}
 use Rattle.lexer.specs.declared.Stop.{Stop}
 use Rattle.lexer.specs.declared.Stop.TheVariants.{Bad, Long, Cut}
-use Rattle.lexer.specs.declared.Read.{Read}
-use Rattle.lexer.specs.declared.Read.TheVariants as read
+use Rattle.lexer.specs.Reads.{Read, Named, Attributed, TurnRead, Tagged, Ended}
 use Rattle.lexer.specs.declared.Name.{Name}
-use Rattle.lexer.specs.declared.Named.{Named}
-use Rattle.lexer.specs.declared.Named.TheVariants as named
 use Rattle.lexer.specs.declared.Attr.{Attr}
-use Rattle.lexer.specs.declared.Attributed.{Attributed}
-use Rattle.lexer.specs.declared.Attributed.TheVariants as attributed
-use Rattle.lexer.specs.declared.Turn.{Turn}
 use Rattle.lexer.specs.declared.Turn.TheVariants as turn
 use Rattle.lexer.specs.declared.Tag.{Tag}
-use Rattle.lexer.specs.declared.Tagged.{Tagged}
-use Rattle.lexer.specs.declared.Tagged.TheVariants as tagged
 use Rattle.lexer.specs.declared.EndTag.{EndTag}
-use Rattle.lexer.specs.declared.Ended.{Ended}
-use Rattle.lexer.specs.declared.Ended.TheVariants as ended
 use Rattle.lexer.proofs.CharacterLaws.{Within}
 use Rattle.lexer.proofs.ValueLaws.{ValueTo, value_inside}
 
@@ -53,25 +44,25 @@ stop_later s at later le Cut h = tt
 
 -- P: what holds of the end
 abbrev pub ReadInside : (ℕ → Type 0) → List ℕ → ℕ → Read → Type 0
-ReadInside P s at (read.End j) = P j
-ReadInside P s at (read.Stopped x) = StopInside s at x
+ReadInside P s at (Ok j) = P j
+ReadInside P s at (Err x) = StopInside s at x
 
 -- a value's answer, which is never too long
 pub within_read : (P : ℕ → Type 0) (s : List ℕ) (at : ℕ) (r : Read) → Within P s at r → ReadInside P s at r
-within_read P s at (read.End j) h = h
-within_read P s at (read.Stopped (Bad j)) h = h
-within_read P s at (read.Stopped (Long j)) h = absurd h
-within_read P s at (read.Stopped Cut) h = tt
+within_read P s at (Ok j) h = h
+within_read P s at (Err (Bad j)) h = h
+within_read P s at (Err (Long j)) h = absurd h
+within_read P s at (Err Cut) h = tt
 
 -- Q holds of what is read behind what was read, if it holds behind each end, and of each stop
 pub after_inside : {A : Type 0} (Q : A → Type 0) (f : Stop → A) (P : ℕ → Type 0) (s : List ℕ) (at : ℕ) (r : Read) (k : ℕ → A) → ReadInside P s at r → ((x : Stop) → StopInside s at x → Q (f x)) → ((j : ℕ) → P j → Q (k j)) → Q (after_read f r k)
-after_inside Q f P s at (read.End j) k h g e = e j h
-after_inside Q f P s at (read.Stopped x) k h g e = g x h
+after_inside Q f P s at (Ok j) k h g e = e j h
+after_inside Q f P s at (Err x) k h g e = g x h
 
 -- with the equation that says so
-told : (P : ℕ → Type 0) (s : List ℕ) (at : ℕ) (v r : Read) → v ≡ r → ReadInside P s at v → ReadInside (λ (j : ℕ). P j × (v ≡ read.End j)) s at r
-told P s at v (read.End j) e h = (subst (ReadInside P s at) e h, e)
-told P s at v (read.Stopped x) e h = subst (ReadInside P s at) e h
+told : (P : ℕ → Type 0) (s : List ℕ) (at : ℕ) (v r : Read) → v ≡ r → ReadInside P s at v → ReadInside (λ (j : ℕ). P j × (v ≡ Ok j)) s at r
+told P s at v (Ok j) e h = (subst (ReadInside P s at) e h, e)
+told P s at v (Err x) e h = subst (ReadInside P s at) e h
 
 -- ---- space
 -- the first byte that is no space
@@ -81,7 +72,7 @@ SpacesTo s at j = (at ≤ j) × (j < length s) × (is_space (get_or s j 0) ≡ f
 pub spaces_inside : (s : List ℕ) (at : ℕ) → ReadInside (SpacesTo s at) s at (spaces_end s at)
 unfolding spaces_end
 spaces_inside s at =
-    run_held (read.Stopped Cut) space_step s (λ (q j : ℕ). at ≤ j) (ReadInside (SpacesTo s at) s at) tt
+    run_held (Err Cut) space_step s (λ (q j : ℕ). at ≤ j) (ReadInside (SpacesTo s at) s at) tt
     (λ (q j : ℕ) (hi : j < length s) (lo : at ≤ j). holds_cond (Turned (λ (q' : ℕ). at ≤ j + 1) (ReadInside (SpacesTo s at) s at)) (is_space (get_or s j 0)) (λ e. omega arith) (λ e. (lo, hi, e)))
     0
     at
@@ -93,7 +84,7 @@ PartTo s at j = (at < j) × (j < length s) × (j ≤ at + 64)
 
 pub part_inside : (s : List ℕ) (at : ℕ) → ReadInside (PartTo s at) s at (part_end s at)
 unfolding part_end
-part_inside s at = run_held (read.Stopped Cut) part_step s Room In tt turn (part_state 64 []) at (omega arith)
+part_inside s at = run_held (Err Cut) part_step s Room In tt turn (part_state 64 []) at (omega arith)
   where
     Room : PartState → ℕ → Type 0
     Room q j = (at ≤ j) × (j + q.room ≡ at + 64)
@@ -101,7 +92,7 @@ part_inside s at = run_held (read.Stopped Cut) part_step s Room In tt turn (part
     In : Read → Type 0
     In = ReadInside (PartTo s at) s at
 
-    ends : (q : PartState) (j : ℕ) → j < length s → Room q j → (t : Bool) → (t ≡ true → q.room ≡ 64 → ⊥) → In (cond t (read.End j) (read.Stopped (Bad j)))
+    ends : (q : PartState) (j : ℕ) → j < length s → Room q j → (t : Bool) → (t ≡ true → q.room ≡ 64 → ⊥) → In (cond t (Ok j) (Err (Bad j)))
     ends q j hi h true n = let m = n refl in (omega (arith, low m), hi, omega arith)
       where
         low : (q.room ≡ 64 → ⊥) → at < j
@@ -117,7 +108,7 @@ part_inside s at = run_held (read.Stopped Cut) part_step s Room In tt turn (part
 -- ---- names
 -- a prefix and its colon, before the part at a place
 abbrev pub PrefixTo : List ℕ → ℕ → ℕ → Type 0
-PrefixTo s at part = (at + 1 < part) × (part_end s at ≡ read.End (part - 1)) × (get_or s (part - 1) 0 ≡ 0x3A)
+PrefixTo s at part = (at + 1 < part) × (part_end s at ≡ Ok (part - 1)) × (get_or s (part - 1) 0 ≡ 0x3A)
 
 -- a name from a place on: its last part, and whether a prefix stands before it
 pub record NameInside (s : List ℕ) (at : ℕ) (n : Name) : Type 0 where
@@ -126,26 +117,26 @@ pub record NameInside (s : List ℕ) (at : ℕ) (n : Name) : Type 0 where
   pub some : n.part < n.end
   pub short : n.end ≤ n.part + 64
   pub inside : n.end < length s
-  pub last : part_end s n.part ≡ read.End n.end
+  pub last : part_end s n.part ≡ Ok n.end
   pub first : (n.part ≡ at) ⊎ PrefixTo s at n.part
 
 -- P: what holds of the name
 abbrev pub NamedInside : (Name → Type 0) → List ℕ → ℕ → Named → Type 0
-NamedInside P s at (named.Got n) = P n
-NamedInside P s at (named.Stopped x) = StopInside s at x
+NamedInside P s at (Ok n) = P n
+NamedInside P s at (Err x) = StopInside s at x
 
 pub after_name_inside : {A : Type 0} (Q : A → Type 0) (f : Stop → A) (P : Name → Type 0) (s : List ℕ) (at : ℕ) (r : Named) (k : Name → A) → NamedInside P s at r → ((x : Stop) → StopInside s at x → Q (f x)) → ((n : Name) → P n → Q (k n)) → Q (after_name f r k)
-after_name_inside Q f P s at (named.Got n) k h g e = e n h
-after_name_inside Q f P s at (named.Stopped x) k h g e = g x h
+after_name_inside Q f P s at (Ok n) k h g e = e n h
+after_name_inside Q f P s at (Err x) k h g e = g x h
 
 -- the last part of a name, behind what stands before it
-named_inside : (s : List ℕ) (at part end : ℕ) → at ≤ part → part_end s part ≡ read.End end → PartTo s part end → (part ≡ at) ⊎ PrefixTo s at part → NameInside s at (record { at = at; part = part; end = end })
+named_inside : (s : List ℕ) (at part end : ℕ) → at ≤ part → part_end s part ≡ Ok end → PartTo s part end → (part ≡ at) ⊎ PrefixTo s at part → NameInside s at (record { at = at; part = part; end = end })
 named_inside s at part end le e h f = record { begins = refl; onward = le; some = h.0; short = h.2; inside = h.1; last = e; first = f }
 
 pub prefixed_inside : (s : List ℕ) (at part : ℕ) → PrefixTo s at part → NamedInside (NameInside s at) s at (prefixed_at s at part)
 unfolding prefixed_at
 prefixed_inside s at part f =
-    after_inside (NamedInside (NameInside s at) s at) named.Stopped (λ (j : ℕ). PartTo s part j × (part_end s part ≡ read.End j)) s part (part_end s part) (λ (end : ℕ). name_of at part end)
+    after_inside (NamedInside (NameInside s at) s at) Err (λ (j : ℕ). PartTo s part j × (part_end s part ≡ Ok j)) s part (part_end s part) (λ (end : ℕ). name_of at part end)
     (told (PartTo s part) s part (part_end s part) (part_end s part) refl (part_inside s part))
     (stop_later s at part (omega arith))
     (λ (end : ℕ) h. named_inside s at part end (omega arith) h.1 h.0 (inr f))
@@ -153,7 +144,7 @@ prefixed_inside s at part f =
 pub name_inside : (s : List ℕ) (at : ℕ) → NamedInside (NameInside s at) s at (name_at s at)
 unfolding name_at
 name_inside s at =
-    after_inside In named.Stopped (λ (j : ℕ). PartTo s at j × (part_end s at ≡ read.End j)) s at (part_end s at) _
+    after_inside In Err (λ (j : ℕ). PartTo s at j × (part_end s at ≡ Ok j)) s at (part_end s at) _
     (told (PartTo s at) s at (part_end s at) (part_end s at) refl (part_inside s at))
     (λ (x : Stop) h. h)
     (λ (j : ℕ) h.
@@ -186,15 +177,15 @@ EqualsTo s at j = (at < j) × (j < length s)
 pub equals_inside : (s : List ℕ) (at : ℕ) → ReadInside (EqualsTo s at) s at (equals_end s at)
 unfolding equals_end
 equals_inside s at =
-    after_inside In read.Stopped (SpacesTo s at) s at (spaces_end s at) _ (spaces_inside s at) (λ (x : Stop) h. h) (λ (i : ℕ) h.
-    after_inside In read.Stopped (ByteTo s i 0x3D) s i (wanted s i 0x3D) _ (wanted_inside s i 0x3D) (stop_later s at i h.0) (λ (j : ℕ) k. behind i j h.0 k.0 (spaces_end s j) (spaces_inside s j)))
+    after_inside In Err (SpacesTo s at) s at (spaces_end s at) _ (spaces_inside s at) (λ (x : Stop) h. h) (λ (i : ℕ) h.
+    after_inside In Err (ByteTo s i 0x3D) s i (wanted s i 0x3D) _ (wanted_inside s i 0x3D) (stop_later s at i h.0) (λ (j : ℕ) k. behind i j h.0 k.0 (spaces_end s j) (spaces_inside s j)))
   where
     In : Read → Type 0
     In = ReadInside (EqualsTo s at) s at
 
     behind : (i j : ℕ) → at ≤ i → j ≡ i + 1 → (r : Read) → ReadInside (SpacesTo s j) s j r → In r
-    behind i j le e (read.End q) h = omega arith
-    behind i j le e (read.Stopped x) h = stop_later s at j (omega arith) x h
+    behind i j le e (Ok q) h = omega arith
+    behind i j le e (Err x) h = stop_later s at j (omega arith) x h
 
 -- an attribute from a place on: = and the quote stand between its name and its value
 pub record AttrInside (s : List ℕ) (at : ℕ) (a : Attr) : Type 0 where
@@ -202,12 +193,12 @@ pub record AttrInside (s : List ℕ) (at : ℕ) (a : Attr) : Type 0 where
   pub apart : a.name.end + 1 < a.value
   pub onward : a.value ≤ a.stop
   pub inside : a.stop < length s
-  pub quoted : value_end s a.value (get_or s (a.value - 1) 0) ≡ read.End a.stop
+  pub quoted : value_end s a.value (get_or s (a.value - 1) 0) ≡ Ok a.stop
 
 -- P: what holds of the attribute
 abbrev pub AttributedInside : (Attr → Type 0) → List ℕ → ℕ → Attributed → Type 0
-AttributedInside P s at (attributed.Got a) = P a
-AttributedInside P s at (attributed.Stopped x) = StopInside s at x
+AttributedInside P s at (Ok a) = P a
+AttributedInside P s at (Err x) = StopInside s at x
 
 pub quoted_inside : (s : List ℕ) (at : ℕ) (name : Name) (quote : ℕ) → NameInside s at name → name.end < quote → AttributedInside (AttrInside s at) s at (quoted_at s name quote)
 unfolding quoted_at
@@ -215,7 +206,7 @@ quoted_inside s at name quote n lt =
     holds_peek In s quote tt (λ hi.
     holds_cond In (eqb q 0x22 || eqb q 0x27)
     (λ e.
-    after_inside In attributed.Stopped (λ (j : ℕ). To j × (v ≡ read.End j)) s (quote + 1) v _
+    after_inside In Err (λ (j : ℕ). To j × (v ≡ Ok j)) s (quote + 1) v _
     (told To s (quote + 1) v v refl (within_read To s (quote + 1) v (value_inside s (quote + 1) q)))
     (stop_later s at (quote + 1) (omega arith))
     (λ (stop : ℕ) h. record { name = n; apart = omega arith; onward = h.0.0; inside = h.0.1; quoted = rw back h.1 }))
@@ -239,23 +230,23 @@ quoted_inside s at name quote n lt =
 pub attribute_inside : (s : List ℕ) (at : ℕ) → AttributedInside (AttrInside s at) s at (attribute_at s at)
 unfolding attribute_at
 attribute_inside s at =
-    after_name_inside In attributed.Stopped (NameInside s at) s at (name_at s at) _ (name_inside s at) (λ (x : Stop) h. h) (λ (name : Name) n.
-    after_inside In attributed.Stopped (EqualsTo s name.end) s name.end (equals_end s name.end) _ (equals_inside s name.end) (stop_later s at name.end (omega arith)) (λ (quote : ℕ) h.
+    after_name_inside In Err (NameInside s at) s at (name_at s at) _ (name_inside s at) (λ (x : Stop) h. h) (λ (name : Name) n.
+    after_inside In Err (EqualsTo s name.end) s name.end (equals_end s name.end) _ (equals_inside s name.end) (stop_later s at name.end (omega arith)) (λ (quote : ℕ) h.
     quoted_inside s at name quote n h.0))
   where
     In : Attributed → Type 0
     In = AttributedInside (AttrInside s at) s at
 
 -- ---- what stands behind a tag's name or an attribute
-abbrev pub TurnInside : List ℕ → ℕ → Turn → Type 0
-TurnInside s at (turn.Close next empty) = (at < next) × (next ≤ length s)
-TurnInside s at (turn.Attribute i) = (at < i) × (i < length s)
-TurnInside s at (turn.Stopped x) = StopInside s at x
+abbrev pub TurnInside : List ℕ → ℕ → TurnRead → Type 0
+TurnInside s at (Ok (turn.Close next empty)) = (at < next) × (next ≤ length s)
+TurnInside s at (Ok (turn.Attribute i)) = (at < i) × (i < length s)
+TurnInside s at (Err x) = StopInside s at x
 
 pub slash_inside : (s : List ℕ) (at : ℕ) → TurnInside s at (slash_at s at)
 unfolding slash_at
 slash_inside s at =
-    after_inside (TurnInside s at) turn.Stopped (ByteTo s (at + 1) 0x3E) s (at + 1) (wanted s (at + 1) 0x3E) _ (wanted_inside s (at + 1) 0x3E) (stop_later s at (at + 1) (omega arith)) (λ (j : ℕ) h. omega arith)
+    after_inside (TurnInside s at) Err (ByteTo s (at + 1) 0x3E) s (at + 1) (wanted s (at + 1) 0x3E) _ (wanted_inside s (at + 1) 0x3E) (stop_later s at (at + 1) (omega arith)) (λ (j : ℕ) h. omega arith)
 
 pub behind_inside : (s : List ℕ) (at i : ℕ) → at ≤ i → TurnInside s at (turn_behind s at i)
 unfolding turn_behind
@@ -266,18 +257,18 @@ behind_inside s at i le =
     holds_cond In (eqb i at) (λ e. omega arith) (λ ne.
     holds_cond In (begins set.Start [] (get_or s i 0)) (λ e. omega (arith, eqb-false i at ne)) (λ e. omega arith)))))
   where
-    In : Turn → Type 0
+    In : TurnRead → Type 0
     In = TurnInside s at
 
-    later : (r : Turn) → TurnInside s i r → In r
-    later (turn.Close next empty) h = omega arith
-    later (turn.Attribute j) h = omega arith
-    later (turn.Stopped x) h = stop_later s at i le x h
+    later : (r : TurnRead) → TurnInside s i r → In r
+    later (Ok (turn.Close next empty)) h = omega arith
+    later (Ok (turn.Attribute j)) h = omega arith
+    later (Err x) h = stop_later s at i le x h
 
 pub turn_inside : (s : List ℕ) (at : ℕ) → TurnInside s at (turn_at s at)
 unfolding turn_at
 turn_inside s at =
-    after_inside (TurnInside s at) turn.Stopped (SpacesTo s at) s at (spaces_end s at) _ (spaces_inside s at) (λ (x : Stop) h. h) (λ (i : ℕ) h. behind_inside s at i h.0)
+    after_inside (TurnInside s at) Err (SpacesTo s at) s at (spaces_end s at) _ (spaces_inside s at) (λ (x : Stop) h. h) (λ (i : ℕ) h. behind_inside s at i h.0)
 
 -- ---- tags
 -- an attribute that stands behind a place
@@ -293,8 +284,8 @@ pub record TagInside (s : List ℕ) (at : ℕ) (l : List Attr) (t : Tag) : Type 
   pub inside : t.next ≤ length s
 
 abbrev pub TaggedInside : List ℕ → ℕ → List Attr → Tagged → Type 0
-TaggedInside s at l (tagged.Got t) = TagInside s at l t
-TaggedInside s at l (tagged.Stopped x) = StopInside s at x
+TaggedInside s at l (Ok t) = TagInside s at l t
+TaggedInside s at l (Err x) = StopInside s at x
 
 -- the attributes that were read, also where reading stops
 pub record TagReadInside (s : List ℕ) (at : ℕ) (r : TagRead) : Type 0 where
@@ -314,10 +305,10 @@ module _ (s : List ℕ) (at : ℕ) where
   unfolding attrs_from
   attrs_inside name n zero l i le few each = ends (turn_at s i) (turn_inside s i)
     where
-      ends : (r : Turn) → TurnInside s i r → TagReadInside s at (full_turn name l r)
-      ends (turn.Close next empty) h = closed_inside name l next empty n (omega arith) each (omega arith) h.1
-      ends (turn.Attribute j) h = stopped_inside l (omega arith) each (Long j) (omega arith)
-      ends (turn.Stopped x) h = stopped_inside l (omega arith) each x (stop_later s at i (omega arith) x h)
+      ends : (r : TurnRead) → TurnInside s i r → TagReadInside s at (full_turn name l r)
+      ends (Ok (turn.Close next empty)) h = closed_inside name l next empty n (omega arith) each (omega arith) h.1
+      ends (Ok (turn.Attribute j)) h = stopped_inside l (omega arith) each (Long j) (omega arith)
+      ends (Err x) h = stopped_inside l (omega arith) each x (stop_later s at i (omega arith) x h)
   attrs_inside name n (suc room) l i le few each = goes (turn_at s i) (turn_inside s i) (attrs_inside name n room)
     where
       -- what is left to show of the attributes behind
@@ -325,14 +316,14 @@ module _ (s : List ℕ) (at : ℕ) where
       More = (l' : List Attr) (k : ℕ) → name.end ≤ k → length l' + room ≡ 16 → All (AttrBehind s at) l' → TagReadInside s at (attrs_from s name l' room k)
 
       one : (j : ℕ) → i < j → (r : Attributed) → AttributedInside (AttrInside s j) s j r → More → TagReadInside s at (attr_then (λ (l' : List Attr) (k : ℕ). attrs_from s name l' room k) l r)
-      one j lt (attributed.Got a) h more =
+      one j lt (Ok a) h more =
           more (l ++ (a ∷ [])) (a.stop + 1) (omega arith) (omega (arith, length-append l (a ∷ []))) (each_more (AttrBehind s at) l a each (omega arith, subst (λ (k : ℕ). AttrInside s k a) (sym h.name.begins) h))
-      one j lt (attributed.Stopped x) h more = stopped_inside l (omega arith) each x (stop_later s at j (omega arith) x h)
+      one j lt (Err x) h more = stopped_inside l (omega arith) each x (stop_later s at j (omega arith) x h)
 
-      goes : (r : Turn) → TurnInside s i r → More → TagReadInside s at (turn_then s (λ (l' : List Attr) (j : ℕ). attrs_from s name l' room j) name l r)
-      goes (turn.Close next empty) h more = closed_inside name l next empty n (omega arith) each (omega arith) h.1
-      goes (turn.Attribute j) h more = one j h.0 (attribute_at s j) (attribute_inside s j) more
-      goes (turn.Stopped x) h more = stopped_inside l (omega arith) each x (stop_later s at i (omega arith) x h)
+      goes : (r : TurnRead) → TurnInside s i r → More → TagReadInside s at (turn_then s (λ (l' : List Attr) (j : ℕ). attrs_from s name l' room j) name l r)
+      goes (Ok (turn.Close next empty)) h more = closed_inside name l next empty n (omega arith) each (omega arith) h.1
+      goes (Ok (turn.Attribute j)) h more = one j h.0 (attribute_at s j) (attribute_inside s j) more
+      goes (Err x) h more = stopped_inside l (omega arith) each x (stop_later s at i (omega arith) x h)
 
   pub tag_inside : TagReadInside s at (tag_at s at)
   unfolding tag_at
@@ -347,15 +338,15 @@ pub record EndTagInside (s : List ℕ) (at : ℕ) (e : EndTag) : Type 0 where
   pub inside : e.next ≤ length s
 
 abbrev pub EndedInside : List ℕ → ℕ → Ended → Type 0
-EndedInside s at (ended.Got e) = EndTagInside s at e
-EndedInside s at (ended.Stopped x) = StopInside s at x
+EndedInside s at (Ok e) = EndTagInside s at e
+EndedInside s at (Err x) = StopInside s at x
 
 pub end_tag_inside : (s : List ℕ) (at : ℕ) → EndedInside s at (end_tag_at s at)
 unfolding end_tag_at
 end_tag_inside s at =
-    after_name_inside (EndedInside s at) ended.Stopped (NameInside s at) s at (name_at s at) _ (name_inside s at) (λ (x : Stop) h. h) (λ (name : Name) n.
-    after_inside (EndedInside s at) ended.Stopped (SpacesTo s name.end) s name.end (spaces_end s name.end) _ (spaces_inside s name.end) (stop_later s at name.end (omega arith)) (λ (i : ℕ) h.
-    after_inside (EndedInside s at) ended.Stopped (ByteTo s i 0x3E) s i (wanted s i 0x3E) _ (wanted_inside s i 0x3E) (stop_later s at i (omega arith)) (λ (next : ℕ) k.
+    after_name_inside (EndedInside s at) Err (NameInside s at) s at (name_at s at) _ (name_inside s at) (λ (x : Stop) h. h) (λ (name : Name) n.
+    after_inside (EndedInside s at) Err (SpacesTo s name.end) s name.end (spaces_end s name.end) _ (spaces_inside s name.end) (stop_later s at name.end (omega arith)) (λ (i : ℕ) h.
+    after_inside (EndedInside s at) Err (ByteTo s i 0x3E) s i (wanted s i 0x3E) _ (wanted_inside s i 0x3E) (stop_later s at i (omega arith)) (λ (next : ℕ) k.
     record { name = n; onward = omega arith; inside = omega arith })))
 
 -- ---- of an answer r, of which a contract says one thing and a `match` another
@@ -377,5 +368,5 @@ equals_in s at r m p q = subst (ReadInside (EqualsTo s at) s at) (sym p ∙ q) (
 pub attribute_in : (s : List ℕ) (at : ℕ) (r m : Attributed) → r ≡ attribute_at s at → r ≡ m → AttributedInside (AttrInside s at) s at m
 attribute_in s at r m p q = subst (AttributedInside (AttrInside s at) s at) (sym p ∙ q) (attribute_inside s at)
 
-pub turn_in : (s : List ℕ) (at : ℕ) (r m : Turn) → r ≡ turn_at s at → r ≡ m → TurnInside s at m
+pub turn_in : (s : List ℕ) (at : ℕ) (r m : TurnRead) → r ≡ turn_at s at → r ≡ m → TurnInside s at m
 turn_in s at r m p q = subst (TurnInside s at) (sym p ∙ q) (turn_inside s at)

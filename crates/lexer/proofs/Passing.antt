@@ -3,6 +3,7 @@
 --     plain_passed, high_passed   passing over plain bytes, or over a character from 80 on, changes no answer
 --     text-.., reference-..       a turn at one byte, and at a reference; passed_on: and over bytes behind it
 --     quote_here, line_passed     the quote at once; a line's end before a text
+use Rattle.std.specs.Prelude.{Ok, Err}
 use Prim.Native.Nat.{ℕ, zero, suc, ◌+◌, ◌-◌, ◌≤◌, ◌<◌}
 use mathlib.Core.Path.{◌≡◌, refl, sym, ap, ◌∙◌}
 use mathlib.Core.List.{List, [], ◌∷◌}
@@ -25,8 +26,7 @@ use Rattle.lexer.specs.Characters.{char_end}
 use Rattle.lexer.specs.Values.{reference_end, text_at, passed_over, closes, value_step, value_from, text_end}
 use Rattle.lexer.specs.declared.Stop.{Stop}
 use Rattle.lexer.specs.declared.Stop.TheVariants.{Bad, Cut}
-use Rattle.lexer.specs.declared.Read.{Read}
-use Rattle.lexer.specs.declared.Read.TheVariants.{End, Stopped}
+use Rattle.lexer.specs.Reads.{Read}
 use Rattle.lexer.proofs.CharacterLaws.{PassedTo, end_of, char_inside, char_low}
 use Rattle.lexer.proofs.ValueLaws.{reference_inside, text_inside}
 use Rattle.lexer.proofs.NameBits.{char_ascii}
@@ -77,8 +77,8 @@ closing_inside n i e = (ltb-false i 2 (or_right (ltb n i) (ltb i 2) e), ltb-fals
 
 -- ---- plain bytes, and the bytes of a reference or a character
 -- a byte below 80 that is a character
-pub low_char : (s : List ℕ) (i : ℕ) → i < length s → get_or s i 0 < 0x80 → is_char (get_or s i 0) ≡ true → char_end set.Char s i ≡ End (i + 1)
-low_char s i h lt e = char_low set.Char s i h lt ∙ ap (λ (t : Bool). cond t (End (i + 1)) (Stopped (Bad i))) (sym (char_ascii (get_or s i 0) lt) ∙ e)
+pub low_char : (s : List ℕ) (i : ℕ) → i < length s → get_or s i 0 < 0x80 → is_char (get_or s i 0) ≡ true → char_end set.Char s i ≡ Ok (i + 1)
+low_char s i h lt e = char_low set.Char s i h lt ∙ ap (λ (t : Bool). cond t (Ok (i + 1)) (Err (Bad i))) (sym (char_ascii (get_or s i 0) lt) ∙ e)
 
 module _ (s : List ℕ) (at quote : ℕ) where
   plain_step : (i : ℕ) → i < length s → is_plain quote (get_or s i 0) ≡ true → value_step s at quote 0 (get_or s i 0) i ≡ go 0
@@ -95,7 +95,7 @@ module _ (s : List ℕ) (at quote : ℕ) where
       let w = and_left (low && q) m v in
       let d = and_left low q w in
       let lt = ltb-true b 0x80 (and_right (leb 0x20 b) (ltb b 0x80) d) in
-      let c : char_end set.Char s i ≡ End (i + 1) = low_char s i h lt (rw (and_left (leb 0x20 b) (ltb b 0x80) d)) in
+      let c : char_end set.Char s i ≡ Ok (i + 1) = low_char s i h lt (rw (and_left (leb 0x20 b) (ltb b 0x80) d)) in
       let z : i + 1 - (i + 1) ≡ 0 = omega arith in
       simp (
         untold (eqb b quote) (eqb b quote) refl (and_right low q w),
@@ -106,7 +106,7 @@ module _ (s : List ℕ) (at quote : ℕ) where
         z,
       )
 
-  plain_run : (k : ℕ) (l : List ℕ) (i : ℕ) → drop i s ≡ l → all (is_plain quote) (take k l) ≡ true → run (Stopped Cut) (value_step s at quote) 0 l i ≡ run (Stopped Cut) (value_step s at quote) 0 (drop k l) (i + k)
+  plain_run : (k : ℕ) (l : List ℕ) (i : ℕ) → drop i s ≡ l → all (is_plain quote) (take k l) ≡ true → run (Err Cut) (value_step s at quote) 0 l i ≡ run (Err Cut) (value_step s at quote) 0 (drop k l) (i + k)
   unfolding run all
   plain_run zero l i f e = rw add-zero
   plain_run (suc k) [] i f e = refl
@@ -128,7 +128,7 @@ module _ (s : List ℕ) (at quote : ℕ) where
       sym (plain_run (i - from) (drop from s) from refl h.1 ∙ rw (drop-drop (i - from) from s, k))
 
   -- the k bytes that are left of a reference
-  skipped : (k : ℕ) (l : List ℕ) (i : ℕ) → k ≤ length l → run (Stopped Cut) (value_step s at quote) k l i ≡ run (Stopped Cut) (value_step s at quote) 0 (drop k l) (i + k)
+  skipped : (k : ℕ) (l : List ℕ) (i : ℕ) → k ≤ length l → run (Err Cut) (value_step s at quote) k l i ≡ run (Err Cut) (value_step s at quote) 0 (drop k l) (i + k)
   unfolding run
   skipped zero l i h = rw add-zero
   skipped (suc k) [] i h = absurd (not-suc-le-zero h)
@@ -138,41 +138,41 @@ module _ (s : List ℕ) (at quote : ℕ) where
       rw (ne_eqb (suc k) 0 (λ z. omega arith), d, e) (skipped k l (i + 1) (le_of_suc-le-suc h))
 
 -- ---- a turn
-pub reference_in : (s : List ℕ) (i j : ℕ) (r : Read) → r ≡ reference_end s i → r ≡ End j → PassedTo s i j
+pub reference_in : (s : List ℕ) (i j : ℕ) (r : Read) → r ≡ reference_end s i → r ≡ Ok j → PassedTo s i j
 reference_in s i j r a q = end_of (PassedTo s i) s i j (reference_end s i) (reference_inside s i) (sym a ∙ q)
 
-pub text_in : (s : List ℕ) (b i j : ℕ) (r : Read) → i < length s → r ≡ text_at s b i → r ≡ End j → PassedTo s i j
+pub text_in : (s : List ℕ) (b i j : ℕ) (r : Read) → i < length s → r ≡ text_at s b i → r ≡ Ok j → PassedTo s i j
 text_in s b i j r h a q = end_of (PassedTo s i) s i j (text_at s b i) (text_inside s b i h) (sym a ∙ q)
 
-pub char_in : (x : Set) (s : List ℕ) (i j : ℕ) (r : Read) → r ≡ char_end x s i → r ≡ End j → PassedTo s i j
+pub char_in : (x : Set) (s : List ℕ) (i j : ℕ) (r : Read) → r ≡ char_end x s i → r ≡ Ok j → PassedTo s i j
 char_in x s i j r a q = end_of (PassedTo s i) s i j (char_end x s i) (char_inside x s i) (sym a ∙ q)
 
-module _ (p : Read) (s : List ℕ) (at quote i : ℕ) (inv : run (Stopped Cut) (value_step s at quote) 0 (drop i s) i ≡ p) (h : i < length s) where
+module _ (p : Read) (s : List ℕ) (at quote i : ℕ) (inv : run (Err Cut) (value_step s at quote) 0 (drop i s) i ≡ p) (h : i < length s) where
   -- a reference or a character, and what was read of it
   module _ (r : Read) (step : passed_over i r ≡ value_step s at quote 0 (get_or s i 0) i) where
-    over_stops : (x : Stop) → r ≡ Stopped x → Stopped x ≡ p
-    over_stops x q = run_stop (Stopped Cut) (value_step s at quote) p 0 s i inv h (Stopped x) (ap (passed_over i) (sym q) ∙ step)
+    over_stops : (x : Stop) → r ≡ Err x → Err x ≡ p
+    over_stops x q = run_stop (Err Cut) (value_step s at quote) p 0 s i inv h (Err x) (ap (passed_over i) (sym q) ∙ step)
 
-    over_passed : (j : ℕ) → r ≡ End j → PassedTo s i j → run (Stopped Cut) (value_step s at quote) 0 (drop j s) j ≡ p
+    over_passed : (j : ℕ) → r ≡ Ok j → PassedTo s i j → run (Err Cut) (value_step s at quote) 0 (drop j s) j ≡ p
     over_passed j q b =
         let k : i + 1 + (j - (i + 1)) ≡ j = omega arith in
         let m : j - (i + 1) ≤ length (drop (i + 1) s) = simp length-drop (omega arith) in
-        (rw (skipped s at quote (j - (i + 1)) (drop (i + 1) s) (i + 1) m, drop-drop, k) at (run_go (Stopped Cut) (value_step s at quote) p 0 s i inv h (j - (i + 1)) (ap (passed_over i) (sym q) ∙ step)))
+        (rw (skipped s at quote (j - (i + 1)) (drop (i + 1) s) (i + 1) m, drop-drop, k) at (run_go (Err Cut) (value_step s at quote) p 0 s i inv h (j - (i + 1)) (ap (passed_over i) (sym q) ∙ step)))
 
   module _ (n : get_or s i 0 ≡ quote → ⊥) where
     -- no reference
     module _ (m : get_or s i 0 ≡ 0x26 → ⊥) (x : Bool) (o : x ≡ closes s at quote (get_or s i 0) i) where
-      pub text_closes : x ≡ true → Stopped (Bad (i - 2)) ≡ p
-      text_closes y = run_stop (Stopped Cut) (value_step s at quote) p 0 s i inv h (Stopped (Bad (i - 2))) (search tests)
+      pub text_closes : x ≡ true → Err (Bad (i - 2)) ≡ p
+      text_closes y = run_stop (Err Cut) (value_step s at quote) p 0 s i inv h (Err (Bad (i - 2))) (search tests)
 
       module _ (y : x ≡ false) (r : Read) (a : r ≡ text_at s (get_or s i 0) i) where
         text_step : passed_over i r ≡ value_step s at quote 0 (get_or s i 0) i
         text_step = simp (ne_eqb _ _ n, ne_eqb _ _ m, ← o, y, a)
 
-        pub text_stops : (z : Stop) → r ≡ Stopped z → Stopped z ≡ p
+        pub text_stops : (z : Stop) → r ≡ Err z → Err z ≡ p
         text_stops z q = over_stops r text_step z q
 
-        pub text_passed : (j : ℕ) → r ≡ End j → run (Stopped Cut) (value_step s at quote) 0 (drop j s) j ≡ p
+        pub text_passed : (j : ℕ) → r ≡ Ok j → run (Err Cut) (value_step s at quote) 0 (drop j s) j ≡ p
         text_passed j q = over_passed r text_step j q (text_in s (get_or s i 0) i j r h a q)
 
     -- a reference
@@ -180,21 +180,21 @@ module _ (p : Read) (s : List ℕ) (at quote i : ℕ) (inv : run (Stopped Cut) (
       reference_step : passed_over i r ≡ value_step s at quote 0 (get_or s i 0) i
       reference_step = simp (ne_eqb _ _ n, eq-eqb _ _ e, ← a)
 
-      pub reference_stops : (x : Stop) → r ≡ Stopped x → Stopped x ≡ p
+      pub reference_stops : (x : Stop) → r ≡ Err x → Err x ≡ p
       reference_stops x q = over_stops r reference_step x q
 
-      pub reference_passed : (j : ℕ) → r ≡ End j → run (Stopped Cut) (value_step s at quote) 0 (drop j s) j ≡ p
+      pub reference_passed : (j : ℕ) → r ≡ Ok j → run (Err Cut) (value_step s at quote) 0 (drop j s) j ≡ p
       reference_passed j q = over_passed r reference_step j q (reference_in s i j r a q)
 
 -- a turn that passes over more bytes
 pub passed_on : (s : List ℕ) (at quote i j : ℕ) (p : Read) → value_from s at quote j ≡ value_from s at quote i
-    → run (Stopped Cut) (value_step s at quote) 0 (drop i s) i ≡ p → run (Stopped Cut) (value_step s at quote) 0 (drop j s) j ≡ p
+    → run (Err Cut) (value_step s at quote) 0 (drop i s) i ≡ p → run (Err Cut) (value_step s at quote) 0 (drop j s) j ≡ p
 unfolding value_from
 passed_on s at quote i j p e inv = e ∙ inv
 
 -- a character from 80 on
 pub high_passed : (s : List ℕ) (at quote from i : ℕ) → value_from s at quote i ≡ value_from s at quote from → i < length s → 0x80 ≤ get_or s i 0 → (get_or s i 0 ≡ quote → ⊥)
-    → (r : Read) → r ≡ char_end set.Char s i → (j : ℕ) → r ≡ End j → value_from s at quote j ≡ value_from s at quote from
+    → (r : Read) → r ≡ char_end set.Char s i → (j : ℕ) → r ≡ Ok j → value_from s at quote j ≡ value_from s at quote from
 unfolding value_from text_at
 high_passed s at quote from i e h k n r a j q =
     let b = get_or s i 0 in
@@ -205,14 +205,14 @@ high_passed s at quote from i e h k n r a j q =
     (char_in set.Char s i j r a q)
 
 -- the quote at once
-pub quote_here : (s : List ℕ) (at quote from i : ℕ) → value_from s at quote i ≡ value_from s at quote from → i < length s → get_or s i 0 ≡ quote → End i ≡ value_from s at quote from
+pub quote_here : (s : List ℕ) (at quote from i : ℕ) → value_from s at quote i ≡ value_from s at quote from → i < length s → get_or s i 0 ≡ quote → Ok i ≡ value_from s at quote from
 unfolding value_from
-quote_here s at quote from i e h q = run_stop (Stopped Cut) (value_step s at quote) (value_from s at quote from) 0 s i e h (End i) (simp (eq-eqb (get_or s i 0) quote q))
+quote_here s at quote from i e h q = run_stop (Err Cut) (value_step s at quote) (value_from s at quote from) 0 s i e h (Ok i) (simp (eq-eqb (get_or s i 0) quote q))
 
 -- a line's end before a text
 pub line_passed : (s : List ℕ) (at : ℕ) → at < length s → get_or s at 0 ≡ 0x0A → value_from s at 0x3C (at + 1) ≡ text_end s at
 unfolding value_from text_at
 line_passed s at h e =
-    let c : char_end set.Char s at ≡ End (at + 1) = low_char s at h (omega arith) (rw e) in
+    let c : char_end set.Char s at ≡ Ok (at + 1) = low_char s at h (omega arith) (rw e) in
     let z : at + 1 - (at + 1) ≡ 0 = omega arith in
-    run_go (Stopped Cut) (value_step s at 0x3C) (text_end s at) 0 s at refl h 0 (simp (e, no_closing s at 0x3C 0x0A at refl, c, z))
+    run_go (Err Cut) (value_step s at 0x3C) (text_end s at) 0 s at refl h 0 (simp (e, no_closing s at 0x3C 0x0A at refl, c, z))

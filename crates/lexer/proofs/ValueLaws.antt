@@ -1,6 +1,7 @@
 -- References and values: the place that an answer names is inside the scene, and an answer other than `Cut` stays when more bytes come.
 --     reference_inside, value_inside        which places an answer names
 --     reference_stable, value_stable        more bytes
+use Rattle.std.specs.Prelude.{Ok, Err}
 use Prim.Native.Nat.{ℕ, ◌+◌, ◌-◌, ◌≤◌, ◌<◌}
 use mathlib.Core.Path.{◌≡◌, refl, sym, ap, ◌∙◌}
 use mathlib.Core.List.{List, [], ◌∷◌, ◌++◌, append_assoc}
@@ -17,8 +18,7 @@ use Rattle.laws.proofs.Flags.{and_left, and_right}
 use Rattle.laws.proofs.Holds.{holds_cond, Turned, run_held}
 use Rattle.lexer.specs.Values.{references, common, whole_of, furthest, no_reference, reference_end, text_at, passed_over, closes, value_step, value_from, value_end}
 use Rattle.lexer.specs.declared.Stop.TheVariants.{Bad, Long, Cut}
-use Rattle.lexer.specs.declared.Read.{Read}
-use Rattle.lexer.specs.declared.Read.TheVariants.{End, Stopped}
+use Rattle.lexer.specs.Reads.{Read}
 use Rattle.utf8.specs.declared.Set.TheVariants as set
 use Rattle.lexer.proofs.CharacterLaws.{Within, PassedTo, char_inside, char_stable}
 use Rattle.lexer.proofs.Common.{common_none, common_all, common_kept}
@@ -37,11 +37,11 @@ module _ (P : Read → Type 0) (s : List ℕ) (at : ℕ) (other : Read) where
   unfolding whole_of
   none p = p
 
-  word : (w : List ℕ) (words : List (List ℕ)) → (common (drop at s) w ≡ length w → P (End (at + length w))) → P (whole_of s at words other) → P (whole_of s at (w ∷ words) other)
+  word : (w : List ℕ) (words : List (List ℕ)) → (common (drop at s) w ≡ length w → P (Ok (at + length w))) → P (whole_of s at words other) → P (whole_of s at (w ∷ words) other)
   unfolding whole_of
   word w words p q = holds_cond P (eqb (common (drop at s) w) (length w)) (λ e. p (eqb-true (common (drop at s) w) (length w) e)) (λ e. q)
 
-  each : ((w : List ℕ) → Reference w → common (drop at s) w ≡ length w → P (End (at + length w))) → P other → P (whole_of s at references other)
+  each : ((w : List ℕ) → Reference w → common (drop at s) w ≡ length w → P (Ok (at + length w))) → P other → P (whole_of s at references other)
   each p q =
       word _ _ (p _ lt) (word _ _ (p _ gt) (word _ _ (p _ amp) (word _ _ (p _ quot) (word _ _ (p _ apos) (none q)))))
 
@@ -90,7 +90,7 @@ ValueTo s quote at j = (at ≤ j) × (j < length s) × (get_or s j 0 ≡ quote)
 
 pub value_inside : (s : List ℕ) (at quote : ℕ) → Within (ValueTo s quote at) s at (value_end s at quote)
 unfolding value_from
-value_inside s at quote = run_held (Stopped Cut) (value_step s at quote) s (λ (left j : ℕ). at ≤ j) In tt turn 0 at (omega arith)
+value_inside s at quote = run_held (Err Cut) (value_step s at quote) s (λ (left j : ℕ). at ≤ j) In tt turn 0 at (omega arith)
   where
     In : Read → Type 0
     In = Within (ValueTo s quote at) s at
@@ -99,10 +99,10 @@ value_inside s at quote = run_held (Stopped Cut) (value_step s at quote) s (λ (
     Turn j = Turned (λ (left : ℕ). at ≤ j + 1) In
 
     passed : (j : ℕ) → at ≤ j → (r : Read) → Within (PassedTo s j) s j r → Turn j (passed_over j r)
-    passed j lo (End k) w = omega arith
-    passed j lo (Stopped (Bad k)) w = omega arith
-    passed j lo (Stopped (Long k)) w = w
-    passed j lo (Stopped Cut) w = tt
+    passed j lo (Ok k) w = omega arith
+    passed j lo (Err (Bad k)) w = omega arith
+    passed j lo (Err (Long k)) w = w
+    passed j lo (Err Cut) w = tt
 
     turn : (left j : ℕ) → j < length s → at ≤ j → Turn j (value_step s at quote left (get_or s j 0) j)
     turn left j hi lo =
@@ -115,7 +115,7 @@ value_inside s at quote = run_held (Stopped Cut) (value_step s at quote) s (λ (
 
 -- ---- more bytes
 -- a reference stands whole: it is read
-stands : (w s rest : List ℕ) (at : ℕ) → Reference w → drop at s ≡ w ++ rest → reference_end s at ≡ End (at + length w)
+stands : (w s rest : List ℕ) (at : ℕ) → Reference w → drop at s ≡ w ++ rest → reference_end s at ≡ Ok (at + length w)
 unfolding reference_end whole_of common
 stands w s rest at lt e = rw (e, common_none rest)
 stands w s rest at gt e = rw (e, common_none rest)
@@ -123,7 +123,7 @@ stands w s rest at amp e = rw (e, common_none rest)
 stands w s rest at quot e = rw (e, common_none rest)
 stands w s rest at apos e = rw (e, common_none rest)
 
-stands_kept : (w s t : List ℕ) (at : ℕ) → Reference w → common (drop at s) w ≡ length w → reference_end (s ++ t) at ≡ End (at + length w)
+stands_kept : (w s t : List ℕ) (at : ℕ) → Reference w → common (drop at s) w ≡ length w → reference_end (s ++ t) at ≡ Ok (at + length w)
 stands_kept w s t at o e =
     let i = found_in s w at (length w) (sym e) (some w o) in
     let a : drop at (s ++ t) ≡ drop at s ++ t = drop-append-le at s t (omega arith) in
@@ -159,45 +159,45 @@ none_kept s t at h =
     let m : at + furthest (drop at s) references < length (s ++ t) = simp length-append (omega arith) in
     rw (drop-append-le at s t (omega arith), furthest_kept (drop at s) t references i, lt-leb (length s) (at + furthest (drop at s) references) h, lt-leb (length (s ++ t)) (at + furthest (drop at s) references) m)
 
-pub reference_stable : (s t : List ℕ) (at : ℕ) → (reference_end s at ≡ Stopped Cut → ⊥) → reference_end (s ++ t) at ≡ reference_end s at
+pub reference_stable : (s t : List ℕ) (at : ℕ) → (reference_end s at ≡ Err Cut → ⊥) → reference_end (s ++ t) at ≡ reference_end s at
 unfolding reference_end
 reference_stable s t at = ⊎_elim ends goes (le_or_lt (length s) (at + furthest (drop at s) references))
   where
     Kept : Read → Type 0
-    Kept r = Stable (Stopped Cut) r (reference_end (s ++ t) at)
+    Kept r = Stable (Err Cut) r (reference_end (s ++ t) at)
 
     ends : length s ≤ at + furthest (drop at s) references → Kept (reference_end s at)
     ends h =
         each Kept s at (no_reference s at) (λ (w : List ℕ) o e n. stands_kept w s t at o e)
-        (rw (← none_cut s at (furthest (drop at s) references) refl h) (stable_cut (Stopped Cut) (reference_end (s ++ t) at)))
+        (rw (← none_cut s at (furthest (drop at s) references) refl h) (stable_cut (Err Cut) (reference_end (s ++ t) at)))
 
     goes : at + furthest (drop at s) references < length s → Kept (reference_end s at)
     goes h n =
         let i : furthest (drop at s) references < length (drop at s) = simp length-drop (omega arith) in
         rw (none_kept s t at h) (whole_kept s t at (no_reference s at) (omega arith) references i)
 
-pub text_stable : (s t : List ℕ) (b i : ℕ) → Stable (Stopped Cut) (text_at s b i) (text_at (s ++ t) b i)
+pub text_stable : (s t : List ℕ) (b i : ℕ) → Stable (Err Cut) (text_at s b i) (text_at (s ++ t) b i)
 unfolding text_at
-text_stable s t b i = stable_cond (Stopped Cut) (eqb b 0x3C) (stable_same (Stopped Cut) (Stopped (Bad i))) (char_stable set.Char s t i)
+text_stable s t b i = stable_cond (Err Cut) (eqb b 0x3C) (stable_same (Err Cut) (Err (Bad i))) (char_stable set.Char s t i)
 
 pub closes_kept : (s t : List ℕ) (at quote b i : ℕ) → i < length s → closes (s ++ t) at quote b i ≡ closes s at quote b i
 unfolding closes
 closes_kept s t at quote b i h = rw (get_or-append s t 0 (i - 1) (omega arith), get_or-append s t 0 (i - 2) (omega arith))
 
-pub value_agrees : (s t : List ℕ) (at quote left b i : ℕ) → i < length s → Stable (stop (Stopped Cut)) (value_step s at quote left b i) (value_step (s ++ t) at quote left b i)
+pub value_agrees : (s t : List ℕ) (at quote left b i : ℕ) → i < length s → Stable (stop (Err Cut)) (value_step s at quote left b i) (value_step (s ++ t) at quote left b i)
 value_agrees s t at quote left b i h =
     stable_cond c (eqb left 0)
-    (stable_cond c (eqb b quote) (stable_same c (stop (End i)))
+    (stable_cond c (eqb b quote) (stable_same c (stop (Ok i)))
     (stable_cond c (eqb b 0x26) (over (reference_end s i) (reference_end (s ++ t) i) (reference_stable s t i))
-    (rw (closes_kept s t at quote b i h) (stable_cond c (closes s at quote b i) (stable_same c (stop (Stopped (Bad (i - 2))))) (over (text_at s b i) (text_at (s ++ t) b i) (text_stable s t b i))))))
+    (rw (closes_kept s t at quote b i h) (stable_cond c (closes s at quote b i) (stable_same c (stop (Err (Bad (i - 2))))) (over (text_at s b i) (text_at (s ++ t) b i) (text_stable s t b i))))))
     (stable_same c (go (left - 1)))
   where
     c : RunNext ℕ Read
-    c = stop (Stopped Cut)
+    c = stop (Err Cut)
 
-    over : (r r' : Read) → Stable (Stopped Cut) r r' → Stable c (passed_over i r) (passed_over i r')
-    over = stable_bind (Stopped Cut) c (passed_over i) (passed_over i) refl (λ (r : Read). stable_same c (passed_over i r))
+    over : (r r' : Read) → Stable (Err Cut) r r' → Stable c (passed_over i r) (passed_over i r')
+    over = stable_bind (Err Cut) c (passed_over i) (passed_over i) refl (λ (r : Read). stable_same c (passed_over i r))
 
-pub value_stable : (s t : List ℕ) (at quote : ℕ) → (value_end s at quote ≡ Stopped Cut → ⊥) → value_end (s ++ t) at quote ≡ value_end s at quote
+pub value_stable : (s t : List ℕ) (at quote : ℕ) → (value_end s at quote ≡ Err Cut → ⊥) → value_end (s ++ t) at quote ≡ value_end s at quote
 unfolding value_from
-value_stable s t at quote = run_agree_at (Stopped Cut) (value_step s at quote) (value_step (s ++ t) at quote) 0 s t at (λ left b i lo hi. value_agrees s t at quote left b i hi)
+value_stable s t at quote = run_agree_at (Err Cut) (value_step s at quote) (value_step (s ++ t) at quote) 0 s t at (λ left b i lo hi. value_agrees s t at quote left b i hi)

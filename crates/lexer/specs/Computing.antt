@@ -1,8 +1,7 @@
 -- What the worked examples compute with, named once. A definition.
 use Rattle.std.specs.Prelude.{Bool, true}
-use Rattle.laws.specs.Lists.{same_list}
+use Rattle.laws.specs.Lists.{same_list, any}
 use Rattle.laws.specs.Reading.{run}
-use Rattle.laws.specs.Lists.{any}
 use Rattle.utf8.specs.Utf8.{utf8, code_point, is_form}
 use Rattle.utf8.specs.Forms.{first_form, next_form, form_from, form_of, least, most, form_begins}
 use Rattle.utf8.proofs.Deciding.{by_test, decided}

@@ -1,3 +1,4 @@
+pub mod Reads
 pub mod Stops
 pub mod Characters
 pub mod Names

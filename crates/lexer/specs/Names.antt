@@ -1,5 +1,5 @@
 -- Space, name parts and names. Definitions.
-use Rattle.std.specs.Prelude.{ℕ, ◌+◌, ◌-◌, List, [], Bool, cond, not, ◌&&◌, ◌||◌, length, drop, leb, eqb}
+use Rattle.std.specs.Prelude.{ℕ, ◌+◌, ◌-◌, List, [], Bool, cond, not, ◌&&◌, ◌||◌, length, drop, leb, eqb, Ok, Err}
 use Rattle.laws.specs.Reading.{RunNext, go, stop, run, peek}
 use Rattle.utf8.specs.declared.Set.{Set}
 use Rattle.utf8.specs.declared.Set.TheVariants as set
@@ -7,10 +7,7 @@ use Rattle.characters.specs.CanBegin.{begins}
 use Rattle.lexer.specs.Stops.{after_read}
 use Rattle.lexer.specs.Characters.{with_byte}
 use Rattle.lexer.specs.declared.Stop.TheVariants.{Bad, Long, Cut}
-use Rattle.lexer.specs.declared.Read.{Read}
-use Rattle.lexer.specs.declared.Read.TheVariants as read
-use Rattle.lexer.specs.declared.Named.{Named}
-use Rattle.lexer.specs.declared.Named.TheVariants as named
+use Rattle.lexer.specs.Reads.{Read, Named}
 
 -- "Space is 09 0A 0D 20"
 abbrev pub is_space : ℕ → Bool
@@ -18,10 +15,10 @@ is_space b = eqb b 0x20 || eqb b 0x0A || eqb b 0x09 || eqb b 0x0D
 
 -- the first byte from a place on that is no space
 abbrev pub space_step : ℕ → ℕ → ℕ → RunNext ℕ Read
-space_step q b i = cond (is_space b) (go q) (stop (read.End i))
+space_step q b i = cond (is_space b) (go q) (stop (Ok i))
 
 unfoldable pub spaces_end : List ℕ → ℕ → Read
-spaces_end s at = run (read.Stopped Cut) space_step 0 (drop at s) at
+spaces_end s at = run (Err Cut) space_step 0 (drop at s) at
 
 -- lo to hi, both in
 abbrev pub within : ℕ → ℕ → ℕ → Bool
@@ -48,25 +45,25 @@ part_whole q = eqb (length q.begun) 0 && not (eqb q.room 64)
 abbrev pub part_step : PartState → ℕ → ℕ → RunNext PartState Read
 part_step q b i =
     cond (begins (part_set q) q.begun b)
-    (cond (eqb q.room 0) (stop (read.Stopped (Long i))) (go (part_state (q.room - 1) (with_byte q.begun b))))
-    (stop (cond (part_whole q) (read.End i) (read.Stopped (Bad i))))
+    (cond (eqb q.room 0) (stop (Err (Long i))) (go (part_state (q.room - 1) (with_byte q.begun b))))
+    (stop (cond (part_whole q) (Ok i) (Err (Bad i))))
 
 unfoldable pub part_end : List ℕ → ℕ → Read
-part_end s at = run (read.Stopped Cut) part_step (part_state 64 []) (drop at s) at
+part_end s at = run (Err Cut) part_step (part_state 64 []) (drop at s) at
 
 -- a device: a part of which the bytes from `at` up to i are read, whole characters
 unfoldable pub part_from : List ℕ → ℕ → ℕ → Read
-part_from s at i = run (read.Stopped Cut) part_step (part_state (at + 64 - i) []) (drop i s) i
+part_from s at i = run (Err Cut) part_step (part_state (at + 64 - i) []) (drop i s) i
 
 abbrev pub name_of : ℕ → ℕ → ℕ → Named
-name_of at part end = named.Got (record { at = at; part = part; end = end })
+name_of at part end = Ok (record { at = at; part = part; end = end })
 
 -- the part behind a prefix and its colon
 unfoldable pub prefixed_at : List ℕ → ℕ → ℕ → Named
-prefixed_at s at part = after_read named.Stopped (part_end s part) (λ (end : ℕ). name_of at part end)
+prefixed_at s at part = after_read Err (part_end s part) (λ (end : ℕ). name_of at part end)
 
 -- "A name is a part, or a prefix part, a colon and a part"
 unfoldable pub name_at : List ℕ → ℕ → Named
 name_at s at =
-    after_read named.Stopped (part_end s at) (λ (j : ℕ).
-    peek (named.Stopped Cut) s j (λ (b : ℕ). cond (eqb b 0x3A) (prefixed_at s at (j + 1)) (name_of at at j)))
+    after_read Err (part_end s at) (λ (j : ℕ).
+    peek (Err Cut) s j (λ (b : ℕ). cond (eqb b 0x3A) (prefixed_at s at (j + 1)) (name_of at at j)))

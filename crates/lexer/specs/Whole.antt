@@ -1,18 +1,15 @@
 -- Bytes that are a name part, or a name, as a whole: what reads them, with a byte behind that no name has, ends where they do. Definitions.
-use Rattle.std.specs.Prelude.{ℕ, List, [], ◌∷◌, ◌++◌, Bool, false, length, eqb}
+use Rattle.std.specs.Prelude.{ℕ, List, [], ◌∷◌, ◌++◌, Bool, false, length, eqb, Ok, Err}
 use Rattle.lexer.specs.Names.{part_end, name_at}
-use Rattle.lexer.specs.declared.Read.{Read}
-use Rattle.lexer.specs.declared.Read.TheVariants as read
-use Rattle.lexer.specs.declared.Named.{Named}
-use Rattle.lexer.specs.declared.Named.TheVariants as named
+use Rattle.lexer.specs.Reads.{Read, Named}
 
 abbrev pub part_to : ℕ → Read → Bool
-part_to n (read.End j) = eqb j n
-part_to n (read.Stopped x) = false
+part_to n (Ok j) = eqb j n
+part_to n (Err x) = false
 
 abbrev pub name_to : ℕ → Named → Bool
-name_to n (named.Got name) = eqb name.end n
-name_to n (named.Stopped x) = false
+name_to n (Ok name) = eqb name.end n
+name_to n (Err x) = false
 
 unfoldable pub is_part : List ℕ → Bool
 is_part bytes = part_to (length bytes) (part_end (bytes ++ (0 ∷ [])) 0)

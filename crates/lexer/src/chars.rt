@@ -1,62 +1,56 @@
 // A character of a set, read from UTF-8.
-ghost use Rattle.std.specs.Prelude.{◌≡◌, [], ◌+◌};
+ghost use Rattle.std.specs.Prelude.{◌≡◌, [], ◌+◌, ◌<◌, IfSome, Ok};
 ghost use Rattle.characters.specs.CanBegin.{begins};
-ghost use Rattle.lexer.specs.declared.Read.TheVariants as read;
 ghost use Rattle.lexer.specs.Shortcuts.{is_char};
 ghost use Rattle.lexer.specs.Characters.{char_end};
 
-use crate::{Read, Stop};
+use crate::Stop;
 use characters::forms::{can_begin, fresh_form, next_form};
 use utf8::Set;
 
-// How many bytes the character of the set has that stands whole at a place; 0 where none is found.
-pub(crate) fn whole_len(s: &[u8], at: usize, set: Set) -> usize
-    ensures { (result ≡ 0 → ⊥) → char_end set s.now at ≡ read.End (at + result) }
+// How many bytes the character of the set has that stands whole at a place, where one is found.
+pub(crate) fn whole_len(s: &[u8], at: usize, set: Set) -> Option<usize>
+    ensures { IfSome result (λ n. (0 < n) × (char_end set s.now at ≡ Ok (at + n))) }
 {
     let mut f = fresh_form();
-    let mut i = at;
-    while i < s.len() {
+    for i in at..s.len() {
         f = next_form(f, s[i]);
-        i += 1;
         if f.left == 0 {
             if can_begin(set, f) {
-                return i - at;
+                return Some(i + 1 - at);
             }
-            return 0;
+            return None;
         }
     }
-    0
+    None
 }
 
 // Where the character that begins at a place ends, or the first byte with which no character of the set goes on.
-pub fn char_end(s: &[u8], at: usize, set: Set) -> Read
+pub fn char_end(s: &[u8], at: usize, set: Set) -> Result<usize, Stop>
     ensures { result ≡ char_end set s.now at }
 {
-    let n = whole_len(s, at, set);
-    if n != 0 {
-        return Read::End(at + n);
+    match whole_len(s, at, set) {
+        Some(n) => Ok(at + n),
+        None => broken_end(s, at, set),
     }
-    broken_end(s, at, set)
 }
 
 // The same, byte by byte.
-fn broken_end(s: &[u8], at: usize, set: Set) -> Read
+fn broken_end(s: &[u8], at: usize, set: Set) -> Result<usize, Stop>
     ensures { result ≡ char_end set s.now at }
 {
     let mut f = fresh_form();
-    let mut i = at;
-    while i < s.len() {
+    for i in at..s.len() {
         let g = next_form(f, s[i]);
         if !can_begin(set, g) {
-            return Read::Stopped(Stop::Bad(i));
+            return Err(Stop::Bad(i));
         }
         if g.left == 0 {
-            return Read::End(i + 1);
+            return Ok(i + 1);
         }
         f = g;
-        i += 1;
     }
-    Read::Stopped(Stop::Cut)
+    Err(Stop::Cut)
 }
 
 // Can a character of the set begin with this byte?

@@ -16,25 +16,12 @@ pub enum Stop {
     Cut,
 }
 
-// Where what was read ends, or why reading stops.
-#[derive(Clone, Copy)]
-pub enum Read {
-    End(usize),
-    Stopped(Stop),
-}
-
 // A name: its first byte, the first byte of its last part, and its end.
 #[derive(Clone, Copy)]
 pub struct Name {
     pub at: usize,
     pub part: usize,
     pub end: usize,
-}
-
-#[derive(Clone, Copy)]
-pub enum Named {
-    Got(Name),
-    Stopped(Stop),
 }
 
 // An attribute: its name, where its value begins and ends.
@@ -45,12 +32,6 @@ pub struct Attr {
     pub stop: usize,
 }
 
-#[derive(Clone, Copy)]
-pub enum Attributed {
-    Got(Attr),
-    Stopped(Stop),
-}
-
 // What stands behind a tag's name or an attribute, or behind a field of the declaration.
 #[derive(Clone, Copy)]
 pub enum Turn {
@@ -58,7 +39,6 @@ pub enum Turn {
     Close(usize, bool),
     // A name, after space.
     Attribute(usize),
-    Stopped(Stop),
 }
 
 // A start tag: its name, how many attributes, the place behind it, and whether it ends in />.
@@ -70,23 +50,11 @@ pub struct Tag {
     pub empty: bool,
 }
 
-#[derive(Clone, Copy)]
-pub enum Tagged {
-    Got(Tag),
-    Stopped(Stop),
-}
-
 // An end tag: its name and the place behind it.
 #[derive(Clone, Copy)]
 pub struct EndTag {
     pub name: Name,
     pub next: usize,
-}
-
-#[derive(Clone, Copy)]
-pub enum Ended {
-    Got(EndTag),
-    Stopped(Stop),
 }
 
 // What stands at the place where the next event begins.
@@ -100,15 +68,6 @@ pub enum Begin {
     Text(usize),
     // The root has closed, and only space, comments and instructions follow.
     Finished,
-    Stopped(Stop),
-}
-
-// What stands at a place where the next event may begin.
-#[derive(Clone, Copy)]
-pub enum Ahead {
-    Event(Begin),
-    // A comment, an instruction or the declaration: the place behind it.
-    Misc(usize),
 }
 
 // What a declaration holds.

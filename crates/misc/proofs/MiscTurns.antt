@@ -19,12 +19,11 @@ use Rattle.laws.specs.Tests.{neither}
 use Rattle.laws.proofs.Flags.{differ, or_left, or_right}
 use Rattle.lexer.specs.Declaration.{is_digit, is_letter, is_field_byte, word_end, field_word, field_value, field_then}
 use Rattle.lexer.specs.Misc.{is_xml, is_declared, instruction_end, comment_end, misc_end}
-use Rattle.lexer.specs.declared.Read.{Read}
-use Rattle.lexer.specs.declared.Turn.{Turn}
+use Rattle.lexer.specs.Reads.{Read, TurnRead}
 use Rattle.lexer.specs.declared.Field.{Field}
 use Rattle.lexer.specs.declared.Field.TheVariants.{Encoding}
 
-pub by_turn : (more : ℕ → Read) (r v m : Turn) (x : Read) → r ≡ v → r ≡ m → x ≡ field_then more m → x ≡ field_then more v
+pub by_turn : (more : ℕ → Read) (r v m : TurnRead) (x : Read) → r ≡ v → r ≡ m → x ≡ field_then more m → x ≡ field_then more v
 by_turn more r v m x p q h = h ∙ ap (field_then more) (sym q ∙ p)
 
 -- a field, and what the `match` says it is

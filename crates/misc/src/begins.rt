@@ -1,20 +1,24 @@
 // Where the next event begins.
-ghost use Rattle.std.specs.Prelude.{◌≡◌, cond, true};
+ghost use Rattle.std.specs.Prelude.{◌≡◌, cond, true, Ok};
 ghost use Rattle.lexer.specs.Names.{spaces_end};
-ghost use Rattle.lexer.specs.declared.Read.TheVariants as read;
 ghost use Rattle.lexer.specs.Begins.{misc_ahead, opens_misc, markup_at, either_at, ahead_at, begin_at};
 
 use crate::instructions::misc_end;
 use lexer::names::spaces_end;
-use lexer::{Ahead, Begin, Read, Stop};
+use lexer::{Begin, Stop};
+use std::ops::ControlFlow;
+use std::ops::ControlFlow::{Break, Continue};
+
+// What stands at a place where the next event may begin: Break with what it is, or Continue behind a comment, an instruction or the declaration.
+type Ahead = ControlFlow<Result<Begin, Stop>, usize>;
 
 // A misc whose < stands at a place.
 fn misc_ahead(s: &[u8], at: usize) -> Ahead
     ensures { result ≡ misc_ahead s.now at }
 {
     match misc_end(s, at) {
-        Read::End(j) => Ahead::Misc(j),
-        Read::Stopped(x) => Ahead::Event(Begin::Stopped(x)),
+        Ok(end) => Continue(end),
+        Err(x) => Break(Err(x)),
     }
 }
 
@@ -29,26 +33,26 @@ fn markup_at(s: &[u8], inside: bool, closed: bool, at: usize) -> Ahead
     ensures { result ≡ markup_at s.now inside closed at }
 {
     if s.len() <= at {
-        return Ahead::Event(Begin::Stopped(Stop::Cut));
+        return Break(Err(Stop::Cut));
     }
     let second = at + 1;
     if s.len() <= second {
-        return Ahead::Event(Begin::Stopped(Stop::Cut));
+        return Break(Err(Stop::Cut));
     }
     let b = s[second];
     if b == b'/' {
         if inside {
-            return Ahead::Event(Begin::End(at));
+            return Break(Ok(Begin::End(at)));
         }
-        return Ahead::Event(Begin::Stopped(Stop::Bad(second)));
+        return Break(Err(Stop::Bad(second)));
     }
     if opens_misc(b) {
         return misc_ahead(s, at);
     }
     if inside | !closed {
-        return Ahead::Event(Begin::Start(at));
+        return Break(Ok(Begin::Start(at)));
     }
-    Ahead::Event(Begin::Stopped(Stop::Bad(second)))
+    Break(Err(Stop::Bad(second)))
 }
 
 // A tag, a misc, or inside an element a text.
@@ -56,23 +60,23 @@ fn either_at(s: &[u8], inside: bool, closed: bool, at: usize) -> Ahead
     ensures { result ≡ either_at s.now inside closed at }
 {
     if s.len() <= at {
-        return Ahead::Event(Begin::Stopped(Stop::Cut));
+        return Break(Err(Stop::Cut));
     }
     if s[at] == b'<' {
         return markup_at(s, inside, closed, at);
     }
     if inside {
-        return Ahead::Event(Begin::Text(at));
+        return Break(Ok(Begin::Text(at)));
     }
-    Ahead::Event(Begin::Stopped(Stop::Bad(at)))
+    Break(Err(Stop::Bad(at)))
 }
 
 // Where what stands at a place begins: outside the root behind space.
-fn place_ahead(s: &[u8], inside: bool, at: usize) -> Read
-    ensures { result ≡ cond inside (read.End at) (spaces_end s.now at) }
+fn place_ahead(s: &[u8], inside: bool, at: usize) -> Result<usize, Stop>
+    ensures { result ≡ cond inside (Ok at) (spaces_end s.now at) }
 {
     if inside {
-        return Read::End(at);
+        return Ok(at);
     }
     spaces_end(s, at)
 }
@@ -82,49 +86,49 @@ fn ahead_at(s: &[u8], inside: bool, closed: bool, at: usize) -> Ahead
     ensures { result ≡ ahead_at s.now inside closed at }
 {
     match place_ahead(s, inside, at) {
-        Read::End(i) => either_at(s, inside, closed, i),
-        Read::Stopped(x) => {
+        Ok(i) => either_at(s, inside, closed, i),
+        Err(x) => {
             if closed {
-                return Ahead::Event(Begin::Finished);
+                return Break(Ok(Begin::Finished));
             }
-            Ahead::Event(Begin::Stopped(x))
+            Break(Err(x))
         }
     }
 }
 
 // Where the next event begins, behind any number of misc: inside an element or not, the root closed or not.
-fn begin_from(s: &[u8], at: usize, inside: bool, closed: bool) -> Begin
+fn begin_from(s: &[u8], at: usize, inside: bool, closed: bool) -> Result<Begin, Stop>
     ensures { result ≡ begin_at s.now at inside closed }
 {
     let mut i = at;
     loop {
         match ahead_at(s, inside, closed, i) {
-            Ahead::Event(b) => {
-                return b;
+            Break(event) => {
+                return event;
             }
-            Ahead::Misc(j) => {
-                i = j;
+            Continue(end) => {
+                i = end;
             }
         }
     }
 }
 
 // The same inside an element: at once where no misc stands.
-fn begin_inside(s: &[u8], at: usize, closed: bool) -> Begin
+fn begin_inside(s: &[u8], at: usize, closed: bool) -> Result<Begin, Stop>
     ensures { result ≡ begin_at s.now at true closed }
 {
     if at < s.len() {
         if s[at] != b'<' {
-            return Begin::Text(at);
+            return Ok(Begin::Text(at));
         }
         let second = at + 1;
         if second < s.len() {
             let b = s[second];
             if b == b'/' {
-                return Begin::End(at);
+                return Ok(Begin::End(at));
             }
             if !opens_misc(b) {
-                return Begin::Start(at);
+                return Ok(Begin::Start(at));
             }
         }
     }
@@ -132,7 +136,7 @@ fn begin_inside(s: &[u8], at: usize, closed: bool) -> Begin
 }
 
 // The same, inside an element or not.
-pub fn begin_at(s: &[u8], at: usize, inside: bool, closed: bool) -> Begin
+pub fn begin_at(s: &[u8], at: usize, inside: bool, closed: bool) -> Result<Begin, Stop>
     ensures { result ≡ begin_at s.now at inside closed }
 {
     if inside {

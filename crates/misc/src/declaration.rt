@@ -3,26 +3,24 @@ ghost use Rattle.std.specs.Prelude.{◌≡◌};
 ghost use Rattle.lexer.specs.Declaration.{is_digit, is_letter, is_field_byte, word_end, some_end, version_end, encoding_end, answer_end, standalone_end, field_word, field_value, quoted_end, field_end, turn_from, field_turn, last_rest, standalone_then, encoding_rest, encoding_then, either_then, version_rest, version_then, declaration_end};
 
 use lexer::names::{is_space, spaces_end};
-use lexer::{Field, Read, Stop, Turn};
+use lexer::{Field, Stop, Turn};
 use tags::{equals_end, slash_at, want};
 
 // The place behind this word, which must stand here.
-pub fn word_end(s: &[u8], at: usize, word: &[u8]) -> Read
+pub fn word_end(s: &[u8], at: usize, word: &[u8]) -> Result<usize, Stop>
     ensures { result ≡ word_end s.now at word.now }
 {
     let mut i = at;
-    let mut k = 0;
-    while k < word.len() {
+    for k in 0..word.len() {
         if s.len() <= i {
-            return Read::Stopped(Stop::Cut);
+            return Err(Stop::Cut);
         }
         if s[i] != word[k] {
-            return Read::Stopped(Stop::Bad(i));
+            return Err(Stop::Bad(i));
         }
         i += 1;
-        k += 1;
     }
-    Read::End(i)
+    Ok(i)
 }
 
 fn is_digit(b: u8) -> bool
@@ -49,50 +47,46 @@ fn is_fit(field: Field, b: u8) -> bool
 }
 
 // Such bytes, one at least, and the quote.
-fn some_end(s: &[u8], field: Field, at: usize, quote: u8) -> Read
+fn some_end(s: &[u8], field: Field, at: usize, quote: u8) -> Result<usize, Stop>
     ensures { result ≡ some_end s.now field at quote }
 {
-    let mut i = at;
-    while i < s.len() {
+    for i in at..s.len() {
         let b = s[i];
         if (i != at) & (b == quote) {
-            return Read::End(i + 1);
+            return Ok(i + 1);
         }
         if !is_fit(field, b) {
-            return Read::Stopped(Stop::Bad(i));
+            return Err(Stop::Bad(i));
         }
-        i += 1;
     }
-    Read::Stopped(Stop::Cut)
+    Err(Stop::Cut)
 }
 
-fn version_end(s: &[u8], at: usize, quote: u8) -> Read
+fn version_end(s: &[u8], at: usize, quote: u8) -> Result<usize, Stop>
     ensures { result ≡ version_end s.now at quote }
 {
-    match word_end(s, at, b"1.") {
-        Read::End(i) => some_end(s, Field::Version, i, quote),
-        Read::Stopped(x) => Read::Stopped(x),
-    }
+    let i = word_end(s, at, b"1.")?;
+    some_end(s, Field::Version, i, quote)
 }
 
-fn encoding_end(s: &[u8], at: usize, quote: u8) -> Read
+fn encoding_end(s: &[u8], at: usize, quote: u8) -> Result<usize, Stop>
     ensures { result ≡ encoding_end s.now at quote }
 {
     if s.len() <= at {
-        return Read::Stopped(Stop::Cut);
+        return Err(Stop::Cut);
     }
     if is_letter(s[at]) {
         return some_end(s, Field::Encoding, at, quote);
     }
-    Read::Stopped(Stop::Bad(at))
+    Err(Stop::Bad(at))
 }
 
 // yes or no.
-fn answer_end(s: &[u8], at: usize) -> Read
+fn answer_end(s: &[u8], at: usize) -> Result<usize, Stop>
     ensures { result ≡ answer_end s.now at }
 {
     if s.len() <= at {
-        return Read::Stopped(Stop::Cut);
+        return Err(Stop::Cut);
     }
     if s[at] == b'y' {
         return word_end(s, at, b"yes");
@@ -100,17 +94,15 @@ fn answer_end(s: &[u8], at: usize) -> Read
     word_end(s, at, b"no")
 }
 
-fn standalone_end(s: &[u8], at: usize, quote: u8) -> Read
+fn standalone_end(s: &[u8], at: usize, quote: u8) -> Result<usize, Stop>
     ensures { result ≡ standalone_end s.now at quote }
 {
-    match answer_end(s, at) {
-        Read::End(i) => want(s, i, quote),
-        Read::Stopped(x) => Read::Stopped(x),
-    }
+    let i = answer_end(s, at)?;
+    want(s, i, quote)
 }
 
 // The place behind a field's word.
-fn field_word_end(s: &[u8], field: Field, at: usize) -> Read
+fn field_word_end(s: &[u8], field: Field, at: usize) -> Result<usize, Stop>
     ensures { result ≡ word_end s.now at (field_word field) }
 {
     match field {
@@ -121,7 +113,7 @@ fn field_word_end(s: &[u8], field: Field, at: usize) -> Read
 }
 
 // The place behind a field's value and the quote.
-fn field_value_end(s: &[u8], field: Field, at: usize, quote: u8) -> Read
+fn field_value_end(s: &[u8], field: Field, at: usize, quote: u8) -> Result<usize, Stop>
     ensures { result ≡ field_value field s.now at quote }
 {
     match field {
@@ -132,104 +124,92 @@ fn field_value_end(s: &[u8], field: Field, at: usize, quote: u8) -> Read
 }
 
 // A field's value, its quote at a place.
-fn quoted_end(s: &[u8], field: Field, at: usize) -> Read
+fn quoted_end(s: &[u8], field: Field, at: usize) -> Result<usize, Stop>
     ensures { result ≡ quoted_end s.now field at }
 {
     if s.len() <= at {
-        return Read::Stopped(Stop::Cut);
+        return Err(Stop::Cut);
     }
     let quote = s[at];
     if (quote == 0x22) | (quote == 0x27) {
         return field_value_end(s, field, at + 1, quote);
     }
-    Read::Stopped(Stop::Bad(at))
+    Err(Stop::Bad(at))
 }
 
 // A field, its word at a place.
-fn field_end(s: &[u8], field: Field, at: usize) -> Read
+fn field_end(s: &[u8], field: Field, at: usize) -> Result<usize, Stop>
     ensures { result ≡ field_end s.now field at }
 {
-    match field_word_end(s, field, at) {
-        Read::End(i) => match equals_end(s, i) {
-            Read::End(j) => quoted_end(s, field, j),
-            Read::Stopped(x) => Read::Stopped(x),
-        },
-        Read::Stopped(x) => Read::Stopped(x),
-    }
+    let word = field_word_end(s, field, at)?;
+    let quote = equals_end(s, word)?;
+    quoted_end(s, field, quote)
 }
 
 // What stands behind a field, behind the space from `at` to i.
-fn turn_from(s: &[u8], at: usize, i: usize) -> Turn
+fn turn_from(s: &[u8], at: usize, i: usize) -> Result<Turn, Stop>
     ensures { result ≡ turn_from s.now at i }
 {
     if s.len() <= i {
-        return Turn::Stopped(Stop::Cut);
+        return Err(Stop::Cut);
     }
     if s[i] == b'?' {
         return slash_at(s, i);
     }
     if i == at {
-        return Turn::Stopped(Stop::Bad(i));
+        return Err(Stop::Bad(i));
     }
-    Turn::Attribute(i)
+    Ok(Turn::Attribute(i))
 }
 
 // What stands behind a field that ends at a place.
-fn field_turn(s: &[u8], at: usize) -> Turn
+fn field_turn(s: &[u8], at: usize) -> Result<Turn, Stop>
     ensures { result ≡ field_turn s.now at }
 {
-    match spaces_end(s, at) {
-        Read::End(i) => turn_from(s, at, i),
-        Read::Stopped(x) => Turn::Stopped(x),
-    }
+    let i = spaces_end(s, at)?;
+    turn_from(s, at, i)
 }
 
 // Behind the last field.
-fn last_rest(s: &[u8], at: usize) -> Read
+fn last_rest(s: &[u8], at: usize) -> Result<usize, Stop>
     ensures { result ≡ last_rest s.now at }
 {
-    match field_turn(s, at) {
-        Turn::Close(next, _) => Read::End(next),
-        Turn::Attribute(i) => Read::Stopped(Stop::Bad(i)),
-        Turn::Stopped(x) => Read::Stopped(x),
+    match field_turn(s, at)? {
+        Turn::Close(next, _) => Ok(next),
+        Turn::Attribute(i) => Err(Stop::Bad(i)),
     }
 }
 
-fn standalone_then(s: &[u8], at: usize) -> Read
+fn standalone_then(s: &[u8], at: usize) -> Result<usize, Stop>
     ensures { result ≡ standalone_then s.now at }
 {
-    match field_end(s, Field::Standalone, at) {
-        Read::End(i) => last_rest(s, i),
-        Read::Stopped(x) => Read::Stopped(x),
-    }
+    let i = field_end(s, Field::Standalone, at)?;
+    last_rest(s, i)
 }
 
 // Behind the encoding.
-fn encoding_rest(s: &[u8], at: usize) -> Read
+fn encoding_rest(s: &[u8], at: usize) -> Result<usize, Stop>
     ensures { result ≡ encoding_rest s.now at }
 {
-    match field_turn(s, at) {
-        Turn::Close(next, _) => Read::End(next),
+    match field_turn(s, at)? {
+        Turn::Close(next, _) => Ok(next),
         Turn::Attribute(i) => standalone_then(s, i),
-        Turn::Stopped(x) => Read::Stopped(x),
     }
 }
 
-fn encoding_then(s: &[u8], at: usize) -> Read
+fn encoding_then(s: &[u8], at: usize) -> Result<usize, Stop>
     ensures { result ≡ encoding_then s.now at }
 {
-    match field_end(s, Field::Encoding, at) {
-        Read::End(i) => encoding_rest(s, i),
-        Read::Stopped(x) => Read::Stopped(x),
-    }
+    let i = field_end(s, Field::Encoding, at)?;
+    encoding_rest(s, i)
 }
 
 // An encoding or a standalone, its word at a place.
-fn either_then(s: &[u8], at: usize) -> Read
+fn either_then(s: &[u8], at: usize) -> Result<usize, Stop>
     ensures { result ≡ either_then s.now at }
 {
     if s.len() <= at {
-        return Read::Stopped(Stop::Cut);
+        return Err(Stop::Cut);
     }
     if s[at] == b'e' {
         return encoding_then(s, at);
@@ -238,37 +218,32 @@ fn either_then(s: &[u8], at: usize) -> Read
 }
 
 // Behind the version.
-fn version_rest(s: &[u8], at: usize) -> Read
+fn version_rest(s: &[u8], at: usize) -> Result<usize, Stop>
     ensures { result ≡ version_rest s.now at }
 {
-    match field_turn(s, at) {
-        Turn::Close(next, _) => Read::End(next),
+    match field_turn(s, at)? {
+        Turn::Close(next, _) => Ok(next),
         Turn::Attribute(i) => either_then(s, i),
-        Turn::Stopped(x) => Read::Stopped(x),
     }
 }
 
-fn version_then(s: &[u8], at: usize) -> Read
+fn version_then(s: &[u8], at: usize) -> Result<usize, Stop>
     ensures { result ≡ version_then s.now at }
 {
-    match field_end(s, Field::Version, at) {
-        Read::End(i) => version_rest(s, i),
-        Read::Stopped(x) => Read::Stopped(x),
-    }
+    let i = field_end(s, Field::Version, at)?;
+    version_rest(s, i)
 }
 
 // The declaration from behind its <?xml on.
-pub fn declaration_end(s: &[u8], at: usize) -> Read
+pub fn declaration_end(s: &[u8], at: usize) -> Result<usize, Stop>
     ensures { result ≡ declaration_end s.now at }
 {
     if s.len() <= at {
-        return Read::Stopped(Stop::Cut);
+        return Err(Stop::Cut);
     }
     if !is_space(s[at]) {
-        return Read::Stopped(Stop::Bad(at));
+        return Err(Stop::Bad(at));
     }
-    match spaces_end(s, at) {
-        Read::End(i) => version_then(s, i),
-        Read::Stopped(x) => Read::Stopped(x),
-    }
+    let i = spaces_end(s, at)?;
+    version_then(s, i)
 }

@@ -3,14 +3,14 @@ ghost use Rattle.std.specs.Prelude.{◌≡◌};
 ghost use Rattle.lexer.specs.Misc.{comment_rest, comment_end, content_end, behind_target, is_xml, is_declared, instruction_end, misc_end};
 
 use crate::declaration::{declaration_end, word_end};
+use lexer::Stop;
 use lexer::chars::{char_end, is_char};
 use lexer::names::{is_space, part_end};
-use lexer::{Read, Stop};
 use tags::want;
 use utf8::Set;
 
 // A comment from behind its <!-- on.
-fn comment_rest(s: &[u8], at: usize) -> Read
+fn comment_rest(s: &[u8], at: usize) -> Result<usize, Stop>
     ensures { result ≡ comment_rest s.now at }
 {
     let mut i = at;
@@ -19,46 +19,37 @@ fn comment_rest(s: &[u8], at: usize) -> Read
         let b = s[i];
         if hyphens == 2 {
             if b == b'>' {
-                return Read::End(i + 1);
+                return Ok(i + 1);
             }
-            return Read::Stopped(Stop::Bad(i));
+            return Err(Stop::Bad(i));
         }
         if b == b'-' {
             hyphens += 1;
             i += 1;
         } else if b < 0x80 {
             if !is_char(b) {
-                return Read::Stopped(Stop::Bad(i));
+                return Err(Stop::Bad(i));
             }
             hyphens = 0;
             i += 1;
         } else {
-            match char_end(s, i, Set::Char) {
-                Read::End(j) => {
-                    hyphens = 0;
-                    i = j;
-                }
-                Read::Stopped(x) => {
-                    return Read::Stopped(x);
-                }
-            }
+            i = char_end(s, i, Set::Char)?;
+            hyphens = 0;
         }
     }
-    Read::Stopped(Stop::Cut)
+    Err(Stop::Cut)
 }
 
 // A comment from behind its <! on.
-fn comment_end(s: &[u8], at: usize) -> Read
+fn comment_end(s: &[u8], at: usize) -> Result<usize, Stop>
     ensures { result ≡ comment_end s.now at }
 {
-    match word_end(s, at, b"--") {
-        Read::End(i) => comment_rest(s, i),
-        Read::Stopped(x) => Read::Stopped(x),
-    }
+    let i = word_end(s, at, b"--")?;
+    comment_rest(s, i)
 }
 
 // What an instruction holds behind its target and a space.
-fn content_end(s: &[u8], at: usize) -> Read
+fn content_end(s: &[u8], at: usize) -> Result<usize, Stop>
     ensures { result ≡ content_end s.now at }
 {
     let mut i = at;
@@ -66,34 +57,27 @@ fn content_end(s: &[u8], at: usize) -> Read
     while i < s.len() {
         let b = s[i];
         if behind & (b == b'>') {
-            return Read::End(i + 1);
+            return Ok(i + 1);
         }
         behind = b == b'?';
         if b < 0x80 {
             if !is_char(b) {
-                return Read::Stopped(Stop::Bad(i));
+                return Err(Stop::Bad(i));
             }
             i += 1;
         } else {
-            match char_end(s, i, Set::Char) {
-                Read::End(j) => {
-                    i = j;
-                }
-                Read::Stopped(x) => {
-                    return Read::Stopped(x);
-                }
-            }
+            i = char_end(s, i, Set::Char)?;
         }
     }
-    Read::Stopped(Stop::Cut)
+    Err(Stop::Cut)
 }
 
 // An instruction from behind its target on.
-fn behind_target(s: &[u8], at: usize) -> Read
+fn behind_target(s: &[u8], at: usize) -> Result<usize, Stop>
     ensures { result ≡ behind_target s.now at }
 {
     if s.len() <= at {
-        return Read::Stopped(Stop::Cut);
+        return Err(Stop::Cut);
     }
     if is_space(s[at]) {
         return content_end(s, at + 1);
@@ -101,7 +85,7 @@ fn behind_target(s: &[u8], at: usize) -> Read
     if s[at] == b'?' {
         return want(s, at + 1, b'>');
     }
-    Read::Stopped(Stop::Bad(at))
+    Err(Stop::Bad(at))
 }
 
 // Whether the part from at to end is xml in any letter case.
@@ -131,33 +115,29 @@ fn is_declared(s: &[u8], at: usize) -> bool
 }
 
 // An instruction or the declaration from behind its <? on.
-fn instruction_end(s: &[u8], at: usize) -> Read
+fn instruction_end(s: &[u8], at: usize) -> Result<usize, Stop>
     ensures { result ≡ instruction_end s.now at }
 {
-    match part_end(s, at) {
-        Read::End(j) => {
-            if !is_xml(s, at, j) {
-                return behind_target(s, j);
-            }
-            if is_declared(s, at) {
-                return declaration_end(s, j);
-            }
-            Read::Stopped(Stop::Bad(at))
-        }
-        Read::Stopped(x) => Read::Stopped(x),
+    let target = part_end(s, at)?;
+    if !is_xml(s, at, target) {
+        return behind_target(s, target);
     }
+    if !is_declared(s, at) {
+        return Err(Stop::Bad(at));
+    }
+    declaration_end(s, target)
 }
 
 // The place behind a misc whose < stands at a place, a ! or ? behind it.
-pub fn misc_end(s: &[u8], at: usize) -> Read
+pub fn misc_end(s: &[u8], at: usize) -> Result<usize, Stop>
     ensures { result ≡ misc_end s.now at }
 {
     if s.len() <= at {
-        return Read::Stopped(Stop::Cut);
+        return Err(Stop::Cut);
     }
     let second = at + 1;
     if s.len() <= second {
-        return Read::Stopped(Stop::Cut);
+        return Err(Stop::Cut);
     }
     if s[second] == b'?' {
         return instruction_end(s, second + 1);

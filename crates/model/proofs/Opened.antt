@@ -12,7 +12,7 @@ use Rattle.laws.specs.Gather.{gather, total}
 use Rattle.laws.proofs.Gather.{gather_append}
 use Rattle.model.specs.Theory.{Action, Attach, Unwrap, Validate, Rule, AttributeUnit, opens, holds, Record, Theory}
 use Rattle.model.specs.Tree.{TreeEvent, start, text, end, still_open, completed, tree_of}
-use Rattle.model.specs.Stream.{Level, State, Entry, allot, new_units, take_rules, entries_at, units_of, entered, start_records, text_records, end_records, written, after, fresh, reached, stream_from, stream_of, HeldStrand, held_before_root, stay, by_rule, receiver, give, attributes_from, opening, closing}
+use Rattle.model.specs.Stream.{Level, State, Entry, allot, new_units, take_rules, entries_at, units_of, entered, start_records, text_records, end_records, written, after, fresh, reached, stream_from, stream_of, HeldStrand, held_before_root, stay, by_rule, receiver, give, attributes_from, closing}
 use Rattle.model.specs.Model.{units_opened, model_of, OneKeeps}
 use Rattle.model.proofs.Lists.{gather_nothing, gather_gather, All, all_append}
 use Rattle.model.proofs.Cut.{IsPrefix, added_ends, completed_prefix}

@@ -1,6 +1,6 @@
 -- Worked examples, by computation, on the bytes of a table and a scene: the model's records and the stream's, event by event. Each would fail
 -- for the slip that it names, also where model and stream cite one definition.
-use Rattle.std.specs.Prelude.{ℕ, ◌+◌, ◌≡◌, refl, List, [], ◌∷◌, ◌++◌, map}
+use Rattle.std.specs.Prelude.{ℕ, ◌≡◌, refl, List, [], ◌∷◌, ◌++◌, map}
 use Rattle.laws.specs.Text.{bytes}
 use Rattle.table.specs.Table.{Table, decode}
 use Rattle.table.specs.Examples.{T, T2, rule_bytes, listed}

@@ -1,5 +1,5 @@
 // Number 6: two attributes of one name as written, or of one namespace and part.
-ghost use Rattle.std.specs.Prelude.{◌≡◌, ◌+◌, ◌≤◌, ◌<◌, length, get_or, drop};
+ghost use Rattle.std.specs.Prelude.{◌≡◌, ◌+◌, ◌≤◌, ◌<◌, drop, IfSome};
 ghost use Rattle.laws.specs.Lists.{same_list, any};
 ghost use Rattle.lexer.specs.Attrs.{attrs_in};
 ghost use Rattle.reader.specs.Spans.{bytes_of, whole_span, part_span, kind_of};
@@ -11,46 +11,40 @@ use crate::spaces::found_in;
 use compare::{part_of, same};
 use lexer::{Attr, Name};
 use reader::Found;
-use reader::bindings::{at_most, binding_in};
+use reader::bindings::binding_in;
 use reader::kinds::{bytes_between, is_declaration, kind_of, whole_of};
 use tags::attr_in;
+
+// The URI of what was found; of no bytes where there is none.
+fn uri_of<'a>(s: &'a [u8], own: &[u32; 64], outer: &[u32; 256], f: Found) -> &'a [u8]
+    ensures { result.now ≡ uri_of s.now (stored_space own.now outer.now f) }
+{
+    match f {
+        Found::Nothing | Found::Unbound => b"",
+        Found::Xml => b"http://www.w3.org/XML/1998/namespace",
+        Found::Own(k) => {
+            let uri = binding_in(own, k).uri;
+            part_of(s, uri.at, uri.len)
+        }
+        Found::Open(k) => {
+            let uri = binding_in(outer, k).uri;
+            part_of(s, uri.at, uri.len)
+        }
+    }
+}
 
 // Is this the URI of what was found?
 pub fn has_uri(s: &[u8], own: &[u32; 64], outer: &[u32; 256], f: Found, uri: &[u8]) -> bool
     ensures { result ≡ same_list (uri_of s.now (stored_space own.now outer.now f)) uri.now }
 {
-    match f {
-        Found::Nothing => same(b"", uri),
-        Found::Xml => same(b"http://www.w3.org/XML/1998/namespace", uri),
-        Found::Own(k) => {
-            let b = binding_in(own, k);
-            same(part_of(s, b.uri.at, b.uri.len), uri)
-        }
-        Found::Open(k) => {
-            let b = binding_in(outer, k);
-            same(part_of(s, b.uri.at, b.uri.len), uri)
-        }
-        Found::Unbound => same(b"", uri),
-    }
+    same(uri_of(s, own, outer, f), uri)
 }
 
 // Are the namespaces of what was found equal?
 pub fn same_space(s: &[u8], own: &[u32; 64], outer: &[u32; 256], f: Found, g: Found) -> bool
     ensures { result ≡ same_namespace s.now (stored_space own.now outer.now f) (stored_space own.now outer.now g) }
 {
-    match g {
-        Found::Nothing => has_uri(s, own, outer, f, b""),
-        Found::Xml => has_uri(s, own, outer, f, b"http://www.w3.org/XML/1998/namespace"),
-        Found::Own(k) => {
-            let b = binding_in(own, k);
-            has_uri(s, own, outer, f, part_of(s, b.uri.at, b.uri.len))
-        }
-        Found::Open(k) => {
-            let b = binding_in(outer, k);
-            has_uri(s, own, outer, f, part_of(s, b.uri.at, b.uri.len))
-        }
-        Found::Unbound => has_uri(s, own, outer, f, b""),
-    }
+    has_uri(s, own, outer, f, uri_of(s, own, outer, g))
 }
 
 // Are two names the same as written?
@@ -92,20 +86,8 @@ fn clash(
     if same_name(s, a.name, b.name) {
         return true;
     }
-    if declares(s, a.name) | declares(s, b.name) | !same_part(s, a.name, b.name) {
-        return false;
-    }
-    same_space(s, own, outer, found_in(x), found_in(y))
-}
-
-// The number at a place; 0 past the end.
-fn code_at(codes: &[usize], i: usize) -> usize
-    ensures { result ≡ get_or codes.now i 0 }
-{
-    if i < codes.len() {
-        return codes[i];
-    }
-    0
+    let named = !declares(s, a.name) & !declares(s, b.name) & same_part(s, a.name, b.name);
+    named && same_space(s, own, outer, found_in(x), found_in(y))
 }
 
 // Do the i-th and the j-th attribute clash?
@@ -123,42 +105,34 @@ fn clash_at(
 {
     let a = attr_in(attrs, i);
     let b = attr_in(attrs, j);
-    clash(s, own, outer, a, code_at(spaces, i), b, code_at(spaces, j))
+    clash(s, own, outer, a, spaces[i], b, spaces[j])
 }
 
-// The last byte of a name that stands in the scene, its part not empty; 0 of any other.
-fn last_of(s: &[u8], name: Name) -> u8
-    ensures { (result ≡ 0 → ⊥) → EndsWith s.now name result }
+// The last byte of a name that stands in the scene, its part not empty.
+fn last_of(s: &[u8], name: Name) -> Option<u8>
+    ensures { IfSome result (λ last. EndsWith s.now name last) }
 {
     let end = name.end;
-    if end <= name.at {
-        return 0;
+    if name.at < end && name.part < end && end <= s.len() {
+        Some(s[end - 1])
+    } else {
+        None
     }
-    if end <= name.part {
-        return 0;
-    }
-    if s.len() < end {
-        return 0;
-    }
-    s[end - 1]
 }
 
-// A key for each of the first `most` attributes: its name's last byte. Where a name has none, all keys are 0.
-fn lay_keys(s: &[u8], attrs: &[usize; 80], most: usize, keys: &mut [u8; 16])
-    requires { (most ≤ 16) × (length keys.old ≡ 16) }
-    ensures { Keys s.now attrs.now most keys.new }
+// A key for each of the first `most` attributes: its name's last byte. Where a name has none, all keys are the same.
+fn keys_of(s: &[u8], attrs: &[usize; 80], most: usize) -> [u8; 16]
+    requires { most ≤ 16 }
+    ensures { Keys s.now attrs.now most result }
 {
-    let mut i = 0;
-    while i < most {
-        let a = attr_in(attrs, i);
-        let last = last_of(s, a.name);
-        if last == 0 {
-            *keys = [0; 16];
-            return;
+    let mut keys = [0; 16];
+    for i in 0..most {
+        match last_of(s, attr_in(attrs, i).name) {
+            Some(last) => keys[i] = last,
+            None => return [0; 16],
         }
-        keys[i] = last;
-        i += 1;
     }
+    keys
 }
 
 // Does an attribute behind the i-th clash with it? Only those of the same key are looked at.
@@ -177,16 +151,10 @@ fn clash_behind(
         let codes = spaces.now in
         result ≡ any (clashes s.now own.now outer.now (coded_at array codes i)) (drop (i + 1) (coded (attrs_in array count) codes)) }
 {
-    let most = at_most(16, count);
-    let key = keys[i];
-    let mut j = i + 1;
-    while j < most {
-        if keys[j] == key {
-            if clash_at(s, attrs, own, outer, spaces, i, j) {
-                return true;
-            }
+    for j in i + 1..count.min(16) {
+        if keys[j] == keys[i] && clash_at(s, attrs, own, outer, spaces, i, j) {
+            return true;
         }
-        j += 1;
     }
     false
 }
@@ -202,18 +170,15 @@ pub fn twice(
 ) -> bool
     ensures { result ≡ twice_in s.now own.now outer.now (attrs_in attrs.now count) spaces.now }
 {
-    let most = at_most(16, count);
+    let most = count.min(16);
     if most < 2 {
         return false;
     }
-    let mut keys: [u8; 16] = [0; 16];
-    lay_keys(s, attrs, most, &mut keys);
-    let mut i = 0;
-    while i + 1 < most {
+    let keys = keys_of(s, attrs, most);
+    for i in 0..most {
         if clash_behind(s, attrs, count, own, outer, spaces, &keys, i) {
             return true;
         }
-        i += 1;
     }
     false
 }

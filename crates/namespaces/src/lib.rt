@@ -5,21 +5,21 @@ pub mod clashes;
 pub mod declarations;
 pub mod spaces;
 
-ghost use Rattle.std.specs.Prelude.{◌≡◌, true, cond, ℕ, ◌≤◌, length};
+ghost use Rattle.std.specs.Prelude.{◌≡◌, true, cond, ℕ, ◌≤◌, length, Err};
 ghost use Rattle.laws.specs.Lists.{any, all};
 ghost use Rattle.laws.specs.Over.{overwrite};
 ghost use Rattle.lexer.specs.Attrs.{attrs_in};
-ghost use Rattle.reader.specs.declared.Meant.TheVariants as meant;
+ghost use Rattle.reader.specs.declared.NamespaceError.TheVariants.{BadPrefix};
 ghost use Rattle.reader.specs.Namespaces.{declarations_of, refused_binding};
-ghost use Rattle.reader.specs.Stored.{laid_bindings, fitting, declared_of, meant_of, codes_after, meant_number};
-ghost use Rattle.reader.specs.Known.{keys_in, KeysAt, plain_attr};
+ghost use Rattle.reader.specs.Stored.{laid_bindings, fitting, declared_of, meant_of, codes_after};
+ghost use Rattle.reader.specs.Known.{keys_in, KeysAt, Keyed, plain_attr};
 
 use crate::clashes::twice;
 use crate::declarations::declare;
 use crate::spaces::{find_element, is_unbound, resolve_all};
 use lexer::Name;
-use reader::bindings::write_keys;
-use reader::{Declared, Meant, Scope};
+use reader::bindings::{InScope, put_keys};
+use reader::{Element, NamespaceError, Scope};
 
 // What a tag means whose declarations are laid down.
 fn meant_by(
@@ -28,32 +28,29 @@ fn meant_by(
     attrs: &[usize; 80],
     count: usize,
     plain: bool,
-    own: &[u32; 64],
-    owned: usize,
-    outer: &[u32; 256],
-    bound: usize,
-    known: &[u64; 2 * Scope::KNOWN],
+    in_scope: InScope,
     spaces: &mut [usize; 16],
-) -> Meant
-    requires { (bound ≤ 64) × (owned ≤ 16) × KeysAt s.now outer.now bound 0 known.now × KeysAt s.now own.now owned bound known.now × (plain ≡ true → all (plain_attr s.now) (attrs_in attrs.now count) ≡ true) }
+) -> Result<Element, NamespaceError>
+    requires { Keyed s.now in_scope × (plain ≡ true → all (plain_attr s.now) (attrs_in attrs.now count) ≡ true) }
     ensures { let t = s.now in
         let all = attrs_in attrs.now count in
-        (result ≡ meant_of t own.now owned outer.now bound name all)
-        × (spaces.new ≡ codes_after t own.now owned outer.now bound name all spaces.old) }
+        (result ≡ meant_of t in_scope.entry.own.now in_scope.entry.owned in_scope.entry.outer.now in_scope.entry.bound name all)
+        × (spaces.new ≡ codes_after t in_scope.entry.own.now in_scope.entry.owned in_scope.entry.outer.now in_scope.entry.bound name all spaces.old) }
 {
-    let f = find_element(s, own, owned, outer, bound, known, name);
-    if is_unbound(f) {
-        return Meant::Undeclared;
+    let found = find_element(s, in_scope, name);
+    if is_unbound(found) {
+        return Err(NamespaceError::BadPrefix);
     }
-    if !resolve_all(
-        s, attrs, count, plain, own, owned, outer, bound, known, spaces,
-    ) {
-        return Meant::Undeclared;
+    if !resolve_all(s, attrs, count, plain, in_scope, spaces) {
+        return Err(NamespaceError::BadPrefix);
     }
-    if twice(s, attrs, count, own, outer, spaces) {
-        return Meant::Twice;
+    if twice(s, attrs, count, in_scope.own, in_scope.outer, spaces) {
+        return Err(NamespaceError::Duplicate);
     }
-    Meant::Element(f, owned)
+    Ok(Element {
+        found,
+        owned: in_scope.owned,
+    })
 }
 
 // A tag's declarations laid down, and their keys behind those of the open ones. Plain attributes declare nothing.
@@ -65,27 +62,21 @@ fn declare_keys(
     own: &mut [u32; 64],
     bound: usize,
     known: &mut [u64; 2 * Scope::KNOWN],
-) -> Declared
+) -> Result<usize, NamespaceError>
     requires { (bound ≤ 64) × (plain ≡ true → all (plain_attr s.now) (attrs_in attrs.now count) ≡ true) }
     ensures { let t = s.now in
         let ds = declarations_of t (attrs_in attrs.now count) in
         let laid = laid_bindings (fitting t ds) own.old in
         (result ≡ declared_of t ds)
         × (own.new ≡ laid)
-        × (known.new ≡ cond (any (refused_binding t) ds) known.old (overwrite known.old bound (keys_in t laid (length ds))))
-        × (length known.old ≡ 160) }
+        × (known.new ≡ cond (any (refused_binding t) ds) known.old (overwrite known.old bound (keys_in t laid (length ds)))) }
 {
-    let all: &mut [u64] = known;
     if plain {
-        return Declared::Own(0);
+        return Ok(0);
     }
-    match declare(s, attrs, count, own) {
-        Declared::Own(owned) => {
-            write_keys(s, own, owned, bound, all);
-            Declared::Own(owned)
-        }
-        Declared::Refused => Declared::Refused,
-    }
+    let owned = declare(s, attrs, count, own)?;
+    put_keys(s, own, owned, bound, known);
+    Ok(owned)
 }
 
 // What a tag means. Its declarations are laid down in own, the numbers of its attributes in spaces, the keys of its prefixes behind those of the open ones.
@@ -100,33 +91,25 @@ pub fn meaning(
     bound: usize,
     known: &mut [u64; 2 * Scope::KNOWN],
     spaces: &mut [usize; 16],
-) -> Meant
+) -> Result<Element, NamespaceError>
     requires { (bound ≤ 64) × KeysAt s.now outer.now bound 0 known.old × (plain ≡ true → all (plain_attr s.now) (attrs_in attrs.now count) ≡ true) }
     ensures { let t = s.now in
         let all = attrs_in attrs.now count in
         let ds = declarations_of t all in
         let laid = laid_bindings (fitting t ds) own.old in
         let refused = any (refused_binding t) ds in
-        (result ≡ cond refused meant.Undeclared (meant_of t laid (length ds) outer.now bound name all))
+        (result ≡ cond refused (Err BadPrefix) (meant_of t laid (length ds) outer.now bound name all))
         × (own.new ≡ laid)
         × (spaces.new ≡ cond refused spaces.old (codes_after t laid (length ds) outer.now bound name all spaces.old))
         × (known.new ≡ cond refused known.old (overwrite known.old bound (keys_in t laid (length ds)))) }
 {
-    match declare_keys(s, attrs, count, plain, own, bound, known) {
-        Declared::Own(owned) => meant_by(
-            s, name, attrs, count, plain, own, owned, outer, bound, known, spaces,
-        ),
-        Declared::Refused => Meant::Undeclared,
-    }
-}
-
-// The number of what a tag means: 0 for an element.
-pub fn meant_number(m: Meant) -> u8
-    ensures { result ≡ meant_number m }
-{
-    match m {
-        Meant::Element(_, _) => 0,
-        Meant::Undeclared => 5,
-        Meant::Twice => 6,
-    }
+    let owned = declare_keys(s, attrs, count, plain, own, bound, known)?;
+    let in_scope = InScope {
+        own,
+        owned,
+        outer,
+        bound,
+        known,
+    };
+    meant_by(s, name, attrs, count, plain, in_scope, spaces)
 }

@@ -3,56 +3,39 @@ ghost use Rattle.std.specs.Prelude.{◌≡◌, true, ℕ, ◌≤◌, ◌<◌, le
 ghost use Rattle.laws.specs.Lists.{all};
 ghost use Rattle.lexer.specs.Attrs.{attrs_in};
 ghost use Rattle.reader.specs.Stored.{at_most, found_element, found_attribute, is_unbound, code_of, found_in, codes_of, laid_numbers};
-ghost use Rattle.reader.specs.Known.{KeysAt, plain_attr};
+ghost use Rattle.reader.specs.Known.{Keyed, plain_attr};
 
 use compare::same;
 use lexer::Name;
-use reader::bindings::{at_most, find};
+use reader::bindings::{InScope, find};
 use reader::kinds::{kind_of, prefix_of};
-use reader::{Found, Kind, Scope};
+use reader::{Found, Kind};
 use tags::attr_in;
 
 // The declaration in force of an element's name.
-pub fn find_element(
-    s: &[u8],
-    own: &[u32; 64],
-    owned: usize,
-    outer: &[u32; 256],
-    bound: usize,
-    known: &[u64; 2 * Scope::KNOWN],
-    name: Name,
-) -> Found
-    requires { (bound ≤ 64) × (owned ≤ 16) × KeysAt s.now outer.now bound 0 known.now × KeysAt s.now own.now owned bound known.now }
-    ensures { result ≡ found_element s.now own.now owned outer.now bound name }
+pub fn find_element(s: &[u8], in_scope: InScope, name: Name) -> Found
+    requires { Keyed s.now in_scope }
+    ensures { result ≡ found_element s.now in_scope.entry.own.now in_scope.entry.owned in_scope.entry.outer.now in_scope.entry.bound name }
 {
-    if name.at < name.part {
-        let prefix = prefix_of(s, name);
-        if same(prefix, b"xmlns") {
-            return Found::Unbound;
-        }
-        return find(s, own, owned, outer, bound, known, prefix);
+    if name.part <= name.at {
+        return find(s, in_scope, b"");
     }
-    find(s, own, owned, outer, bound, known, b"")
+    let prefix = prefix_of(s, name);
+    if same(prefix, b"xmlns") {
+        Found::Unbound
+    } else {
+        find(s, in_scope, prefix)
+    }
 }
 
 // The declaration in force of an attribute's name.
-pub fn find_attribute(
-    s: &[u8],
-    own: &[u32; 64],
-    owned: usize,
-    outer: &[u32; 256],
-    bound: usize,
-    known: &[u64; 2 * Scope::KNOWN],
-    name: Name,
-) -> Found
-    requires { (bound ≤ 64) × (owned ≤ 16) × KeysAt s.now outer.now bound 0 known.now × KeysAt s.now own.now owned bound known.now }
-    ensures { result ≡ found_attribute s.now own.now owned outer.now bound name }
+pub fn find_attribute(s: &[u8], in_scope: InScope, name: Name) -> Found
+    requires { Keyed s.now in_scope }
+    ensures { result ≡ found_attribute s.now in_scope.entry.own.now in_scope.entry.owned in_scope.entry.outer.now in_scope.entry.bound name }
 {
     match kind_of(s, name) {
-        Kind::Plain => Found::Nothing,
-        Kind::Prefixed => find(s, own, owned, outer, bound, known, prefix_of(s, name)),
-        Kind::Default => Found::Nothing,
-        Kind::Declares => Found::Nothing,
+        Kind::Prefixed => find(s, in_scope, prefix_of(s, name)),
+        Kind::Plain | Kind::Default | Kind::Declares => Found::Nothing,
     }
 }
 
@@ -60,26 +43,19 @@ pub fn find_attribute(
 pub fn is_unbound(f: Found) -> bool
     ensures { result ≡ is_unbound f }
 {
-    match f {
-        Found::Nothing => false,
-        Found::Xml => false,
-        Found::Own(_) => false,
-        Found::Open(_) => false,
-        Found::Unbound => true,
-    }
+    matches!(f, Found::Unbound)
 }
 
-// What was found, as a number.
+// What was found, as a number: arrays of a tag's attributes hold it so.
 fn code_of(f: Found) -> usize
     requires { code_of f < 82 }
     ensures { result ≡ code_of f }
 {
     match f {
-        Found::Nothing => 0,
+        Found::Nothing | Found::Unbound => 0,
         Found::Xml => 1,
         Found::Own(k) => 2 + k,
         Found::Open(k) => 18 + k,
-        Found::Unbound => 0,
     }
 }
 
@@ -87,16 +63,12 @@ fn code_of(f: Found) -> usize
 pub fn found_in(code: usize) -> Found
     ensures { result ≡ found_in code }
 {
-    if code == 0 {
-        return Found::Nothing;
+    match code {
+        0 => Found::Nothing,
+        1 => Found::Xml,
+        2..=17 => Found::Own(code - 2),
+        _ => Found::Open(code - 18),
     }
-    if code == 1 {
-        return Found::Xml;
-    }
-    if code < 18 {
-        return Found::Own(code - 2);
-    }
-    Found::Open(code - 18)
 }
 
 // The numbers of the attributes, from the array's first place on, up to one whose prefix is unbound; were there none such?
@@ -104,29 +76,21 @@ fn resolve(
     s: &[u8],
     attrs: &[usize; 80],
     count: usize,
-    own: &[u32; 64],
-    owned: usize,
-    outer: &[u32; 256],
-    bound: usize,
-    known: &[u64; 2 * Scope::KNOWN],
+    in_scope: InScope,
     spaces: &mut [usize; 16],
 ) -> bool
-    requires { (bound ≤ 64) × (owned ≤ 16) × KeysAt s.now outer.now bound 0 known.now × KeysAt s.now own.now owned bound known.now }
+    requires { Keyed s.now in_scope }
     ensures { let all = attrs_in attrs.now count in
-        let codes = codes_of s.now own.now owned outer.now bound all in
+        let codes = codes_of s.now in_scope.entry.own.now in_scope.entry.owned in_scope.entry.outer.now in_scope.entry.bound all in
         (result ≡ eqb (length codes) (length all)) × (spaces.new ≡ laid_numbers codes spaces.old) }
 {
-    let all: &mut [usize] = spaces;
-    let most = at_most(16, count);
-    let mut i = 0;
-    while i < most {
+    for i in 0..count.min(16) {
         let a = attr_in(attrs, i);
-        let f = find_attribute(s, own, owned, outer, bound, known, a.name);
+        let f = find_attribute(s, in_scope, a.name);
         if is_unbound(f) {
             return false;
         }
-        all[i] = code_of(f);
-        i += 1;
+        spaces[i] = code_of(f);
     }
     true
 }
@@ -135,13 +99,7 @@ fn resolve(
 fn clear_codes(count: usize, spaces: &mut [usize; 16])
     ensures { spaces.new ≡ laid_numbers (replicate (at_most 16 count) 0) spaces.old }
 {
-    let all: &mut [usize] = spaces;
-    let most = at_most(16, count);
-    let mut i = 0;
-    while i < most {
-        all[i] = 0;
-        i += 1;
-    }
+    spaces[..count.min(16)].fill(0);
 }
 
 // The numbers of the attributes, as resolve lays them; where all are plain, none is looked up.
@@ -150,21 +108,17 @@ pub fn resolve_all(
     attrs: &[usize; 80],
     count: usize,
     plain: bool,
-    own: &[u32; 64],
-    owned: usize,
-    outer: &[u32; 256],
-    bound: usize,
-    known: &[u64; 2 * Scope::KNOWN],
+    in_scope: InScope,
     spaces: &mut [usize; 16],
 ) -> bool
-    requires { (bound ≤ 64) × (owned ≤ 16) × KeysAt s.now outer.now bound 0 known.now × KeysAt s.now own.now owned bound known.now × (plain ≡ true → all (plain_attr s.now) (attrs_in attrs.now count) ≡ true) }
+    requires { Keyed s.now in_scope × (plain ≡ true → all (plain_attr s.now) (attrs_in attrs.now count) ≡ true) }
     ensures { let all = attrs_in attrs.now count in
-        let codes = codes_of s.now own.now owned outer.now bound all in
+        let codes = codes_of s.now in_scope.entry.own.now in_scope.entry.owned in_scope.entry.outer.now in_scope.entry.bound all in
         (result ≡ eqb (length codes) (length all)) × (spaces.new ≡ laid_numbers codes spaces.old) }
 {
     if plain {
         clear_codes(count, spaces);
         return true;
     }
-    resolve(s, attrs, count, own, owned, outer, bound, known, spaces)
+    resolve(s, attrs, count, in_scope, spaces)
 }

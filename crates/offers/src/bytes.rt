@@ -18,11 +18,7 @@ fn put_bytes(b: &mut [u8], at: usize, session: &[u8])
     requires { (at + session_size ≤ length b.old) × (session_size ≤ length session.now) }
     ensures { b.new ≡ overwrite b.old at (take session_size session.now) }
 {
-    let mut i = 0;
-    while i < SESSION_SIZE {
-        b[at + i] = session[i];
-        i += 1;
-    }
+    b[at..at + SESSION_SIZE].copy_from_slice(&session[..SESSION_SIZE]);
 }
 
 // The bytes of an offer, laid over the first of `offer`.

@@ -33,7 +33,7 @@ pub extern "C" fn calcivorne_offer_size() -> u64
 fn lacks_room(session: &[u8], offer: &[u8]) -> bool
     ensures { result ≡ lacks_room session.now offer.now }
 {
-    (session.len() < SESSION_SIZE) | (offer.len() < OFFER_SIZE)
+    session.len() < SESSION_SIZE || offer.len() < OFFER_SIZE
 }
 
 // What a step of the session in bytes would answer with an output that suffices.

@@ -1,4 +1,4 @@
-// Ask and commit as a static library for hosts: each call is that of `offers`. include/calcivorne.h is the manual.
+// Ask and commit as a static library for hosts: each call is that of `offers`. include/calcivorne.h is the manual. A crate is a library or a static library and not both, so that the C interface needs the calls here once more.
 #![tactic(auto)]
 
 ghost use Rattle.std.specs.Prelude.{◌≡◌, cond, length};

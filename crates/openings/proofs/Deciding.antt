@@ -6,9 +6,12 @@ use mathlib.Core.Option.{Option}
 use mathlib.Core.Bool.{Bool, true, false, cond}
 use native.Mathlib.Nat.{add-zero, zero-add}
 use native.Mathlib.Omega.{arith}
-use borrow.Author.Tests.{eq-eqb, ne_eqb, le-leb, lt-ltb, le-ltb}
+use Rattle.std.specs.declared.option.Option as rust
+use Rattle.std.specs.Prelude.{Some}
+use borrow.Author.Tests.{eq-eqb, ne_eqb, le-leb}
 use lib.ListN.{length, get_or, take, drop, length-map, take-append-drop}
-use lib.Dec.{eqb, ltb}
+use lib.Dec.{eqb}
+use Rattle.std.specs.Prelude as std
 use Rattle.laws.specs.Lists.{same_list, tabulate}
 use Rattle.laws.specs.Over.{overwrite}
 use Rattle.laws.specs.Gather.{total}
@@ -24,7 +27,6 @@ use Rattle.strands.specs.Rules.{units_for}
 use Rattle.entries.proofs.Entered.{here_count_lem}
 use Rattle.attributes.specs.Attributes.{Sorted}
 use Rattle.strands.specs.Writing.{members, head_class, section_count, element_count}
-use Rattle.openings.specs.Openings.{only_number}
 use Rattle.openings.specs.declared.Decided.{Decided}
 
 -- ---- whether the level's namespace is the element's, by the level's class
@@ -57,13 +59,13 @@ next_entries index s uri spaces strands class depth =
     cond (eqb depth 0) (entries_by index class (strand_in 32))
     (cond (joined_by s uri spaces class (depth - 1)) (map stay_entry (level_words spaces strands (depth - 1))) (entries_from index class (level_words spaces strands (depth - 1))))
 
-abbrev pub Entering : List Entry → List ℕ → List ℕ → List ℕ → List ℕ → ℕ → Type 0
+abbrev pub Entering : List Entry → List ℕ → List ℕ → List ℕ → List ℕ → rust.Option ℕ → Type 0
 Entering es words₀ schemas₀ words schemas r =
     (r ≡ counted (length es))
     × (length es ≤ 16 → words ≡ overwrite words₀ 0 (map strand_word es))
     × (length es ≤ 16 → schemas ≡ overwrite schemas₀ 0 (map schema_word es))
 
-module _ (index s uri spaces strands : List ℕ) (class depth : ℕ) (words₀ schemas₀ words schemas : List ℕ) (r : ℕ) where
+module _ (index s uri spaces strands : List ℕ) (class depth : ℕ) (words₀ schemas₀ words schemas : List ℕ) where
   abbrev first : List Entry
   first = entries_by index class (strand_in 32)
 
@@ -76,10 +78,10 @@ module _ (index s uri spaces strands : List ℕ) (class depth : ℕ) (words₀ s
   as_first : depth ≡ 0 → es ≡ first
   as_first e = rw (eq-eqb depth 0 e)
 
-  pub at_root : depth ≡ 0 → (r ≡ counted (0 + length first))
+  pub at_root : (r : rust.Option ℕ) → depth ≡ 0 → (r ≡ counted (0 + length first))
       × (0 + length first ≤ 16 → words ≡ overwrite words₀ 0 (map strand_word first)) × (0 + length first ≤ 16 → schemas ≡ overwrite schemas₀ 0 (map schema_word first))
       → Entering (next_entries index s uri spaces strands class depth) words₀ schemas₀ words schemas r
-  at_root e h = rw (as_first e) (h.0 ∙ ap counted (zero-add (length first)), λ f. h.1 (omega arith), λ f. h.2 (omega arith))
+  at_root r e h = rw (as_first e) (h.0 ∙ ap counted (zero-add (length first)), λ f. h.1 (omega arith), λ f. h.2 (omega arith))
 
   module _ (n : depth ≡ 0 → ⊥) (j : Bool) (ej : j ≡ joined_by s uri spaces class (depth - 1)) where
     as_stay : j ≡ true → es ≡ map stay_entry ws
@@ -88,20 +90,20 @@ module _ (index s uri spaces strands : List ℕ) (class depth : ℕ) (words₀ s
     as_taken : j ≡ false → es ≡ entries_from index class ws
     as_taken t = rw (ne_eqb depth 0 n, ← ej, t)
 
-    pub at_same : j ≡ true → r ≡ get_or spaces (4 * (depth - 1) + 3) 0 → get_or spaces (4 * (depth - 1) + 3) 0 ≤ 16
+    pub at_same : j ≡ true → (r : ℕ) → r ≡ get_or spaces (4 * (depth - 1) + 3) 0 → get_or spaces (4 * (depth - 1) + 3) 0 ≤ 16
         → (words ≡ overwrite words₀ 0 (map strand_word (map stay_entry (words_at strands (depth - 1) r)))) × (schemas ≡ overwrite schemas₀ 0 (map schema_word (map stay_entry (words_at strands (depth - 1) r))))
-        → Entering (next_entries index s uri spaces strands class depth) words₀ schemas₀ words schemas r
-    at_same t e few h =
+        → Entering (next_entries index s uri spaces strands class depth) words₀ schemas₀ words schemas (Some r)
+    at_same t r e few h =
         let k = get_or spaces (4 * (depth - 1) + 3) 0 in
-        let c : counted k ≡ k = rw (le-leb k 16 few) in
+        let c : counted k ≡ Some k = rw (le-leb k 16 few) in
         let g : (words ≡ overwrite words₀ 0 (map strand_word (map stay_entry ws))) × (schemas ≡ overwrite schemas₀ 0 (map schema_word (map stay_entry ws))) =
         subst (λ (x : ℕ). (words ≡ overwrite words₀ 0 (map strand_word (map stay_entry (words_at strands (depth - 1) x)))) × (schemas ≡ overwrite schemas₀ 0 (map schema_word (map stay_entry (words_at strands (depth - 1) x))))) e h in
-        rw (as_stay t) (e ∙ sym c ∙ ap counted (sym (stays_length strands (depth - 1) k)), λ f. g.0, λ f. g.1)
+        rw (as_stay t) (ap Some e ∙ sym c ∙ ap counted (sym (stays_length strands (depth - 1) k)), λ f. g.0, λ f. g.1)
 
-    pub at_new : j ≡ false → (n : ℕ) → n ≡ get_or spaces (4 * (depth - 1) + 3) 0
+    pub at_new : j ≡ false → (n : ℕ) → n ≡ get_or spaces (4 * (depth - 1) + 3) 0 → (r : rust.Option ℕ)
         → Entering (entries_from index class (words_at strands (depth - 1) n)) words₀ schemas₀ words schemas r
         → Entering (next_entries index s uri spaces strands class depth) words₀ schemas₀ words schemas r
-    at_new t n e h = rw (as_taken t) (subst (λ (x : ℕ). Entering (entries_from index class (words_at strands (depth - 1) x)) words₀ schemas₀ words schemas r) e h)
+    at_new t n e r h = rw (as_taken t) (subst (λ (x : ℕ). Entering (entries_from index class (words_at strands (depth - 1) x)) words₀ schemas₀ words schemas r) e h)
 
 -- ---- units and records
 abbrev pub words_of : List ℕ → ℕ → List ℕ
@@ -142,35 +144,29 @@ numbers_none count first words h es el et a =
     sym (ap (λ (l : List Entry). overwrite words 0 (map strand_word l)) (allot_none first es (sym (here_count_lem es a) ∙ ap here_count (sym et) ∙ h))
     ∙ over_itself words (map strand_word es) count (length-map es strand_word ∙ el) et)
 
-abbrev pub Weighed : List ℕ → List Sorted → ℕ → ℕ → ℕ → ℕ → List ℕ → List ℕ → Decided → Type 0
+abbrev pub Weighed : List ℕ → List Sorted → ℕ → ℕ → ℕ → ℕ → List ℕ → List ℕ → std.Option Decided → Type 0
 Weighed index l n m count units words₀ words r =
     let first = units + load_units index l m (words_of words₀ count) in
     let all = first + here_count (take count words₀) in
-    (r.number ≡ cond (ltb 65536 all) 24 0)
-    × (r.number ≡ 0 → (r.strands ≡ count) × (r.attributes ≡ n) × (r.sections ≡ m) × (r.units ≡ all))
-    × (r.number ≡ 0 → (schemas : List ℕ) → r.records ≡ load_records index l m (words_of words₀ count) + total (element_count index l) (entries_in words schemas count))
-    × (r.number ≡ 0 → Numbers count first words₀ words)
+    std.MatchOption r (65536 < all) (λ (d : Decided). (all ≤ 65536)
+    × ((d.strands ≡ count) × (d.attributes ≡ n) × (d.sections ≡ m) × (d.units ≡ all))
+    × ((schemas : List ℕ) → d.records ≡ load_records index l m (words_of words₀ count) + total (element_count index l) (entries_in words schemas count))
+    × Numbers count first words₀ words)
 
 module _ (index : List ℕ) (l : List Sorted) (n m count units : ℕ) (words₀ words : List ℕ) (u h : ℕ) (eu : u ≡ load_units index l m (words_of words₀ count)) (eh : h ≡ here_count (take count words₀)) where
   all_is : units + u + h ≡ units + load_units index l m (words_of words₀ count) + here_count (take count words₀)
   all_is = rw (eu, eh)
 
   -- units past the last number
-  pub weigh_heavy : (r : Decided) → r ≡ only_number 24 → 65536 < units + u + h → Weighed index l n m count units words₀ words r
-  weigh_heavy r e f =
-      let k : r.number ≡ 24 = ap (λ (d : Decided). d.number) e in (
-        rw (← all_is, lt-ltb 65536 (units + u + h) f) k,
-        λ z. absurd (omega arith),
-        λ z. absurd (omega arith),
-        λ z. absurd (omega arith),
-      )
+  pub weigh_heavy : 65536 < units + u + h → Weighed index l n m count units words₀ words std.None
+  weigh_heavy f = omega (arith, all_is)
 
   pub weigh_light : units + u + h ≤ 65536 → (k e : ℕ) → k ≡ load_records index l m (words_of words₀ count)
       → ((schemas : List ℕ) → e ≡ total (element_count index l) (entries_in words schemas count)) → Numbers count (units + u) words₀ words
-      → Weighed index l n m count units words₀ words (record { number = 0; strands = count; attributes = n; sections = m; units = units + u + h; records = k + e })
+      → Weighed index l n m count units words₀ words (std.Some (record { strands = count; attributes = n; sections = m; units = units + u + h; records = k + e }))
   weigh_light f k e ek ee g = (
-    rw (← all_is, le-ltb 65536 (units + u + h) f),
-    λ z. (refl, refl, refl, all_is),
-    λ z schemas. ap₂ ◌+◌ ek (ee schemas),
-    λ z. subst (λ (x : ℕ). Numbers count (units + x) words₀ words) eu g,
+    omega (arith, all_is),
+    (refl, refl, refl, all_is),
+    λ schemas. ap₂ ◌+◌ ek (ee schemas),
+    subst (λ (x : ℕ). Numbers count (units + x) words₀ words) eu g,
   )

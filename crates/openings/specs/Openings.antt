@@ -13,10 +13,6 @@ use Rattle.strands.specs.Writing.{strand_units}
 use Rattle.attributes.specs.Attributes.{all_sorted}
 use Rattle.openings.specs.declared.Decided.{Decided}
 
--- a number and nothing else
-abbrev pub only_number : ℕ → Decided
-only_number number = record { number = number; strands = 0; attributes = 0; sections = 0; units = 0; records = 0 }
-
 -- the attribute units of a start, of the strands and attributes in the arrays
 abbrev pub array_units : List ℕ → List ℕ → List ℕ → List ℕ → ℕ → Decided → List (AttributeUnit Body)
 array_units index attributes sections words tag r =

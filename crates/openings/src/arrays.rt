@@ -12,11 +12,7 @@ pub(crate) fn copy(to: &mut [u32], at: usize, from: &[u32], first: usize, n: usi
     requires { (at + n ≤ length to.old) × (first + n ≤ length from.now) }
     ensures { to.new ≡ overwrite to.old at (take n (drop first from.now)) }
 {
-    let mut j = 0;
-    while j < n {
-        to[at + j] = from[first + j];
-        j += 1;
-    }
+    to[at..at + n].copy_from_slice(&from[first..first + n]);
 }
 
 // The levels' names, spaces and strands, laid into one array.
@@ -31,16 +27,10 @@ pub fn join_levels(
         × (level_strands levels.new ≡ strands.now)
         × (level_free levels.new ≡ level_free levels.old) }
 {
-    let all: &mut [u32] = levels;
-    let threes: &[u32] = names;
-    let fours: &[u32] = spaces;
-    let sixteens: &[u32] = strands;
-    let mut k = 0;
-    while k < Scope::DEPTH {
-        copy(all, 24 * k, threes, 3 * k, 3);
-        copy(all, 24 * k + 3, fours, 4 * k, 4);
-        copy(all, 24 * k + 8, sixteens, 16 * k, 16);
-        k += 1;
+    for k in 0..Scope::DEPTH {
+        copy(levels, 24 * k, names, 3 * k, 3);
+        copy(levels, 24 * k + 3, spaces, 4 * k, 4);
+        copy(levels, 24 * k + 8, strands, 16 * k, 16);
     }
 }
 
@@ -49,12 +39,7 @@ pub fn part_levels(levels: &[u32; LEVELS], wide: usize, from: usize, numbers: &m
     requires { (from + wide ≤ 24) × (length numbers.old ≡ 64 * wide) }
     ensures { numbers.new ≡ of_each wide from levels.now }
 {
-    let all: &[u32] = levels;
-    let mut at = 0;
-    let mut k = 0;
-    while k < Scope::DEPTH {
-        copy(numbers, at, all, 24 * k + from, wide);
-        at += wide;
-        k += 1;
+    for k in 0..Scope::DEPTH {
+        copy(numbers, wide * k, levels, 24 * k + from, wide);
     }
 }

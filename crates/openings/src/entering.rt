@@ -43,7 +43,7 @@ fn joins(
     has_uri(scene, own, outer, found, part_of(scene, at, len))
 }
 
-// The strands of an element that starts; how many, 17 for more than 16.
+// The strands of an element that starts; how many, none for more than 16.
 pub fn next_strands(
     index: &[u32; 256],
     scene: &[u8],
@@ -55,7 +55,7 @@ pub fn next_strands(
     levels: &[u32; LEVELS],
     words: &mut [u32; STRANDS],
     schemas: &mut [u32; STRANDS],
-) -> usize
+) -> Option<usize>
     requires { (depth ≤ 64) × (1 ≤ depth → get_or (level_spaces levels.now) (4 * (depth - 1) + 3) 0 ≤ 16) }
     ensures { let l = level_spaces levels.now in
         let level = depth - 1 in
@@ -75,7 +75,7 @@ pub fn next_strands(
     let n = count_at(levels, level);
     if joins(scene, own, outer, found, placing, levels, level) {
         stay_all(levels, level, n, words, schemas);
-        return n;
+        return Some(n);
     }
     take_all(index, levels, level, n, placing.class, words, schemas)
 }

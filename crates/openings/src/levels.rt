@@ -11,7 +11,6 @@ use crate::arrays::copy;
 use attributes::Placing;
 use attributes::held::narrow;
 use lexer::Tag;
-use reader::kinds::minus;
 use reader::scopes::push_bindings;
 use reader::{Scope, Span};
 use strands::LEVELS;
@@ -21,11 +20,10 @@ fn push_name(levels: &mut [u32; LEVELS], depth: usize, name: Span, owned: usize)
     requires { (depth < 64) × (owned ≤ 16) }
     ensures { (levels.new ≡ overwrite levels.old (24 * depth) (level_numbers name owned)) × (length levels.old ≡ 1536) }
 {
-    let all: &mut [u32] = levels;
     let at = 24 * depth;
-    all[at] = narrow(name.at);
-    all[at + 1] = narrow(name.len);
-    all[at + 2] = narrow(owned);
+    levels[at] = narrow(name.at);
+    levels[at + 1] = narrow(name.len);
+    levels[at + 2] = narrow(owned);
 }
 
 // Its namespace, and how many strands it has.
@@ -33,12 +31,11 @@ fn push_space(levels: &mut [u32; LEVELS], depth: usize, placing: Placing, count:
     requires { (depth < 64) × (count ≤ 16) }
     ensures { levels.new ≡ overwrite levels.old (24 * depth + 3) (placing.class ∷ narrowed placing.at ∷ narrowed placing.len ∷ count ∷ []) }
 {
-    let all: &mut [u32] = levels;
     let at = 24 * depth + 3;
-    all[at] = placing.class as u32;
-    all[at + 1] = narrow(placing.at);
-    all[at + 2] = narrow(placing.len);
-    all[at + 3] = narrow(count);
+    levels[at] = u32::from(placing.class);
+    levels[at + 1] = narrow(placing.at);
+    levels[at + 2] = narrow(placing.len);
+    levels[at + 3] = narrow(count);
 }
 
 // Its strands.
@@ -46,9 +43,7 @@ fn push_strands(levels: &mut [u32; LEVELS], depth: usize, words: &[u32; STRANDS]
     requires { (depth < 64) × (count ≤ 16) }
     ensures { levels.new ≡ overwrite levels.old (24 * depth + 8) (take count words.now) }
 {
-    let all: &mut [u32] = levels;
-    let new: &[u32] = words;
-    copy(all, 24 * depth + 8, new, 0, count);
+    copy(levels, 24 * depth + 8, words, 0, count);
 }
 
 // What a start that is accepted lays down.
@@ -74,7 +69,7 @@ pub fn push_start(
     let name = tag.name;
     let whole = Span {
         at: name.at,
-        len: minus(name.end, name.at),
+        len: name.end.saturating_sub(name.at),
     };
     push_name(levels, depth, whole, owned);
     push_bindings(bindings, bound, own, owned);

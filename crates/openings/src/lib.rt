@@ -12,10 +12,9 @@ pub const STRANDS: usize = 16;
 
 pub const UNITS: usize = 65536;
 
-// What was decided: 0, or 23 or 24; how many strands, attributes and attribute sections; the units opened so far behind it; how many records.
+// What was decided of a start: how many strands, attributes and attribute sections; the units opened so far behind it; how many records.
 #[derive(Clone, Copy)]
 pub struct Decided {
-    pub number: u8,
     pub strands: usize,
     pub attributes: usize,
     pub sections: usize,

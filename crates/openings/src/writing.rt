@@ -12,7 +12,6 @@ use crate::{Decided, STRANDS};
 use attributes::held::narrow;
 use attributes::{HELD, Placing};
 use lexer::Tag;
-use reader::kinds::minus;
 use start_records::elements::write_elements;
 use start_records::units::write_units;
 use strands::Begun;
@@ -26,7 +25,7 @@ pub fn begun_of(at: usize, tag: Tag, placing: Placing) -> Begun
         tag: narrow(at),
         class: placing.class,
         at: narrow(name.part),
-        len: narrow(minus(name.end, name.part)),
+        len: narrow(name.end.saturating_sub(name.part)),
         uri_at: narrow(placing.at),
         uri_len: narrow(placing.len),
     }

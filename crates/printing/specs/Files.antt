@@ -1,10 +1,7 @@
 -- What reading a file gives. Definitions.
-use Rattle.std.specs.Prelude.{List, ℕ}
-use Rattle.std.specs.Counts.{IsPrefixLen}
-use Rattle.printing.specs.declared.Loaded.{Loaded}
-use Rattle.printing.specs.declared.Loaded.TheVariants.{Bytes, Failed}
+use Rattle.std.specs.Prelude.{◌≡◌, ◌≤◌, List, ℕ, length}
+use Rattle.std.specs.Borrow.{Bor, MutBor}
 
--- the bytes that were read stand in the buffer
-abbrev pub Within : Loaded → List ℕ → Type 0
-Within (Bytes n) buffer = IsPrefixLen n buffer
-Within Failed buffer = Unit {0}
+-- the bytes that were read are the first of the lent buffer
+abbrev pub Within : Bor (List ℕ) → MutBor (List ℕ) → Type 0
+Within bytes buffer = (bytes.ref_ptr ≡ buffer.ref_ptr) × (length bytes.now ≤ length buffer.now)

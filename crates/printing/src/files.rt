@@ -1,12 +1,37 @@
 // A file by its name, read into a lent buffer.
-ghost use Rattle.std.specs.Prelude.{IfOk};
+ghost use Rattle.std.specs.Prelude.{IfOk, IfSome};
 ghost use Rattle.std.specs.Io.{ReadsAtMost};
 ghost use Rattle.printing.specs.Files.{Within};
 
-use crate::Loaded;
+use std::error::Error;
 use std::io::Read;
 use std::rt::Files;
-use std::{fs, io};
+use std::{fmt, fs, io};
+
+// Why a file could not be read whole.
+#[derive(Debug, Drop)]
+enum LoadError {
+    Unread(io::Error),
+    // The file has more bytes than the buffer, which has so many.
+    Longer(usize),
+}
+
+impl fmt::Display for LoadError {
+    fn fmt<W: fmt::Write>(&self, f: &mut fmt::Formatter<W>) -> fmt::Result {
+        match self {
+            LoadError::Unread(e) => write!(f, "{e}"),
+            LoadError::Longer(most) => write!(f, "longer than {most} bytes"),
+        }
+    }
+}
+
+impl Error for LoadError {}
+
+impl From<io::Error> for LoadError {
+    fn from(e: io::Error) -> LoadError {
+        LoadError::Unread(e)
+    }
+}
 
 // Reads until the buffer is full or the file ends: how many bytes stand at the buffer's start.
 fn fill(file: &mut impl Read, buffer: &mut [u8]) -> io::Result<usize>
@@ -23,50 +48,31 @@ fn fill(file: &mut impl Read, buffer: &mut [u8]) -> io::Result<usize>
     Ok(done)
 }
 
-// Whether nothing follows what was read; a message says so where something does.
-fn ends(rt: &impl Eprint, file: &mut impl Read, name: &str, most: usize) -> io::Result<bool> {
-    let mut one = [0u8; 1];
-    let more = file.read(&mut one)?;
-    if more > 0 {
-        let _ = eprintln!(rt; "{name}: longer than {most} bytes");
-        return Ok(false);
-    }
-    Ok(true)
-}
-
-fn load(rt: &(impl Files + Eprint), name: &str, buffer: &mut [u8]) -> io::Result<Loaded>
-    ensures { IfOk result (λ r. Within r buffer.new) }
+// The whole file: the buffer's first bytes.
+fn load<'a>(rt: &impl Files, name: &str, buffer: &'a mut [u8]) -> Result<&'a [u8], LoadError>
+    ensures { IfOk result (λ bytes. Within bytes buffer.entry) }
 {
     let mut file = fs::open(rt, name)?;
     let n = fill(&mut file, buffer)?;
-    if ends(rt, &mut file, name, buffer.len())? {
-        return Ok(Loaded::Bytes(n));
+    if file.read(&mut [0u8; 1])? > 0 {
+        return Err(LoadError::Longer(buffer.len()));
     }
-    Ok(Loaded::Failed)
+    Ok(&buffer[..n])
 }
 
-// The file of this name; where it cannot be read whole, a message names it.
-fn read_named(rt: &(impl Files + Eprint), name: &str, buffer: &mut [u8]) -> Loaded
-    ensures { Within result buffer.new }
+// The file from the buffer's first byte on; where it cannot be read whole, a message names it.
+pub fn read_file<'a>(
+    rt: &(impl Files + Eprint),
+    name: &str,
+    buffer: &'a mut [u8],
+) -> Option<&'a [u8]>
+    ensures { IfSome result (λ bytes. Within bytes buffer.entry) }
 {
     match load(rt, name, buffer) {
-        Ok(loaded) => loaded,
+        Ok(bytes) => Some(bytes),
         Err(e) => {
             let _ = eprintln!(rt; "{name}: {e}");
-            Loaded::Failed
-        }
-    }
-}
-
-// The file from the buffer's first byte on. One that the buffer cannot hold is refused; so is one whose name is not UTF-8, which std cannot open.
-pub fn read_file(rt: &(impl Files + Eprint), name: &[u8], buffer: &mut [u8]) -> Loaded
-    ensures { Within result buffer.new }
-{
-    match str::from_utf8(name) {
-        Ok(text) => read_named(rt, text, buffer),
-        Err(_) => {
-            let _ = eprintln!(rt; "a file's name is not UTF-8");
-            Loaded::Failed
+            None
         }
     }
 }

@@ -4,10 +4,3 @@
 pub mod files;
 pub mod lines;
 pub mod rows;
-
-// How many bytes of the buffer the file has; or that it could not be read whole, and then a message says why.
-#[derive(Clone, Copy)]
-pub enum Loaded {
-    Bytes(usize),
-    Failed,
-}

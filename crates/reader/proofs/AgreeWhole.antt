@@ -12,6 +12,7 @@ use native.Mathlib.Omega.{arith}
 use borrow.Author.Tests.{lt-ltb, le-ltb, ltb-false}
 use lib.Dec.{ltb}
 use lib.ListN.{length, drop}
+use Rattle.std.specs.Prelude.{Result, Ok, Err}
 use Rattle.laws.specs.Lists.{any, any_pair}
 use Rattle.laws.specs.Gather.{gather}
 use Rattle.laws.specs.Reading.{le_or_lt}
@@ -19,13 +20,14 @@ use Rattle.lexer.specs.declared.Name.{Name}
 use Rattle.lexer.specs.declared.Attr.{Attr}
 use Rattle.reader.specs.Spans.{kind_of}
 use Rattle.reader.specs.Namespaces.{declarations_of, refused_binding, of_element, ReadAttribute, attribute, before, resolved_by, resolved, same_name, same_expanded, Meaning, refused, meant, meant_by, meaning_of}
-use Rattle.reader.specs.Stored.{bindings_in, laid_bindings, fitting, found_element, found_by, found_attribute, code_of, found_in, stored_space, code_then, codes_of, is_declaration, Coded, coded, clashes, twice_in, is_unbound, meant_of, codes_after}
+use Rattle.reader.specs.Stored.{bindings_in, laid_bindings, fitting, found_element, found_by, found_attribute, code_of, found_in, stored_space, code_then, codes_of, is_declaration, Coded, coded, clashes, twice_in, is_unbound, element_with, meant_of, codes_after}
 use Rattle.reader.specs.declared.Binding.{Binding}
 use Rattle.reader.specs.declared.Kind.{Kind}
 use Rattle.reader.specs.declared.Kind.TheVariants.{Plain, Prefixed, Default, Declares}
 use Rattle.reader.specs.declared.Found.{Found}
-use Rattle.reader.specs.declared.Meant.{Meant}
-use Rattle.reader.specs.declared.Meant.TheVariants as told
+use Rattle.reader.specs.declared.Element.{Element}
+use Rattle.reader.specs.declared.NamespaceError.{NamespaceError}
+use Rattle.reader.specs.declared.NamespaceError.TheVariants.{BadPrefix, Duplicate}
 use Rattle.reader.proofs.Laying.{fitting_whole}
 use Rattle.reader.proofs.Declaring.{declared_few}
 use Rattle.reader.proofs.Numbers.{InRange, attribute_in_range, found_back, then_bound, then_unbound}
@@ -151,16 +153,16 @@ module _ (s own open' : List ℕ) (ds : List Binding) (bound : ℕ) (read : bind
 
 -- ---- the tag
 -- what the code's answer says, with the arrays that it leaves
-abbrev pub as_meaning : List ℕ → List ℕ → List ReadAttribute → List Binding → Meant → Meaning
-as_meaning own open' as' ds (told.Element f owned) = meant (stored_space own open' f) as' ds
-as_meaning own open' as' ds told.Undeclared = refused 5
-as_meaning own open' as' ds told.Twice = refused 6
+abbrev pub as_meaning : List ℕ → List ℕ → List ReadAttribute → List Binding → Result Element NamespaceError → Meaning
+as_meaning own open' as' ds (Ok e) = meant (stored_space own open' e.found) as' ds
+as_meaning own open' as' ds (Err BadPrefix) = refused 5
+as_meaning own open' as' ds (Err Duplicate) = refused 6
 
 -- by the code's three tests: u, the element's prefix is unbound; t, an attribute's is; w, two attributes clash
 by_tests : (s : List ℕ) (attrs : List Attr) (own open' : List ℕ) (ds : List Binding) (owned : ℕ) (f : Found) (seen as' : List ReadAttribute) (u t w : Bool)
     → w ≡ (any_pair (same_name s) attrs || any_pair (same_expanded s) seen) → (u ≡ false → t ≡ false → seen ≡ as')
     → meant_by s attrs ds (cond u none (some (stored_space own open' f))) (cond t none (some seen))
-    ≡ as_meaning own open' as' ds (cond u told.Undeclared (cond t told.Undeclared (cond w told.Twice (told.Element f owned))))
+    ≡ as_meaning own open' as' ds (cond u (Err BadPrefix) (cond t (Err BadPrefix) (cond w (Err Duplicate) (Ok (element_with f owned)))))
 by_tests s attrs own open' ds owned f seen as' true t w e h = refl
 by_tests s attrs own open' ds owned f seen as' false true w e h = refl
 by_tests s attrs own open' ds owned f seen as' false false true e h = rw (← e)
@@ -175,8 +177,8 @@ module _ (s own open' spaces : List ℕ) (bound : ℕ) (n : Name) (attrs : List 
   own' = laid_bindings (fitting s ds) own
 
   -- what `meaning` gives, and what it leaves in the array of numbers
-  abbrev answer : Meant
-  answer = cond (any (refused_binding s) ds) told.Undeclared (meant_of s own' (length ds) open' bound n attrs)
+  abbrev answer : Result Element NamespaceError
+  answer = cond (any (refused_binding s) ds) (Err BadPrefix) (meant_of s own' (length ds) open' bound n attrs)
 
   abbrev spaces' : List ℕ
   spaces' = cond (any (refused_binding s) ds) spaces (codes_after s own' (length ds) open' bound n attrs spaces)
@@ -203,6 +205,6 @@ module _ (s own open' spaces : List ℕ) (bound : ℕ) (n : Name) (attrs : List 
     where
       cases : (t : Bool) → t ≡ any (refused_binding s) ds
           → cond t (refused 5) (meant_by s attrs ds (of_element s (bindings_in open' bound ++ ds) n) (resolved s (bindings_in open' bound ++ ds) attrs))
-          ≡ as_meaning own' open' (attributes_in s own' open' (coded attrs (cond t spaces (codes_after s own' (length ds) open' bound n attrs spaces)))) ds (cond t told.Undeclared (meant_of s own' (length ds) open' bound n attrs))
+          ≡ as_meaning own' open' (attributes_in s own' open' (coded attrs (cond t spaces (codes_after s own' (length ds) open' bound n attrs spaces)))) ds (cond t (Err BadPrefix) (meant_of s own' (length ds) open' bound n attrs))
       cases true e = refl
       cases false e = fine (sym e)

@@ -1,12 +1,13 @@
 -- `any` and `any_pair` of what is left of a list from an index on: none left, one more; and `any` of two lists.
 use Prim.Native.Nat.{ℕ, ◌+◌, ◌≤◌, ◌<◌}
-use mathlib.Core.Path.{◌≡◌, refl, sym, ◌∙◌}
+use mathlib.Core.Path.{◌≡◌, refl, sym, ap}
 use mathlib.Core.List.{List, [], ◌∷◌, ◌++◌}
-use mathlib.Core.Bool.{Bool, true, false, ◌||◌, or_assoc, or-false}
+use mathlib.Core.Bool.{Bool, true, false, ◌||◌, or_assoc}
 use native.Mathlib.Numerals.{add-one}
 use native.Mathlib.Omega.{arith}
 use lib.ListN.{length, get_or, drop, length-drop, drop_of_length-le}
 use lib.Seq.{drop-cons}
+use Rattle.std.specs.List.{list_any}
 use Rattle.laws.specs.Lists.{any, any_pair}
 
 module _ {A : Type 0} (p : A → Bool) (l : List A) (i : ℕ) where
@@ -18,13 +19,11 @@ module _ {A : Type 0} (p : A → Bool) (l : List A) (i : ℕ) where
   unfolding any
   any_here d h = rw (add-one, drop-cons l i d h)
 
-  -- a loop that asks every element: f is the answer so far, v that of all
-  module _ (f v : Bool) (inv : (f || any p (drop i l)) ≡ v) where
-    pub asked_out : length l ≤ i → f ≡ v
-    asked_out h = sym (or-false f) ∙ (rw (any_out h) at inv)
-
-    pub asked_turn : (d : A) → i < length l → (f || p (get_or l i d) || any p (drop (i + 1) l)) ≡ v
-    asked_turn d h = or_assoc f (p (get_or l i d)) (any p (drop (i + 1) l)) ∙ (rw (any_here d h) at inv)
+-- as the library asks
+pub any_listed : {A : Type 0} (p : A → Bool) (l : List A) → list_any p l ≡ any p l
+unfolding any
+any_listed p [] = refl
+any_listed p (x ∷ l) = ap (λ (t : Bool). p x || t) (any_listed p l)
 
 pub any_append : {A : Type 0} (p : A → Bool) (xs ys : List A) → any p (xs ++ ys) ≡ (any p xs || any p ys)
 unfolding any

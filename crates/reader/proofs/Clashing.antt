@@ -26,26 +26,27 @@ module _ (s own open' : List ℕ) (a : Attr) (x : ℕ) (b : Attr) (y : ℕ) (t :
   unfolding clashes
   clash_named h = rw (← et, h)
 
-  module _ (u v w : Bool) (h : t ≡ false)
-      (eu : u ≡ is_declaration (kind_of s a.name)) (ev : v ≡ is_declaration (kind_of s b.name))
-      (ew : w ≡ same_list (bytes_of s (part_span a.name)) (bytes_of s (part_span b.name))) where
-    pub clash_apart : (u || v || not w) ≡ true → false ≡ clashes s own open' (record { attr = a; code = x }) (record { attr = b; code = y })
+  module _ (h : t ≡ false) where
+    -- what is asked until one test says no
+    pub clash_apart : (u v w : Bool) → u ≡ is_declaration (kind_of s a.name) → v ≡ is_declaration (kind_of s b.name) → w ≡ same_list (bytes_of s (part_span a.name)) (bytes_of s (part_span b.name))
+        → ((not u && not v) && w) ≡ false → false ≡ clashes s own open' (record { attr = a; code = x }) (record { attr = b; code = y })
     unfolding clashes
-    clash_apart q = rw (← et, h, ← eu, ← ev, ← ew) (cases u v w (same_namespace s (stored_space own open' (found_in x)) (stored_space own open' (found_in y))) q)
+    clash_apart u v w eu ev ew q = rw (← et, h, ← eu, ← ev, ← ew) (cases u v w (same_namespace s (stored_space own open' (found_in x)) (stored_space own open' (found_in y))) q)
       where
-        cases : (u v w z : Bool) → (u || v || not w) ≡ true → false ≡ (not u && (not v && (z && w)))
+        cases : (u v w z : Bool) → ((not u && not v) && w) ≡ false → false ≡ (not u && (not v && (z && w)))
         cases true v w z q = refl
         cases false true w z q = refl
         cases false false false z q = sym (and-false z)
         cases false false true z q = absurd (let k : ◌≡◌ {A = ℕ} 0 1 = cc in omega arith)
 
-    pub clash_space : (u || v || not w) ≡ false → (f g : Found) → f ≡ found_in x → g ≡ found_in y → (r : Bool)
+    pub clash_space : (u v w : Bool) → u ≡ is_declaration (kind_of s a.name) → v ≡ is_declaration (kind_of s b.name) → w ≡ same_list (bytes_of s (part_span a.name)) (bytes_of s (part_span b.name))
+        → ((not u && not v) && w) ≡ true → (f g : Found) → f ≡ found_in x → g ≡ found_in y → (r : Bool)
         → r ≡ same_namespace s (stored_space own open' f) (stored_space own open' g)
         → r ≡ clashes s own open' (record { attr = a; code = x }) (record { attr = b; code = y })
     unfolding clashes
-    clash_space q f g ef eg r e = rw (← et, h, ← eu, ← ev, ← ew, ← ef, ← eg, ← e) (cases u v w q)
+    clash_space u v w eu ev ew q f g ef eg r e = rw (← et, h, ← eu, ← ev, ← ew, ← ef, ← eg, ← e) (cases u v w q)
       where
-        cases : (u v w : Bool) → (u || v || not w) ≡ false → r ≡ (not u && (not v && (r && w)))
+        cases : (u v w : Bool) → ((not u && not v) && w) ≡ true → r ≡ (not u && (not v && (r && w)))
         cases true v w q = absurd (let k : ◌≡◌ {A = ℕ} 0 1 = cc in omega arith)
         cases false true w q = absurd (let k : ◌≡◌ {A = ℕ} 0 1 = cc in omega arith)
         cases false false false q = absurd (let k : ◌≡◌ {A = ℕ} 0 1 = cc in omega arith)

@@ -1,33 +1,51 @@
--- `colon_end` an index at a time, and where the part of a name stands.
---     hit, miss, none     the ways of the loop that looks for a colon
+-- `colon_end` by the first colon's place, and where the part of a name stands.
+--     colon_at, no_colon  the first colon, and none
 --     part_fits, part_is  the colon's place is inside the name and inside the scene; what stands behind it is the part
-use mathlib.Core.Path.{◌≡◌, ap, ◌∙◌}
-use mathlib.Core.Bool.{Bool, true, false, cond}
+use mathlib.Core.Path.{◌≡◌, refl, sym, ap, ◌∙◌}
+use mathlib.Core.Logic.{⊎_elim}
+use mathlib.Core.Bool.{Bool, true, false, cond, not}
 use mathlib.Core.List.{List, [], ◌∷◌}
-use Prim.Native.Nat.{ℕ, ◌+◌, ◌-◌, ◌≤◌, ◌<◌}
+use Prim.Native.Nat.{ℕ, suc, ◌+◌, ◌-◌, ◌≤◌}
 use native.Mathlib.Omega.{arith}
-use borrow.Author.Tests.{eq-eqb, ne_eqb}
-use lib.ListN.{length, get_or, drop, length-take, length-drop}
-use lib.Dec.{eqb}
+use borrow.Author.Tests.{lt-ltb, le-ltb}
+use lib.ListN.{length, drop, length-take, length-drop}
+use lib.Dec.{eqb, ltb}
+use Rattle.std.specs.Prelude.{Some, None, position}
+use Rattle.std.specs.List.{position_or_len}
 use Rattle.laws.specs.Lists.{same_list}
-use Rattle.laws.specs.Reading.{drop_here, drop_out}
+use Rattle.laws.specs.Reading.{le_or_lt}
 use Rattle.reader.specs.Spans.{span, bytes_of}
 use Rattle.reader.specs.Events.{colon_end, part_of}
 use Rattle.reader.specs.declared.Span.{Span}
 
--- what is left to look through from i on gives v
-module _ (s : List ℕ) (i v : ℕ) (inv : colon_end i (drop i s) ≡ v) where
-  pub hit : i < length s → get_or s i 0 ≡ 0x3A → i + 1 ≡ v
-  unfolding colon_end
-  hit l h = simp (← inv, drop_here, eq-eqb (get_or s i 0) 0x3A h)
+-- the first colon, as the library finds it
+abbrev pub is_colon : ℕ → Bool
+is_colon b = eqb b 0x3A
 
-  pub miss : i < length s → (get_or s i 0 ≡ 0x3A → ⊥) → colon_end (i + 1) (drop (i + 1) s) ≡ v
-  unfolding colon_end
-  miss l h = simp (← inv, drop_here, ne_eqb (get_or s i 0) 0x3A h)
+first_colon : (k : ℕ) (s : List ℕ) → colon_end k s ≡ cond (ltb (position_or_len is_colon s) (length s)) (k + position_or_len is_colon s + 1) 0
+unfolding colon_end
+first_colon k [] = refl
+first_colon k (b ∷ s) = by (is_colon b) (position_or_len is_colon s) (length s) (first_colon (k + 1) s)
+  where
+    by : (t : Bool) (i n : ℕ) → colon_end (k + 1) s ≡ cond (ltb i n) (k + 1 + i + 1) 0
+        → cond t (k + 1) (colon_end (k + 1) s) ≡ cond (ltb (cond (not t) (1 + i) 0) (suc n)) (k + cond (not t) (1 + i) 0 + 1) 0
+    by true i n h = rw (lt-ltb 0 (suc n) (omega arith)) (omega arith)
+    by false i n h = h ∙ ⊎_elim (λ l. rw (le-ltb i n l, le-ltb (1 + i) (suc n) (omega arith))) (λ l. rw (lt-ltb i n l, lt-ltb (1 + i) (suc n) (omega arith)) (omega arith)) (le_or_lt n i)
 
-  pub none : length s ≤ i → 0 ≡ v
-  unfolding colon_end
-  none l = simp (← inv, drop_out)
+module _ (s : List ℕ) where
+  pub colon_at : (i : ℕ) → Some i ≡ position is_colon s → i + 1 ≡ colon_end 0 s
+  colon_at i e = by (ltb (position_or_len is_colon s) (length s)) refl e
+    where
+      by : (t : Bool) → t ≡ ltb (position_or_len is_colon s) (length s) → Some i ≡ cond t (Some (position_or_len is_colon s)) None → i + 1 ≡ colon_end 0 s
+      by true q h = let z : i ≡ position_or_len is_colon s = cc in sym (first_colon 0 s ∙ rw (← q, ← z) (omega arith))
+      by false q h = absurd (let z : ◌≡◌ {A = ℕ} 0 1 = cc in omega arith)
+
+  pub no_colon : None ≡ position is_colon s → 0 ≡ colon_end 0 s
+  no_colon e = by (ltb (position_or_len is_colon s) (length s)) refl e
+    where
+      by : (t : Bool) → t ≡ ltb (position_or_len is_colon s) (length s) → None ≡ cond t (Some (position_or_len is_colon s)) None → 0 ≡ colon_end 0 s
+      by true q h = absurd (let z : ◌≡◌ {A = ℕ} 0 1 = cc in omega arith)
+      by false q h = sym (first_colon 0 s ∙ rw (← q))
 
 pub colon_in : (k : ℕ) (l : List ℕ) → colon_end k l ≤ k + length l
 unfolding colon_end

@@ -6,6 +6,7 @@ use mathlib.Core.Bool.{Bool, true, false, cond, or-true}
 use mathlib.Core.Option.{Option, none, some}
 use native.Mathlib.Omega.{arith}
 use lib.ListN.{length, length-append}
+use Rattle.std.specs.Prelude.{Result, Ok, Err}
 use Rattle.laws.specs.Lists.{any, tabulate}
 use Rattle.laws.specs.Gather.{gather}
 use Rattle.laws.specs.Over.{overwrite}
@@ -17,8 +18,8 @@ use Rattle.reader.specs.Stored.{at_most, binding_numbers, laid_bindings, fitting
 use Rattle.reader.specs.declared.Binding.{Binding}
 use Rattle.reader.specs.declared.Kind.{Kind}
 use Rattle.reader.specs.declared.Kind.TheVariants.{Plain, Prefixed, Default, Declares}
-use Rattle.reader.specs.declared.Declared.{Declared}
-use Rattle.reader.specs.declared.Declared.TheVariants as declares
+use Rattle.reader.specs.declared.NamespaceError.{NamespaceError}
+use Rattle.reader.specs.declared.NamespaceError.TheVariants.{BadPrefix}
 use Rattle.reader.proofs.Any.{any_append}
 use Rattle.reader.proofs.Indexed.{tab_here, tab_out, tab_long, at_most_le}
 use Rattle.reader.proofs.TagMeaning.{OnSome}
@@ -121,14 +122,14 @@ module _ (s array : List ℕ) (most : ℕ) (attrs : List Attr) (own₀ : List �
         ∙ ap (λ (k : ℕ). overwrite (laid_bindings d.held own₀) (4 * k) (gather binding_numbers (fitting s one))) (sym d.counted)
         ∙ laid_more own₀ d.held (fitting s one)
 
-    module _ (h : i < most) (a : Attr) (ea : a ≡ attr_in array i) (r : Declared) (l : List ℕ) (kept : Kept s n own (declared_by (kind_of s a.name) a) r l) where
+    module _ (h : i < most) (a : Attr) (ea : a ≡ attr_in array i) (r : Result ℕ NamespaceError) (l : List ℕ) (kept : Kept s n own (declared_by (kind_of s a.name) a) r l) where
       kept_one : Kept s n own one r l
       kept_one = subst (λ (x : Attr). Kept s n own (declared_by (kind_of s x.name) x) r l) ea kept
 
-      pub turn : (m : ℕ) → r ≡ declares.Own m → length l ≡ length own → Declaring s array most attrs own₀ l m (i + 1)
+      pub turn : (m : ℕ) → r ≡ Ok m → length l ≡ length own → Declaring s array most attrs own₀ l m (i + 1)
       turn m e long = cases (any (refused_binding s) one) refl (sym kept_one.0 ∙ e)
         where
-          cases : (t : Bool) → t ≡ any (refused_binding s) one → cond t declares.Refused (declares.Own (n + length one)) ≡ declares.Own m → Declaring s array most attrs own₀ l m (i + 1)
+          cases : (t : Bool) → t ≡ any (refused_binding s) one → cond t (Err BadPrefix) (Ok (n + length one)) ≡ Ok m → Declaring s array most attrs own₀ l m (i + 1)
           cases true p q = absurd (let z : ◌≡◌ {A = ℕ} 0 1 = cc in omega arith)
           cases false p q =
               let fine : fitting s one ≡ one = fitting_whole s one (sym p) in
@@ -144,11 +145,11 @@ module _ (s array : List ℕ) (most : ℕ) (attrs : List Attr) (own₀ : List �
                 left = split h;
               }
 
-      pub refused : r ≡ declares.Refused → (declares.Refused ≡ declared_of s ds) × (l ≡ laid_bindings (fitting s ds) own₀)
-      refused e = cases (any (refused_binding s) one) refl (sym kept_one.0 ∙ e)
+      pub refused : (x : NamespaceError) → r ≡ Err x → (Err x ≡ declared_of s ds) × (l ≡ laid_bindings (fitting s ds) own₀)
+      refused x e = cases (any (refused_binding s) one) refl (sym kept_one.0 ∙ e)
         where
-          cases : (t : Bool) → t ≡ any (refused_binding s) one → cond t declares.Refused (declares.Own (n + length one)) ≡ declares.Refused
-              → (declares.Refused ≡ declared_of s ds) × (l ≡ laid_bindings (fitting s ds) own₀)
+          cases : (t : Bool) → t ≡ any (refused_binding s) one → cond t (Err BadPrefix) (Ok (n + length one)) ≡ Err x
+              → (Err x ≡ declared_of s ds) × (l ≡ laid_bindings (fitting s ds) own₀)
           cases false p q = absurd (let z : ◌≡◌ {A = ℕ} 0 1 = cc in omega arith)
           cases true p q =
               let bad : any (refused_binding s) (d.held ++ one) ≡ true = any_append (refused_binding s) d.held one ∙ rw (← p) (or-true (any (refused_binding s) d.held)) in
@@ -156,12 +157,13 @@ module _ (s array : List ℕ) (most : ℕ) (attrs : List Attr) (own₀ : List �
               ap (fitting s) (sym (split h)) ∙ fitting_some s (d.held ++ one) more bad ∙ fitting_all s d.held one d.fit in
               let w : any (refused_binding s) ds ≡ true =
               ap (any (refused_binding s)) (sym (split h)) ∙ any_append (refused_binding s) (d.held ++ one) more ∙ rw bad in
-              (rw w, laid_one l kept_one.1 ∙ ap (λ (x : List Binding). laid_bindings x own₀) (sym f))
+              let z : Err x ≡ Err BadPrefix = sym q in
+              (rw w z, laid_one l kept_one.1 ∙ ap (λ (x : List Binding). laid_bindings x own₀) (sym f))
 
-    pub ended : most ≤ i → (declares.Own n ≡ declared_of s ds) × (own ≡ laid_bindings (fitting s ds) own₀)
+    pub ended : most ≤ i → (Ok n ≡ declared_of s ds) × (own ≡ laid_bindings (fitting s ds) own₀)
     unfolding gather
     ended h =
         let e : d.held ≡ ds =
         sym (append-nil d.held) ∙ ap (λ (l : List Attr). d.held ++ declarations_of s l) (sym (tab_out (attr_in array) most i h)) ∙ d.left in
         let fine : any (refused_binding s) ds ≡ false = ap (any (refused_binding s)) (sym e) ∙ d.fit in
-        (rw (fine, ← e) (ap declares.Own (sym d.counted)), d.laid ∙ ap (λ (x : List Binding). laid_bindings x own₀) (e ∙ sym (fitting_whole s ds fine)))
+        (rw (fine, ← e) (ap Ok (sym d.counted)), d.laid ∙ ap (λ (x : List Binding). laid_bindings x own₀) (e ∙ sym (fitting_whole s ds fine)))

@@ -1,6 +1,7 @@
 -- The reader's rules keep `Held`, and what they answer lies inside the scene: an event's spans, a refusal's number and place.
 --     held_fresh, held_next, event_inside     an event and the state behind it
 --     numbered, cut_at, finished_at           the other answers
+use Rattle.std.specs.Prelude.{Ok, Err}
 use Prim.Native.Nat.{ℕ, ◌+◌, ◌-◌, ◌≤◌, ◌<◌}
 use mathlib.Core.Path.{◌≡◌, refl, sym, subst}
 use mathlib.Core.List.{List, [], ◌∷◌}
@@ -18,13 +19,7 @@ use Rattle.lexer.specs.Tags.{TagRead, tag_at, end_tag_at}
 use Rattle.lexer.specs.Begins.{begin_at}
 use Rattle.lexer.specs.declared.Stop.{Stop}
 use Rattle.lexer.specs.declared.Stop.TheVariants.{Bad, Long, Cut}
-use Rattle.lexer.specs.declared.Read.{Read}
-use Rattle.lexer.specs.declared.Read.TheVariants as read
-use Rattle.lexer.specs.declared.Tagged.{Tagged}
-use Rattle.lexer.specs.declared.Tagged.TheVariants as tagged
-use Rattle.lexer.specs.declared.Ended.{Ended}
-use Rattle.lexer.specs.declared.Ended.TheVariants as ended
-use Rattle.lexer.specs.declared.Begin.{Begin}
+use Rattle.lexer.specs.Reads.{Read, Tagged, Ended, BeginRead}
 use Rattle.lexer.specs.declared.Begin.TheVariants as begin
 use Rattle.lexer.proofs.ValueLaws.{ValueTo, value_inside}
 use Rattle.lexer.proofs.Inside.{StopInside, ReadInside, within_read, TagInside, TaggedInside, TagReadInside, tag_inside, EndedInside, end_tag_inside}
@@ -50,7 +45,7 @@ pub record StartHeld (s : List ℕ) (e : Start) : Type 0 where
 
 abbrev pub EventHeld : List ℕ → Event → Type 0
 EventHeld s (start e) = StartHeld s e
-EventHeld s (text w) = (0 < w.len) × SpanHeld s w × (text_end s w.at ≡ read.End (w.at + w.len))
+EventHeld s (text w) = (0 < w.len) × SpanHeld s w × (text_end s w.at ≡ Ok (w.at + w.len))
 EventHeld s (end w at) = (at < w.at) × SpanHeld s w
 
 -- 1 at the scene's end, each other number inside the scene
@@ -88,8 +83,8 @@ module _ (s : List ℕ) (z : ReaderState) (h : Held s z) where
   stop_held at le Cut i = record { some = omega arith; few = omega arith; cut = λ e. refl; inside = λ n. absurd (n refl) }
 
   text_held : (at : ℕ) → z.place ≤ at → (get_or s at 0 ≡ 0x3C → ⊥) → (r : Read) → text_end s at ≡ r → ReadInside (ValueTo s 0x3C at) s at r → NextHeld s z (text_read s z at r)
-  text_held at e n (read.Stopped x) q i = stop_held at (omega arith) x i
-  text_held at e n (read.End j) q i =
+  text_held at e n (Err x) q i = stop_held at (omega arith) x i
+  text_held at e n (Ok j) q i =
       let lt : at < j = ⊎_elim (λ le. absurd (n (subst (λ (k : ℕ). get_or s k 0 ≡ 0x3C) (omega arith) i.2))) (λ k. k) (le_or_lt j at) in
       let stop : at + (j - at) ≡ j = omega arith in
       ((omega arith, omega arith, rw stop q), record { place = omega arith; opened = h.opened; awaited = λ f. never (sym f); closed = h.closed })
@@ -101,22 +96,22 @@ module _ (s : List ℕ) (z : ReaderState) (h : Held s z) where
 
   end_held : (at : ℕ) → z.place ≤ at → at + 1 < length s → (os : List Open) → All (OpenHeld s) os → (r : Ended) → EndedInside s (at + 2) r → NextHeld s z (end_read s at os r)
   end_held at le lt [] k r i = refused_in 2 (at + 1) (omega arith) (omega arith) (omega arith) lt
-  end_held at le lt (o ∷ os) k (ended.Stopped x) i = stop_held (at + 2) (omega arith) x i
-  end_held at le lt (o ∷ os) k (ended.Got t) i =
+  end_held at le lt (o ∷ os) k (Err x) i = stop_held (at + 2) (omega arith) x i
+  end_held at le lt (o ∷ os) k (Ok t) i =
       let n = i.name in
       holds_cond (NextHeld s z) (same_list (bytes_of s (whole_span t.name)) (bytes_of s o.name))
       (λ e. (omega arith, left_held t.next o os i.inside k))
       (λ e. refused_in 4 at (omega arith) (omega arith) le (omega arith))
 
   start_held : (at : ℕ) → z.place ≤ at → at + 1 < length s → (r : TagRead) → TagReadInside s (at + 1) r → r ≡ tag_at s (at + 1) → (a : Tagged) → r.answer ≡ a → NextHeld s z (start_read s at z.opened r a)
-  start_held at le lt r i q (tagged.Stopped x) e = stop_held (at + 1) (omega arith) x (subst (TaggedInside s (at + 1) r.attrs) e i.answer)
-  start_held at le lt r i q (tagged.Got t) e =
+  start_held at le lt r i q (Err x) e = stop_held (at + 1) (omega arith) x (subst (TaggedInside s (at + 1) r.attrs) e i.answer)
+  start_held at le lt r i q (Ok t) e =
       meaning (meaning_of s (bindings_of z.opened) t.name r.attrs) (meaning_held s (bindings_of z.opened) (bindings_in_lem s z.opened h.opened) t.name (at + 1) r.attrs i.each)
     where
       tag : TagInside s (at + 1) r.attrs t
       tag = subst (TaggedInside s (at + 1) r.attrs) e i.answer
 
-      read_so : (tag_at s (at + 1)).answer ≡ tagged.Got t
+      read_so : (tag_at s (at + 1)).answer ≡ Ok t
       read_so = rw (← q) e
 
       meaning : (m : Meaning) → MeaningHeld s m → NextHeld s z (start_meant at z.opened t m)
@@ -132,12 +127,12 @@ module _ (s : List ℕ) (z : ReaderState) (h : Held s z) where
             },
           )
 
-  begun_held : (inside : Bool) (b : Begin) → BeginInside s z.place inside z.closed b → NextHeld s z (read_at s z b)
-  begun_held inside (begin.Stopped x) i = stop_held z.place (omega arith) x i
-  begun_held inside begin.Finished i = (refl, i.0)
-  begun_held inside (begin.Text at) i = text_held at i.0 i.2 (text_end s at) refl (within_read (ValueTo s 0x3C at) s at (text_end s at) (value_inside s at 0x3C))
-  begun_held inside (begin.End at) i = end_held at i.0 i.1 z.opened h.opened (end_tag_at s (at + 2)) (end_tag_inside s (at + 2))
-  begun_held inside (begin.Start at) i = start_held at i.0 i.1 (tag_at s (at + 1)) (tag_inside s (at + 1)) refl (tag_at s (at + 1)).answer refl
+  begun_held : (inside : Bool) (b : BeginRead) → BeginInside s z.place inside z.closed b → NextHeld s z (read_at s z b)
+  begun_held inside (Err x) i = stop_held z.place (omega arith) x i
+  begun_held inside (Ok begin.Finished) i = (refl, i.0)
+  begun_held inside (Ok (begin.Text at)) i = text_held at i.0 i.2 (text_end s at) refl (within_read (ValueTo s 0x3C at) s at (text_end s at) (value_inside s at 0x3C))
+  begun_held inside (Ok (begin.End at)) i = end_held at i.0 i.1 z.opened h.opened (end_tag_at s (at + 2)) (end_tag_inside s (at + 2))
+  begun_held inside (Ok (begin.Start at)) i = start_held at i.0 i.1 (tag_at s (at + 1)) (tag_inside s (at + 1)) refl (tag_at s (at + 1)).answer refl
 
   by_held : (a : Bool) (os : List Open) → All (OpenHeld s) os → NextHeld s z (next_by s z a os)
   unfolding part_of

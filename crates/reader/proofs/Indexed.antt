@@ -1,5 +1,5 @@
 -- `tabulate` from an index on: an element more, and none left; its length and elements; and a bound.
-use Prim.Native.Nat.{ℕ, zero, suc, ◌+◌, ◌-◌, ◌≤◌, ◌<◌}
+use Prim.Native.Nat.{ℕ, zero, suc, ◌+◌, ◌-◌, ◌≤◌, ◌<◌, min}
 use mathlib.Core.Path.{◌≡◌, refl, sym, ap, ◌∙◌}
 use mathlib.Core.List.{List, [], ◌∷◌, ◌++◌}
 use mathlib.Core.Logic.{⊎_elim}
@@ -25,6 +25,9 @@ module _ {A : Type 0} (f : ℕ → A) (n i : ℕ) where
 
 pub at_most_le : (most n r : ℕ) → r ≡ at_most most n → r ≤ most
 at_most_le most n r e = ⊎_elim (λ h. omega (arith, (rw (le-leb n most h) at e))) (λ h. omega (arith, (rw (lt-leb n most h) at e))) (le_or_lt n most)
+
+pub min_at_most : (most n : ℕ) → min n most ≡ at_most most n
+min_at_most most n = ⊎_elim (λ h. rw (le-leb n most h) (omega arith)) (λ h. rw (lt-leb n most h) (omega arith)) (le_or_lt n most)
 
 pub tab_long : {A : Type 0} (f : ℕ → A) (i n : ℕ) → length (tabulate f i n) ≡ n
 unfolding tabulate

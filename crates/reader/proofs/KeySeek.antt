@@ -1,6 +1,7 @@
 -- A prefix looked up by its key.
 --     key_none, key_here, key_before    the clauses of `last_key`, at the code's `left` and `left - 1`
---     by_own, by_open                   the ways out of `find`
+--     by_own, by_open                   the ways out of `find`, by the definition
+--     own_found, open_found, none_found and by the code's answer
 use Prim.Native.Nat.{ℕ, zero, suc, ◌+◌, ◌-◌, ◌≤◌, ◌<◌}
 use mathlib.Core.Path.{◌≡◌, refl, sym, ap, ◌∙◌}
 use mathlib.Core.List.{List}
@@ -10,19 +11,20 @@ use native.Mathlib.Nat.{add-zero, zero-add}
 use borrow.Author.Tests.{eq-eqb, ne_eqb, eqb-true, eqb-false, le-leb}
 use lib.Dec.{eqb}
 use lib.ListN.{length, get_or}
+use Rattle.std.specs.Prelude.{Option, Some, None}
 use Rattle.laws.specs.Lists.{same_list}
 use Rattle.reader.specs.Spans.{bytes_of, xml_prefix}
-use Rattle.reader.specs.Stored.{at_most, binding_in, look_from, found_open, found_of}
+use Rattle.reader.specs.Stored.{at_most, binding_in, counted_from_1, look_from, found_open, found_of}
 use Rattle.reader.specs.Known.{key_of, last_key, KeysAt}
 use Rattle.reader.specs.declared.Found.{Found}
 use Rattle.reader.specs.declared.Found.TheVariants as found
 use Rattle.reader.proofs.PrefixKeys.{Bytes, bytes_of_lem, key_tells}
-use Rattle.reader.proofs.Seek.{look_le, found_own, found_open_lem}
+use Rattle.reader.proofs.Seek.{counted_some, counted_none, open_some, open_none, look_le, found_own, found_open_lem}
 
 module _ (l : List ℕ) (left key : ℕ) where
-  pub key_none : left ≡ 0 → 0 ≡ last_key l left key
+  pub key_none : left ≡ 0 → None ≡ counted_from_1 (last_key l left key)
   unfolding last_key
-  key_none e = ap (λ (k : ℕ). last_key l k key) (sym e)
+  key_none e = ap (λ (k : ℕ). counted_from_1 (last_key l k key)) (sym e)
 
   last_turn : (left ≡ 0 → ⊥) → last_key l left key ≡ cond (eqb (get_or l (left - 1) 0) key) left (last_key l (left - 1) key)
   unfolding last_key
@@ -31,11 +33,13 @@ module _ (l : List ℕ) (left key : ℕ) where
       sym (ap (λ (k : ℕ). last_key l k key) n)
       ∙ ap (λ (k : ℕ). cond (eqb (get_or l (left - 1) 0) key) k (last_key l (left - 1) key)) n
 
-  pub key_here : (left ≡ 0 → ⊥) → get_or l (left - 1) 0 ≡ key → left ≡ last_key l left key
-  key_here ne e = sym (last_turn ne ∙ rw (eq-eqb (get_or l (left - 1) 0) key e))
+  pub key_here : (left ≡ 0 → ⊥) → get_or l (left - 1) 0 ≡ key → Some (left - 1) ≡ counted_from_1 (last_key l left key)
+  key_here ne e =
+      let n : suc (left - 1) ≡ left = omega arith in
+      ap counted_from_1 (n ∙ sym (last_turn ne ∙ rw (eq-eqb (get_or l (left - 1) 0) key e)))
 
-  pub key_before : (r : ℕ) → (left ≡ 0 → ⊥) → (get_or l (left - 1) 0 ≡ key → ⊥) → r ≡ last_key l (left - 1) key → r ≡ last_key l left key
-  key_before r ne e h = h ∙ sym (last_turn ne ∙ rw (ne_eqb (get_or l (left - 1) 0) key e))
+  pub key_before : (r : Option ℕ) → (left ≡ 0 → ⊥) → (get_or l (left - 1) 0 ≡ key → ⊥) → r ≡ counted_from_1 (last_key l (left - 1) key) → r ≡ counted_from_1 (last_key l left key)
+  key_before r ne e h = h ∙ ap counted_from_1 (sym (last_turn ne ∙ rw (ne_eqb (get_or l (left - 1) 0) key e)))
 
 -- ---- by keys as by bytes
 module _ (s known prefix : List ℕ) (hs : Bytes s) (hp : Bytes prefix) (short : length prefix ≤ 7) where
@@ -67,7 +71,13 @@ module _ (s known prefix : List ℕ) (hs : Bytes s) (hp : Bytes prefix) (short :
 
   -- the ways out of `find`
   module _ (own : List ℕ) (owned : ℕ) (open' : List ℕ) (bound : ℕ) (lb : bound ≤ 64) (lo : owned ≤ 16) (ho : KeysAt s open' bound 0 known) (hw : KeysAt s own owned bound known)
-      (x : Bool) (ex : x ≡ same_list prefix xml_prefix) (h : x ≡ false) (k : ℕ) (ek : k ≡ last_key known (bound + owned) (key_of prefix)) where
+      (x : Bool) (ex : x ≡ same_list prefix xml_prefix) (h : x ≡ false) (key : ℕ) (e_key : key ≡ key_of prefix) (o : Option ℕ) (eo_k : o ≡ counted_from_1 (last_key known (bound + owned) key)) where
+    abbrev k : ℕ
+    k = last_key known (bound + owned) key
+
+    ek : k ≡ last_key known (bound + owned) (key_of prefix)
+    ek = ap (last_key known (bound + owned)) e_key
+
     abbrev a : ℕ
     a = look_from s own owned prefix
 
@@ -83,14 +93,14 @@ module _ (s known prefix : List ℕ) (hs : Bytes s) (hp : Bytes prefix) (short :
     eb : bound ≡ at_most 64 bound
     eb = rw (le-leb bound 64 lb)
 
-    pub by_own : bound < k → found.Own (k - bound - 1) ≡ found_of s own owned open' bound prefix
+    by_own : bound < k → found.Own (k - bound - 1) ≡ found_of s own owned open' bound prefix
     by_own l =
         let ne : a ≡ 0 → ⊥ = λ z. let q : k ≡ b = told ∙ rw (eq-eqb a 0 z) in omega (arith, look_le s open' bound prefix) in
         let q : k ≡ bound + a = told ∙ rw (ne_eqb a 0 ne) in
         let z : k - bound - 1 ≡ a - 1 = omega arith in
         ap found.Own z ∙ found_own s own owned open' bound prefix x ex owned a h eo refl ne
 
-    pub by_open : k ≤ bound → (f : Found) → f ≡ found_open prefix k → f ≡ found_of s own owned open' bound prefix
+    by_open : k ≤ bound → (f : Found) → f ≡ found_open prefix k → f ≡ found_of s own owned open' bound prefix
     by_open l f g =
         let e : a ≡ 0 = none (eqb a 0) refl in
         let q : k ≡ b = told ∙ rw (eq-eqb a 0 e) in
@@ -99,3 +109,19 @@ module _ (s known prefix : List ℕ) (hs : Bytes s) (hp : Bytes prefix) (short :
         none : (t : Bool) → t ≡ eqb a 0 → a ≡ 0
         none true z = eqb-true a 0 (sym z)
         none false z = let q : k ≡ bound + a = told ∙ rw (← z) in absurd (omega (arith, eqb-false a 0 (sym z)))
+
+    pub own_found : (i : ℕ) → o ≡ Some i → bound ≤ i → found.Own (i - bound) ≡ found_of s own owned open' bound prefix
+    own_found i e l =
+        let n : k ≡ i + 1 = counted_some k i (sym eo_k ∙ e) in
+        let z : i - bound ≡ k - bound - 1 = omega arith in
+        ap found.Own z ∙ by_own (omega arith)
+
+    pub open_found : (i : ℕ) → o ≡ Some i → i < bound → found.Open i ≡ found_of s own owned open' bound prefix
+    open_found i e l =
+        let n : k ≡ i + 1 = counted_some k i (sym eo_k ∙ e) in
+        by_open (omega arith) (found.Open i) (open_some prefix i k (sym e ∙ eo_k))
+
+    pub none_found : (f : Found) → o ≡ None → f ≡ found_open prefix 0 → f ≡ found_of s own owned open' bound prefix
+    none_found f e g =
+        let n : k ≡ 0 = counted_none k (sym eo_k ∙ e) in
+        by_open (omega arith) f (open_none prefix k f (sym e ∙ eo_k) g)

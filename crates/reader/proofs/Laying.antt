@@ -7,6 +7,7 @@ use mathlib.Core.Bool.{Bool, true, false, cond, ◌||◌}
 use native.Mathlib.Nat.{add-zero}
 use native.Mathlib.Omega.{arith}
 use lib.ListN.{length, drop}
+use Rattle.std.specs.Prelude.{Result, Ok, Err}
 use Rattle.laws.specs.Lists.{any}
 use Rattle.laws.specs.Gather.{gather}
 use Rattle.laws.specs.Over.{overwrite}
@@ -18,31 +19,31 @@ use Rattle.reader.specs.Namespaces.{declared_by, refused_binding}
 use Rattle.reader.specs.Stored.{binding_numbers, laid_bindings, fitting}
 use Rattle.reader.specs.declared.Binding.{Binding}
 use Rattle.reader.specs.declared.Kind.{Kind}
-use Rattle.reader.specs.declared.Declared.{Declared}
-use Rattle.reader.specs.declared.Declared.TheVariants as declares
+use Rattle.reader.specs.declared.NamespaceError.{NamespaceError}
+use Rattle.reader.specs.declared.NamespaceError.TheVariants.{BadPrefix}
 
 module _ (s : List ℕ) (n : ℕ) (own : List ℕ) where
   -- what declaring these behind n others gives, and the array then
-  abbrev pub Kept : List Binding → Declared → List ℕ → Type 0
-  Kept ds r l = (r ≡ cond (any (refused_binding s) ds) declares.Refused (declares.Own (n + length ds))) × (l ≡ overwrite own (4 * n) (gather binding_numbers (fitting s ds)))
+  abbrev pub Kept : List Binding → Result ℕ NamespaceError → List ℕ → Type 0
+  Kept ds r l = (r ≡ cond (any (refused_binding s) ds) (Err BadPrefix) (Ok (n + length ds))) × (l ≡ overwrite own (4 * n) (gather binding_numbers (fitting s ds)))
 
-  pub keep_none : Kept [] (declares.Own n) own
+  pub keep_none : Kept [] (Ok n) own
   unfolding any gather fitting
-  keep_none = (ap declares.Own (sym (add-zero n)), sym (over_none own (4 * n)))
+  keep_none = (ap Ok (sym (add-zero n)), sym (over_none own (4 * n)))
 
-  pub keep_one : (b b' : Binding) (r : Declared) (l : List ℕ) → b ≡ b'
-      → r ≡ cond (refused_binding s b) declares.Refused (declares.Own (n + 1))
+  pub keep_one : (b b' : Binding) (r : Result ℕ NamespaceError) (l : List ℕ) → b ≡ b'
+      → r ≡ cond (refused_binding s b) (Err BadPrefix) (Ok (n + 1))
       → l ≡ cond (refused_binding s b) own (overwrite own (4 * n) (binding_numbers b))
       → Kept (b' ∷ []) r l
   unfolding any gather fitting
   keep_one b b' r l e p q = subst (λ (x : Binding). Kept (x ∷ []) r l) e (cases (refused_binding s b) p q)
     where
-      cases : (t : Bool) → r ≡ cond t declares.Refused (declares.Own (n + 1)) → l ≡ cond t own (overwrite own (4 * n) (binding_numbers b))
-          → (r ≡ cond (t || false) declares.Refused (declares.Own (n + 1))) × (l ≡ overwrite own (4 * n) (gather binding_numbers (cond t [] (b ∷ []))))
+      cases : (t : Bool) → r ≡ cond t (Err BadPrefix) (Ok (n + 1)) → l ≡ cond t own (overwrite own (4 * n) (binding_numbers b))
+          → (r ≡ cond (t || false) (Err BadPrefix) (Ok (n + 1))) × (l ≡ overwrite own (4 * n) (gather binding_numbers (cond t [] (b ∷ []))))
       cases true p q = (p, q ∙ sym (over_none own (4 * n)))
       cases false p q = (p, q)
 
-  pub as_kind : (a : Attr) (k k' : Kind) (r : Declared) (l : List ℕ) → k ≡ kind_of s a.name → k ≡ k'
+  pub as_kind : (a : Attr) (k k' : Kind) (r : Result ℕ NamespaceError) (l : List ℕ) → k ≡ kind_of s a.name → k ≡ k'
       → Kept (declared_by k' a) r l → Kept (declared_by (kind_of s a.name) a) r l
   as_kind a k k' r l p q h = subst (λ (t : Kind). Kept (declared_by t a) r l) (sym q ∙ p) h
 

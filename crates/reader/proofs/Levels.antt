@@ -2,19 +2,21 @@
 use mathlib.Core.Path.{◌≡◌, ap, ◌∙◌}
 use mathlib.Core.Logic.{⊎_elim}
 use mathlib.Core.List.{List, [], ◌∷◌}
-use Prim.Native.Nat.{ℕ, ◌+◌, ◌-◌, ◌*◌, ◌%◌, ◌≤◌, ◌<◌}
+use Prim.Native.Nat.{ℕ, ◌+◌, ◌-◌, ◌*◌, ◌≤◌, ◌<◌}
 use native.Mathlib.Omega.{arith}
 use borrow.Author.Tests.{ne_eqb, lt-ltb, le-ltb, le-leb, lt-leb}
 use lib.ListN.{length, set, get_or-eq_default}
+use Rattle.std.specs.Prelude.{Ok, Err}
 use Rattle.laws.specs.Reading.{le_or_lt}
 use Rattle.laws.specs.Over.{overwrite}
 use Rattle.laws.proofs.Over.{set_over, over_set}
 use Rattle.reader.specs.Spans.{span}
-use Rattle.reader.specs.Stored.{at_most}
-use Rattle.reader.specs.Scope.{opened_to, opened_of, count_in, closed_of, name_in}
+use Rattle.reader.specs.Stored.{at_most, narrowed}
+use Rattle.reader.specs.Scope.{opened_of, count_in, closed_of, name_in}
 use Rattle.reader.specs.Pushed.{pushed_bindings}
 use Rattle.reader.specs.declared.Span.{Span}
 use Rattle.reader.specs.declared.Scope.{Scope}
+use Rattle.reader.specs.declared.ScopeError.TheVariants.{Depth, Bindings}
 use Rattle.reader.proofs.Pushes.{laid}
 
 pub most_few : (n : ℕ) → at_most 16 n ≤ 16
@@ -28,29 +30,31 @@ stores l i a b c h =
     ∙ over_set l i (a ∷ b ∷ []) c h
 
 module _ (sc : Scope) (name : Span) (own : List ℕ) (owned : ℕ) where
-  pub deep : 64 ≤ sc.depth → opened_to 21 sc ≡ opened_of sc name own owned
+  pub deep : 64 ≤ sc.depth → Err Depth ≡ opened_of sc name own owned
   unfolding opened_of
   deep h = rw (le-leb 64 sc.depth h)
 
   module _ (d : sc.depth < 64) (count : ℕ) (e : count ≡ at_most 16 owned) where
-    pub full : 64 - count < sc.bound → opened_to 22 sc ≡ opened_of sc name own owned
+    pub full : 64 - count < sc.bound → Err Bindings ≡ opened_of sc name own owned
     unfolding opened_of
     full h = rw (lt-leb 64 sc.depth d, lt-ltb 64 (sc.bound + at_most 16 owned) (omega (arith, most_few owned)))
 
-    pub opened : sc.bound ≤ 64 - count → length sc.levels ≡ 192 → (bs : List ℕ) → bs ≡ pushed_bindings sc.bindings sc.bound own count
-        → opened_to 0 (record {
+    pub opened : sc.bound ≤ 64 - count → length sc.levels ≡ 192 → (at len : ℕ) → at ≡ narrowed name.at → len ≡ narrowed name.len → (bs : List ℕ) → bs ≡ pushed_bindings sc.bindings sc.bound own count
+        → Ok (record {
           depth = sc.depth + 1;
           bound = sc.bound + count;
-          levels = set (set (set sc.levels (3 * sc.depth) (name.at % 4294967296)) (3 * sc.depth + 1) (name.len % 4294967296)) (3 * sc.depth + 2) count;
+          levels = set (set (set sc.levels (3 * sc.depth) at) (3 * sc.depth + 1) len) (3 * sc.depth + 2) count;
           bindings = bs;
         })
         ≡ opened_of sc name own owned
     unfolding opened_of
-    opened h l bs p =
+    opened h l at len ea el bs p =
         rw (
+          ea,
+          el,
           lt-leb 64 sc.depth d,
           le-ltb 64 (sc.bound + at_most 16 owned) (omega (arith, most_few owned)),
-          stores sc.levels (3 * sc.depth) (name.at % 4294967296) (name.len % 4294967296) count (omega arith),
+          stores sc.levels (3 * sc.depth) (narrowed name.at) (narrowed name.len) count (omega arith),
           p,
           ← laid sc.bindings sc.bound own count (omega (arith, most_few owned)) (omega (arith, most_few owned)),
           e,

@@ -2,6 +2,7 @@
 --     next_kept                          every answer but 1 and 9
 --     next_stable, refusal_stable        the same of an answer that is known
 --     next_placed, short, next_short     the bytes before a refusal's place
+use Rattle.std.specs.Prelude.{Ok, Err}
 use Prim.Native.Nat.{ℕ, ◌+◌, ◌-◌, ◌≤◌, ◌<◌}
 use mathlib.Core.Path.{◌≡◌, refl, sym, ap, subst, ◌∙◌}
 use mathlib.Core.List.{List, [], ◌∷◌, ◌++◌}
@@ -18,13 +19,7 @@ use Rattle.lexer.specs.Tags.{TagRead, tag_at, end_tag_at}
 use Rattle.lexer.specs.Begins.{begin_at}
 use Rattle.lexer.specs.declared.Stop.{Stop}
 use Rattle.lexer.specs.declared.Stop.TheVariants.{Bad, Long, Cut}
-use Rattle.lexer.specs.declared.Read.{Read}
-use Rattle.lexer.specs.declared.Read.TheVariants as read
-use Rattle.lexer.specs.declared.Tagged.{Tagged}
-use Rattle.lexer.specs.declared.Tagged.TheVariants as tagged
-use Rattle.lexer.specs.declared.Ended.{Ended}
-use Rattle.lexer.specs.declared.Ended.TheVariants as ended
-use Rattle.lexer.specs.declared.Begin.{Begin}
+use Rattle.lexer.specs.Reads.{Read, Tagged, Ended, BeginRead}
 use Rattle.lexer.specs.declared.Begin.TheVariants as begin
 use Rattle.lexer.proofs.ValueLaws.{value_stable}
 use Rattle.lexer.proofs.Inside.{TaggedInside, TagReadInside, tag_inside, EndedInside, end_tag_inside}
@@ -54,42 +49,42 @@ module _ (s t : List ℕ) (z : ReaderState) (h : Held s z) where
   stop_kept Cut n = absurd (n refl)
 
   text_kept : (at : ℕ) (r : Read) → Kept OpenNext (text_read s z at r) (text_read (s ++ t) z at r)
-  text_kept at (read.End j) n = refl
-  text_kept at (read.Stopped x) n = stop_kept x n
+  text_kept at (Ok j) n = refl
+  text_kept at (Err x) n = stop_kept x n
 
   end_kept : (at : ℕ) (o : Open) (os : List Open) → OpenHeld s o → (r : Ended) → EndedInside s (at + 2) r → Kept OpenNext (end_read s at (o ∷ os) r) (end_read (s ++ t) at (o ∷ os) r)
-  end_kept at o os k (ended.Stopped x) i n = stop_kept x n
-  end_kept at o os k (ended.Got e) i n =
+  end_kept at o os k (Err x) i n = stop_kept x n
+  end_kept at o os k (Ok e) i n =
       let m = i.name in
       rw (bytes_more s t (whole_span e.name) (omega arith), bytes_more s t o.name k.inside)
 
   start_kept : (at : ℕ) (r : TagRead) → TagReadInside s (at + 1) r → (a : Tagged) → TaggedInside s (at + 1) r.attrs a → Kept OpenNext (start_read s at z.opened r a) (start_read (s ++ t) at z.opened r a)
-  start_kept at r i (tagged.Stopped x) k n = stop_kept x n
-  start_kept at r i (tagged.Got e) k n =
+  start_kept at r i (Err x) k n = stop_kept x n
+  start_kept at r i (Ok e) k n =
       ap (start_meant at z.opened e) (meaning_more s t (bindings_of z.opened) (bindings_in_lem s z.opened h.opened) (at + 1) e.name k.name r.attrs i.each)
 
   ended_kept : (at : ℕ) (os : List Open) → All (OpenHeld s) os → Kept OpenNext (end_read s at os (end_tag_at s (at + 2))) (end_read (s ++ t) at os (end_tag_at (s ++ t) (at + 2)))
   ended_kept at [] k = λ n. refl
   ended_kept at (o ∷ os) k =
-      kept_through (λ (r : Ended). r ≡ ended.Stopped Cut) OpenNext (end_read s at (o ∷ os)) (end_read (s ++ t) at (o ∷ os))
+      kept_through (λ (r : Ended). r ≡ Err Cut) OpenNext (end_read s at (o ∷ os)) (end_read (s ++ t) at (o ∷ os))
       (λ r e. subst (λ (x : Ended). OpenNext (end_read s at (o ∷ os) x)) (sym e) refl)
       (end_tag_at s (at + 2))
       (end_tag_at (s ++ t) (at + 2))
       (end_tag_stable s t (at + 2))
       (end_kept at o os k.0 (end_tag_at s (at + 2)) (end_tag_inside s (at + 2)))
 
-  begun_kept : (b : Begin) → Kept OpenNext (read_at s z b) (read_at (s ++ t) z b)
-  begun_kept (begin.Stopped x) = stop_kept x
-  begun_kept begin.Finished = λ n. absurd (n tt)
-  begun_kept (begin.Text at) =
-      kept_through (λ (r : Read). r ≡ read.Stopped Cut) OpenNext (text_read s z at) (text_read (s ++ t) z at)
+  begun_kept : (b : BeginRead) → Kept OpenNext (read_at s z b) (read_at (s ++ t) z b)
+  begun_kept (Err x) = stop_kept x
+  begun_kept (Ok begin.Finished) = λ n. absurd (n tt)
+  begun_kept (Ok (begin.Text at)) =
+      kept_through (λ (r : Read). r ≡ Err Cut) OpenNext (text_read s z at) (text_read (s ++ t) z at)
       (λ r e. subst (λ (x : Read). OpenNext (text_read s z at x)) (sym e) refl)
       (text_end s at)
       (text_end (s ++ t) at)
       (value_stable s t at 0x3C)
       (text_kept at (text_end s at))
-  begun_kept (begin.End at) = ended_kept at z.opened h.opened
-  begun_kept (begin.Start at) =
+  begun_kept (Ok (begin.End at)) = ended_kept at z.opened h.opened
+  begun_kept (Ok (begin.Start at)) =
       kept_through CutTag OpenNext (λ (r : TagRead). start_read s at z.opened r r.answer) (λ (r : TagRead). start_read (s ++ t) at z.opened r r.answer)
       (λ r e. subst (λ (x : Tagged). OpenNext (start_read s at z.opened r x)) (sym e) refl)
       (tag_at s (at + 1))
@@ -100,7 +95,7 @@ module _ (s t : List ℕ) (z : ReaderState) (h : Held s z) where
   from_kept : (inside : Bool) → Kept OpenNext (read_at s z (begin_at s z.place inside z.closed)) (read_at (s ++ t) z (begin_at (s ++ t) z.place inside z.closed))
   from_kept inside =
       kept_through CutBegin OpenNext (read_at s z) (read_at (s ++ t) z)
-      (λ b. ⊎_elim (λ e. subst (λ (x : Begin). OpenNext (read_at s z x)) (sym e) refl) (λ e. subst (λ (x : Begin). OpenNext (read_at s z x)) (sym e) tt))
+      (λ b. ⊎_elim (λ e. subst (λ (x : BeginRead). OpenNext (read_at s z x)) (sym e) refl) (λ e. subst (λ (x : BeginRead). OpenNext (read_at s z x)) (sym e) tt))
       (begin_at s z.place inside z.closed)
       (begin_at (s ++ t) z.place inside z.closed)
       (begin_stable s t z.place inside z.closed)

@@ -11,17 +11,19 @@ use borrow.Author.Tests.{ne_eqb, lt-ltb, le-ltb, le-leb, lt-leb}
 use lib.ListN.{length, get_or, take}
 use lib.Seq.{get_or-take, length-take-le}
 use lib.Dec.{eqb}
+use Rattle.std.specs.Prelude.{Result, Ok, Err}
 use Rattle.laws.specs.Lists.{tabulate}
 use Rattle.laws.specs.Reading.{le_or_lt}
 use Rattle.laws.proofs.Over.{length_over, get_d_over_before, get_d_over_in}
 use Rattle.reader.specs.Stored.{at_most, binding_in}
 use Rattle.reader.specs.Events.{Open, is_nil, bindings_of}
-use Rattle.reader.specs.Scope.{fresh_scope, level_numbers, opened_to, with_level, opened_of, count_in, closed_of, name_in, opens_in, opens_of}
+use Rattle.reader.specs.Scope.{fresh_scope, level_numbers, with_level, opened_of, count_in, closed_of, name_in, opens_in, opens_of}
 use Rattle.reader.specs.Counted.{count_of, Counted}
 use Rattle.reader.specs.declared.Span.{Span}
 use Rattle.reader.specs.declared.Binding.{Binding}
 use Rattle.reader.specs.declared.Scope.{Scope}
-use Rattle.reader.specs.declared.Opened.{Opened}
+use Rattle.reader.specs.declared.ScopeError.{ScopeError}
+use Rattle.reader.specs.declared.ScopeError.TheVariants.{Depth, Bindings}
 use Rattle.reader.proofs.Tabulated.{tabulate_same, tabulate_append}
 
 -- every binding of a scope belongs to a level
@@ -141,11 +143,11 @@ open_lengths sc name own owned lv lb lo few d b =
       length_over sc.bindings (4 * sc.bound) (take (4 * owned) own) (omega arith) ∙ lb,
     )
 
--- number 0 is given where there is room, and only there; with another number the scope is as it was
-pub data Opening (sc : Scope) (name : Span) (own : List ℕ) (owned : ℕ) : Opened → Type 0 where
-  deep : 64 ≤ sc.depth → Opening sc name own owned (opened_to 21 sc)
-  full : sc.depth < 64 → 64 < sc.bound + at_most 16 owned → Opening sc name own owned (opened_to 22 sc)
-  room : sc.depth < 64 → sc.bound + at_most 16 owned ≤ 64 → Opening sc name own owned (opened_to 0 (with_level sc name own (at_most 16 owned)))
+-- an element is opened where there is room, and only there
+pub data Opening (sc : Scope) (name : Span) (own : List ℕ) (owned : ℕ) : Result Scope ScopeError → Type 0 where
+  deep : 64 ≤ sc.depth → Opening sc name own owned (Err Depth)
+  full : sc.depth < 64 → 64 < sc.bound + at_most 16 owned → Opening sc name own owned (Err Bindings)
+  room : sc.depth < 64 → sc.bound + at_most 16 owned ≤ 64 → Opening sc name own owned (Ok (with_level sc name own (at_most 16 owned)))
 
 pub opening : (sc : Scope) (name : Span) (own : List ℕ) (owned : ℕ) → Opening sc name own owned (opened_of sc name own owned)
 unfolding opened_of

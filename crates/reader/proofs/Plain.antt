@@ -1,19 +1,21 @@
 -- Plain attributes.
 --     plain_test                              by the tests that the code makes
 --     plain_kind, plain_declares_nothing      they are in no namespace and declare nothing
---     all_begin                               the loop of `all_plain`
+--     all_ranged                              by the range that `all_plain` goes through
 --     plain_codes, plain_zeros, plain_many    their numbers: all 0
 --     clear_turn, plain_cleared               and as `clear_codes` lays them
-use Prim.Native.Nat.{ℕ, zero, suc, ◌+◌, ◌-◌, ◌≤◌, ◌<◌}
+use Prim.Native.Nat.{ℕ, zero, suc, ◌+◌, ◌-◌, ◌≤◌, ◌<◌, min}
 use mathlib.Core.Path.{◌≡◌, refl, sym, ap, ◌∙◌}
 use mathlib.Core.List.{List, [], ◌∷◌}
 use mathlib.Core.Bool.{Bool, true, false, not, ◌&&◌, and_assoc}
 use mathlib.Core.Logic.{⊎_elim}
 use native.Mathlib.Omega.{arith}
+use native.Mathlib.Numerals.{add-one}
 use borrow.Author.Tests.{leb-true, eqb-false, eq-eqb, le-ltb, lt-ltb, le-leb, lt-leb, not-true}
 use lib.Dec.{eqb, leb, ltb}
 use lib.ListN.{length, drop, set, replicate, length-drop, length-replicate, replicate-append-replicate}
 use lib.Seq.{length-take-le}
+use Rattle.std.specs.List.{list_all, range_with_len}
 use Rattle.laws.specs.Lists.{same_list, all, tabulate}
 use Rattle.laws.specs.Members.{All}
 use Rattle.laws.specs.Gather.{gather}
@@ -27,7 +29,7 @@ use Rattle.reader.specs.Namespaces.{declarations_of}
 use Rattle.reader.specs.Stored.{at_most, found_attribute, codes_of, laid_numbers}
 use Rattle.reader.specs.Known.{plain_attr}
 use Rattle.reader.specs.declared.Kind.TheVariants.{Plain}
-use Rattle.reader.proofs.Indexed.{tab_long}
+use Rattle.reader.proofs.Indexed.{tab_long, min_at_most}
 use Rattle.reader.proofs.Resolving.{numbers_more}
 
 not_less : (a b : ℕ) → leb b a ≡ not (ltb a b)
@@ -41,9 +43,17 @@ plain_test s a n e =
     ∙ ap (λ (t : Bool). t && (not (eqb n 5) && leb a.name.end (length s))) (not_less a.name.at a.name.part)
     ∙ ap (λ (k : ℕ). not (has_prefix a.name) && (not (eqb k 5) && leb a.name.end (length s))) e
 
-pub all_begin : (s array : List ℕ) (count most : ℕ) → most ≡ at_most 16 count → all (plain_attr s) (tabulate (attr_in array) 0 (most - 0)) ≡ all (plain_attr s) (attrs_in array count)
+range_all : (s array : List ℕ) (a n : ℕ) → list_all (λ (i : ℕ). plain_attr s (attr_in array i)) (range_with_len a n) ≡ all (plain_attr s) (tabulate (attr_in array) a n)
+unfolding all tabulate
+range_all s array a zero = refl
+range_all s array a (suc n) = rw (add-one a) (ap (λ (t : Bool). plain_attr s (attr_in array a) && t) (range_all s array (suc a) n))
+
+pub all_ranged : (s array : List ℕ) (count most : ℕ) → most ≡ min count 16 → list_all (λ (i : ℕ). plain_attr s (attr_in array i)) (range_with_len 0 (most - 0)) ≡ all (plain_attr s) (attrs_in array count)
 unfolding attrs_in
-all_begin s array count most e = let z : most - 0 ≡ at_most 16 count = omega arith in ap (λ (n : ℕ). all (plain_attr s) (tabulate (attr_in array) 0 n)) z
+all_ranged s array count most e =
+    let d : most - 0 ≡ most = omega arith in
+    let z : most - 0 ≡ at_most 16 count = d ∙ e ∙ min_at_most 16 count in
+    ap (λ (n : ℕ). list_all (λ (i : ℕ). plain_attr s (attr_in array i)) (range_with_len 0 n)) z ∙ range_all s array 0 (at_most 16 count)
 
 -- five bytes are not as many as these
 other_length : (s : List ℕ) (at end : ℕ) → (end - at ≡ 5 → ⊥) → end ≤ length s → same_list (bytes_of s (record { at = at; len = end - at })) xmlns_prefix ≡ false

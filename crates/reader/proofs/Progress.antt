@@ -3,6 +3,7 @@
 --     history, enough              the events behind a state; more fuel gives no more
 --     history_next, events_are     they go by `next`; a scene's events are those of a fresh reader
 --     ending, ending_next, last_is, last_settled     the same of how reading ends, which is no event
+use Rattle.std.specs.Prelude.{Ok, Err}
 use Prim.Native.Nat.{ℕ, zero, suc, ◌+◌, ◌-◌, ◌*◌, ◌≤◌, ◌<◌}
 use mathlib.Core.Path.{◌≡◌, refl, sym, ap, subst, ◌∙◌}
 use mathlib.Core.Logic.{◌⊎◌, inl, inr, ⊎_elim}
@@ -22,15 +23,9 @@ use Rattle.lexer.proofs.Inside.{StopInside, TaggedInside, tag_inside, EndedInsid
 use Rattle.lexer.proofs.BeginLaws.{BeginInside, begin_inside}
 use Rattle.lexer.specs.declared.Stop.{Stop}
 use Rattle.lexer.specs.declared.Stop.TheVariants as stop
-use Rattle.lexer.specs.declared.Read.{Read}
-use Rattle.lexer.specs.declared.Read.TheVariants as read
+use Rattle.lexer.specs.Reads.{Read, Tagged, Ended, BeginRead}
 use Rattle.lexer.specs.declared.Attr.{Attr}
 use Rattle.lexer.specs.declared.Tag.{Tag}
-use Rattle.lexer.specs.declared.Tagged.{Tagged}
-use Rattle.lexer.specs.declared.Tagged.TheVariants as tagged
-use Rattle.lexer.specs.declared.Ended.{Ended}
-use Rattle.lexer.specs.declared.Ended.TheVariants as ended
-use Rattle.lexer.specs.declared.Begin.{Begin}
 use Rattle.lexer.specs.declared.Begin.TheVariants as begin
 use Rattle.reader.specs.Spans.{bytes_of, whole_span}
 use Rattle.reader.specs.Namespaces.{Meaning, refused, meant, meaning_of}
@@ -55,18 +50,18 @@ module _ (s : List ℕ) (z : ReaderState) where
 
   -- a text ends at a <, and its first byte is none
   text_moves : (at : ℕ) → z.place ≤ at → (get_or s at 0 ≡ 0x3C → ⊥) → (r : Read) → Within (ValueTo s 0x3C at) s at r → Moved s z (text_read s z at r)
-  text_moves at le n (read.End j) i =
+  text_moves at le n (Ok j) i =
       ⊎_elim (λ l. let q : at ≡ j = omega arith in absurd (n (ap (λ (k : ℕ). get_or s k 0) q ∙ i.2))) (λ l. inl (omega arith)) (le_or_lt j at)
-  text_moves at le n (read.Stopped (stop.Bad j)) i = (omega arith, λ h. omega arith)
-  text_moves at le n (read.Stopped (stop.Long j)) i = absurd i
-  text_moves at le n (read.Stopped stop.Cut) i = (omega arith, λ h. h)
+  text_moves at le n (Err (stop.Bad j)) i = (omega arith, λ h. omega arith)
+  text_moves at le n (Err (stop.Long j)) i = absurd i
+  text_moves at le n (Err stop.Cut) i = (omega arith, λ h. h)
 
   -- a tag whose < stands at a place inside
   module _ (at : ℕ) (le : z.place ≤ at) (lt : at + 1 < length s) where
     end_moves : (os : List Open) (t : Ended) → EndedInside s (at + 2) t → Moved s z (end_read s at os t)
     end_moves [] t i = (omega arith, λ h. omega arith)
-    end_moves (o ∷ os) (ended.Stopped x) i = stop_moves (at + 2) (omega arith) x i
-    end_moves (o ∷ os) (ended.Got t) i =
+    end_moves (o ∷ os) (Err x) i = stop_moves (at + 2) (omega arith) x i
+    end_moves (o ∷ os) (Ok t) i =
         holds_cond (Moved s z) (same_list (bytes_of s (whole_span t.name)) (bytes_of s o.name))
         (λ e. inl (omega arith))
         (λ e. (omega arith, λ h. omega arith))
@@ -76,15 +71,15 @@ module _ (s : List ℕ) (z : ReaderState) where
     meant_moves os t lo hi (meant n as' own) = inl (omega arith)
 
     start_moves : (os : List Open) (l : List Attr) (r : TagRead) (t : Tagged) → TaggedInside s (at + 1) l t → Moved s z (start_read s at os r t)
-    start_moves os l r (tagged.Stopped x) i = stop_moves (at + 1) (omega arith) x i
-    start_moves os l r (tagged.Got t) i = meant_moves os t (omega arith) i.inside (meaning_of s (bindings_of os) t.name r.attrs)
+    start_moves os l r (Err x) i = stop_moves (at + 1) (omega arith) x i
+    start_moves os l r (Ok t) i = meant_moves os t (omega arith) i.inside (meaning_of s (bindings_of os) t.name r.attrs)
 
-  begun_moves : (inside closed : Bool) (b : Begin) → BeginInside s z.place inside closed b → Moved s z (read_at s z b)
-  begun_moves inside closed (begin.Stopped x) i = stop_moves z.place (omega arith) x i
-  begun_moves inside closed begin.Finished i = refl
-  begun_moves inside closed (begin.Text at) i = text_moves at (omega arith) i.2 (text_end s at) (value_inside s at 0x3C)
-  begun_moves inside closed (begin.End at) i = end_moves at i.0 i.1 z.opened (end_tag_at s (at + 2)) (end_tag_inside s (at + 2))
-  begun_moves inside closed (begin.Start at) i =
+  begun_moves : (inside closed : Bool) (b : BeginRead) → BeginInside s z.place inside closed b → Moved s z (read_at s z b)
+  begun_moves inside closed (Err x) i = stop_moves z.place (omega arith) x i
+  begun_moves inside closed (Ok begin.Finished) i = refl
+  begun_moves inside closed (Ok (begin.Text at)) i = text_moves at (omega arith) i.2 (text_end s at) (value_inside s at 0x3C)
+  begun_moves inside closed (Ok (begin.End at)) i = end_moves at i.0 i.1 z.opened (end_tag_at s (at + 2)) (end_tag_inside s (at + 2))
+  begun_moves inside closed (Ok (begin.Start at)) i =
       start_moves at i.0 i.1 z.opened (tag_at s (at + 1)).attrs (tag_at s (at + 1)) (tag_at s (at + 1)).answer (tag_inside s (at + 1)).answer
 
   by_moves : (a : Bool) (os : List Open) → z.awaited ≡ a → Moved s z (next_by s z a os)

@@ -2,6 +2,7 @@
 --     tag_named       the name of a start tag is the name at its place
 --     part_plain      no colon stands in a part
 --     part_again      the part of a name that was read before is the part that was read
+use Rattle.std.specs.Prelude.{Ok, Err}
 use Prim.Native.Nat.{ℕ, zero, suc, ◌+◌, ◌-◌, ◌≤◌, ◌<◌}
 use mathlib.Core.Path.{◌≡◌, refl, sym, ap, subst, ◌∙◌}
 use mathlib.Core.List.{List, [], ◌∷◌}
@@ -21,57 +22,49 @@ use Rattle.lexer.specs.Names.{PartState, part_state, part_set, part_whole, part_
 use Rattle.lexer.proofs.Parts.{part_refuses, no_colon_start, no_colon_char}
 use Rattle.lexer.specs.Tags.{turn_at, attribute_at, tag_stopped, full_turn, attr_then, turn_then, attrs_from, tag_at}
 use Rattle.lexer.specs.declared.Stop.TheVariants.{Bad, Cut}
-use Rattle.lexer.specs.declared.Read.{Read}
-use Rattle.lexer.specs.declared.Read.TheVariants as read
+use Rattle.lexer.specs.Reads.{Read, Named, Attributed, TurnRead, Tagged}
 use Rattle.lexer.specs.declared.Name.{Name}
-use Rattle.lexer.specs.declared.Named.{Named}
-use Rattle.lexer.specs.declared.Named.TheVariants as named
 use Rattle.lexer.specs.declared.Attr.{Attr}
-use Rattle.lexer.specs.declared.Attributed.{Attributed}
-use Rattle.lexer.specs.declared.Attributed.TheVariants as attributed
-use Rattle.lexer.specs.declared.Turn.{Turn}
 use Rattle.lexer.specs.declared.Turn.TheVariants as turn
 use Rattle.lexer.specs.declared.Tag.{Tag}
-use Rattle.lexer.specs.declared.Tagged.{Tagged}
-use Rattle.lexer.specs.declared.Tagged.TheVariants as tagged
 use Rattle.lexer.proofs.Inside.{PrefixTo, NameInside, NamedInside, name_inside}
 use Rattle.reader.specs.Spans.{whole_span, part_span}
 use Rattle.reader.specs.Events.{colon_end, part_of}
 
 -- ---- a start tag's name
 abbrev TagNamed : Name → Tagged → Type 0
-TagNamed name (tagged.Got t) = t.name ≡ name
-TagNamed name (tagged.Stopped x) = Unit
+TagNamed name (Ok t) = t.name ≡ name
+TagNamed name (Err x) = Unit
 
 attrs_named : (s : List ℕ) (name : Name) (room : ℕ) (l : List Attr) (i : ℕ) → TagNamed name (attrs_from s name l room i).answer
 unfolding attrs_from
 attrs_named s name zero l i = ends (turn_at s i)
   where
-    ends : (r : Turn) → TagNamed name (full_turn name l r).answer
-    ends (turn.Close next empty) = refl
-    ends (turn.Attribute j) = tt
-    ends (turn.Stopped x) = tt
+    ends : (r : TurnRead) → TagNamed name (full_turn name l r).answer
+    ends (Ok (turn.Close next empty)) = refl
+    ends (Ok (turn.Attribute j)) = tt
+    ends (Err x) = tt
 attrs_named s name (suc room) l i = goes (attrs_named s name room) (turn_at s i)
   where
     More : Type 0
     More = (l' : List Attr) (k : ℕ) → TagNamed name (attrs_from s name l' room k).answer
 
     one : More → (r : Attributed) → TagNamed name (attr_then (λ (l' : List Attr) (k : ℕ). attrs_from s name l' room k) l r).answer
-    one more (attributed.Got a) = more _ _
-    one more (attributed.Stopped x) = tt
+    one more (Ok a) = more _ _
+    one more (Err x) = tt
 
-    goes : More → (r : Turn) → TagNamed name (turn_then s (λ (l' : List Attr) (k : ℕ). attrs_from s name l' room k) name l r).answer
-    goes more (turn.Close next empty) = refl
-    goes more (turn.Attribute j) = one more (attribute_at s j)
-    goes more (turn.Stopped x) = tt
+    goes : More → (r : TurnRead) → TagNamed name (turn_then s (λ (l' : List Attr) (k : ℕ). attrs_from s name l' room k) name l r).answer
+    goes more (Ok (turn.Close next empty)) = refl
+    goes more (Ok (turn.Attribute j)) = one more (attribute_at s j)
+    goes more (Err x) = tt
 
-pub tag_named : (s : List ℕ) (at : ℕ) (t : Tag) → (tag_at s at).answer ≡ tagged.Got t → name_at s at ≡ named.Got t.name
+pub tag_named : (s : List ℕ) (at : ℕ) (t : Tag) → (tag_at s at).answer ≡ Ok t → name_at s at ≡ Ok t.name
 unfolding tag_at
 tag_named s at t = by (name_at s at)
   where
-    by : (r : Named) → (after_name (tag_stopped []) r (λ (name : Name). attrs_from s name [] 16 name.end)).answer ≡ tagged.Got t → r ≡ named.Got t.name
-    by (named.Got n) e = ap named.Got (sym (subst (TagNamed n) e (attrs_named s n 16 [] n.end)))
-    by (named.Stopped x) e = let z : ◌≡◌ {A = ℕ} 0 1 = cc in absurd (omega arith)
+    by : (r : Named) → (after_name (tag_stopped []) r (λ (name : Name). attrs_from s name [] 16 name.end)).answer ≡ Ok t → r ≡ Ok t.name
+    by (Ok n) e = ap Ok (sym (subst (TagNamed n) e (attrs_named s n 16 [] n.end)))
+    by (Err x) e = let z : ◌≡◌ {A = ℕ} 0 1 = cc in absurd (omega arith)
 
 -- ---- no colon stands in a part
 -- from a place up to another
@@ -82,16 +75,16 @@ plain_more : (s : List ℕ) (at j : ℕ) → Plain s at j → (get_or s j 0 ≡ 
 plain_more s at j h n i lo hi e =
     ⊎_elim (λ le. n (ap (λ (k : ℕ). get_or s k 0) (omega arith) ∙ e)) (λ lt. h i lo lt e) (le_or_lt j i)
 
-pub part_plain : (s : List ℕ) (at j : ℕ) → part_end s at ≡ read.End j → Plain s at j
+pub part_plain : (s : List ℕ) (at j : ℕ) → part_end s at ≡ Ok j → Plain s at j
 unfolding part_end
 part_plain s at j e =
-    subst Ends e (run_held (read.Stopped Cut) part_step s (λ (q : PartState) (i : ℕ). Plain s at i) Ends tt turns (part_state 64 []) at (λ i lo hi q. omega arith))
+    subst Ends e (run_held (Err Cut) part_step s (λ (q : PartState) (i : ℕ). Plain s at i) Ends tt turns (part_state 64 []) at (λ i lo hi q. omega arith))
   where
     Ends : Read → Type 0
-    Ends (read.End k) = Plain s at k
-    Ends (read.Stopped x) = Unit
+    Ends (Ok k) = Plain s at k
+    Ends (Err x) = Unit
 
-    stops : (i : ℕ) → Plain s at i → (t : Bool) → Ends (cond t (read.End i) (read.Stopped (Bad i)))
+    stops : (i : ℕ) → Plain s at i → (t : Bool) → Ends (cond t (Ok i) (Err (Bad i)))
     stops i h true = h
     stops i h false = tt
 
@@ -146,5 +139,5 @@ part_of_lem s at n h = ⊎_elim alone behind h.first
         (λ i lt c. part_plain s at (n.part - 1) f.1 (n.at + i) (omega arith) (omega arith) (sym (byte i (omega arith)) ∙ c)))
         (omega arith)
 
-pub part_again : (s : List ℕ) (at : ℕ) (n : Name) → name_at s at ≡ named.Got n → part_of s (whole_span n) ≡ part_span n
+pub part_again : (s : List ℕ) (at : ℕ) (n : Name) → name_at s at ≡ Ok n → part_of s (whole_span n) ≡ part_span n
 part_again s at n e = part_of_lem s at n (subst (NamedInside (NameInside s at) s at) e (name_inside s at))

@@ -1,32 +1,49 @@
 -- A prefix looked up.
+--     counted_some, counted_none          a place that is counted from 1
 --     look_none, look_turn                the clauses of `look_from`, at the code's `left` and `left - 1`
 --     look_le                             it is one of them
---     found_xml, found_own, found_open_lem    the ways out of `find_spelled`
-use Prim.Native.Nat.{ℕ, zero, suc, ◌-◌, ◌≤◌}
-use mathlib.Core.Path.{◌≡◌, sym, ap, ◌∙◌}
+--     found_xml, found_own, found_open_lem    the ways out of `find_spelled`, by the definition
+--     spelled_own, spelled_open           and by the code's answers
+use Prim.Native.Nat.{ℕ, zero, suc, ◌+◌, ◌-◌, ◌≤◌, min}
+use mathlib.Core.Path.{◌≡◌, refl, sym, ap, ◌∙◌}
 use mathlib.Core.List.{List}
 use mathlib.Core.Bool.{Bool, true, false, cond}
 use native.Mathlib.Omega.{arith}
 use borrow.Author.Tests.{eq-eqb, ne_eqb}
+use Rattle.std.specs.Prelude.{Option, Some, None}
 use Rattle.laws.specs.Lists.{same_list}
 use Rattle.reader.specs.Spans.{bytes_of, xml_prefix}
-use Rattle.reader.specs.Stored.{at_most, binding_in, look_from, found_open, found_of}
+use Rattle.reader.specs.Stored.{at_most, binding_in, counted_from_1, look_from, found_open, found_of}
 use Rattle.reader.specs.declared.Found.{Found}
 use Rattle.reader.specs.declared.Found.TheVariants as found
+use Rattle.reader.proofs.Indexed.{min_at_most}
+
+-- ---- places counted from 1
+pub counted_cond : (t : Bool) (a b : ℕ) → cond t (counted_from_1 a) (counted_from_1 b) ≡ counted_from_1 (cond t a b)
+counted_cond true a b = refl
+counted_cond false a b = refl
+
+pub counted_some : (n k : ℕ) → counted_from_1 n ≡ Some k → n ≡ k + 1
+counted_some zero k e = absurd (let z : ◌≡◌ {A = ℕ} 0 1 = cc in omega arith)
+counted_some (suc n) k e = let q : n ≡ k = cc in omega arith
+
+pub counted_none : (n : ℕ) → counted_from_1 n ≡ None → n ≡ 0
+counted_none zero e = refl
+counted_none (suc n) e = absurd (let z : ◌≡◌ {A = ℕ} 0 1 = cc in omega arith)
 
 module _ (s l : List ℕ) (left : ℕ) (prefix : List ℕ) where
-  pub look_none : left ≡ 0 → 0 ≡ look_from s l left prefix
+  pub look_none : left ≡ 0 → None ≡ counted_from_1 (look_from s l left prefix)
   unfolding look_from
-  look_none e = ap (λ (k : ℕ). look_from s l k prefix) (sym e)
+  look_none e = ap (λ (k : ℕ). counted_from_1 (look_from s l k prefix)) (sym e)
 
-  pub look_turn : (r : Bool) (x : ℕ) → (left ≡ 0 → ⊥) → r ≡ same_list (bytes_of s (binding_in l (left - 1)).prefix) prefix
-      → x ≡ cond r left (look_from s l (left - 1) prefix) → x ≡ look_from s l left prefix
+  pub look_turn : (r : Bool) (x : Option ℕ) → (left ≡ 0 → ⊥) → r ≡ same_list (bytes_of s (binding_in l (left - 1)).prefix) prefix
+      → x ≡ cond r (Some (left - 1)) (counted_from_1 (look_from s l (left - 1) prefix)) → x ≡ counted_from_1 (look_from s l left prefix)
   unfolding look_from
   look_turn r x ne e h =
       let n : suc (left - 1) ≡ left = omega arith in
-      h ∙ ap (λ (t : Bool). cond t left (look_from s l (left - 1) prefix)) e
-      ∙ ap (λ (k : ℕ). cond (same_list (bytes_of s (binding_in l (left - 1)).prefix) prefix) k (look_from s l (left - 1) prefix)) (sym n)
-      ∙ ap (λ (k : ℕ). look_from s l k prefix) n
+      h ∙ ap (λ (t : Bool). cond t (Some (left - 1)) (counted_from_1 (look_from s l (left - 1) prefix))) e
+      ∙ counted_cond (same_list (bytes_of s (binding_in l (left - 1)).prefix) prefix) (suc (left - 1)) (look_from s l (left - 1) prefix)
+      ∙ ap (λ (k : ℕ). counted_from_1 (look_from s l k prefix)) n
 
 pub look_le : (s l : List ℕ) (n : ℕ) (p : List ℕ) → look_from s l n p ≤ n
 unfolding look_from
@@ -52,3 +69,28 @@ module _ (s own : List ℕ) (owned : ℕ) (open' : List ℕ) (bound : ℕ) (pref
         → f ≡ found_of s own owned open' bound prefix
     unfolding found_of
     found_open_lem n outer f e en eo g = rw (← ex, h, ← em, ← ei, eq-eqb inner 0 e, ← en, ← eo) g
+
+  module _ (h : x ≡ false) (mine : Option ℕ) (em : mine ≡ counted_from_1 (look_from s own (min owned 16) prefix)) where
+    mine_is : mine ≡ counted_from_1 (look_from s own (at_most 16 owned) prefix)
+    mine_is = em ∙ ap (λ (k : ℕ). counted_from_1 (look_from s own k prefix)) (min_at_most 16 owned)
+
+    pub spelled_own : (k : ℕ) → mine ≡ Some k → found.Own k ≡ found_of s own owned open' bound prefix
+    spelled_own k e =
+        let inner : ℕ = look_from s own (at_most 16 owned) prefix in
+        let n : inner ≡ k + 1 = counted_some inner k (sym mine_is ∙ e) in
+        let z : k ≡ inner - 1 = omega arith in
+        ap found.Own z ∙ found_own (at_most 16 owned) inner h refl refl (λ q. omega arith)
+
+    pub spelled_open : (other : Option ℕ) (f : Found) → mine ≡ None → other ≡ counted_from_1 (look_from s open' (min bound 64) prefix)
+        → ((outer : ℕ) → other ≡ counted_from_1 outer → f ≡ found_open prefix outer) → f ≡ found_of s own owned open' bound prefix
+    spelled_open other f e eo g =
+        let outer : ℕ = look_from s open' (at_most 64 bound) prefix in
+        let o : other ≡ counted_from_1 outer = eo ∙ ap (λ (k : ℕ). counted_from_1 (look_from s open' k prefix)) (min_at_most 64 bound) in
+        found_open_lem (at_most 16 owned) _ h refl refl (at_most 64 bound) outer f (counted_none _ (sym mine_is ∙ e)) refl refl (g outer o)
+
+-- what was found among the open ones, by its place counted from 1
+pub open_some : (prefix : List ℕ) (k outer : ℕ) → Some k ≡ counted_from_1 outer → found.Open k ≡ found_open prefix outer
+open_some prefix k outer e = rw (counted_some outer k (sym e), ne_eqb (k + 1) 0 (λ q. omega arith)) (ap found.Open (omega arith))
+
+pub open_none : (prefix : List ℕ) (outer : ℕ) (f : Found) → None ≡ counted_from_1 outer → f ≡ found_open prefix 0 → f ≡ found_open prefix outer
+open_none prefix outer f e g = g ∙ ap (found_open prefix) (sym (counted_none outer (sym e)))

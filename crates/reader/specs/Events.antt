@@ -1,19 +1,13 @@
 -- 'Reader and its events': the reader's state, the next event, and a scene's events. Definitions.
-use Rattle.std.specs.Prelude.{ℕ, zero, suc, ◌+◌, ◌*◌, ◌-◌, List, [], ◌∷◌, ◌++◌, Bool, true, false, cond, not, length, eqb}
+use Rattle.std.specs.Prelude.{ℕ, zero, suc, ◌+◌, ◌*◌, ◌-◌, List, [], ◌∷◌, ◌++◌, Bool, true, false, cond, not, length, eqb, Ok, Err}
 use Rattle.laws.specs.Lists.{same_list}
 use Rattle.lexer.specs.Stops.{number_of, stop_place}
 use Rattle.lexer.specs.Values.{text_end}
 use Rattle.lexer.specs.Tags.{TagRead, tag_at, end_tag_at}
 use Rattle.lexer.specs.Begins.{begin_at}
 use Rattle.lexer.specs.declared.Stop.{Stop}
-use Rattle.lexer.specs.declared.Read.{Read}
-use Rattle.lexer.specs.declared.Read.TheVariants as read
+use Rattle.lexer.specs.Reads.{Read, Tagged, Ended, BeginRead}
 use Rattle.lexer.specs.declared.Tag.{Tag}
-use Rattle.lexer.specs.declared.Tagged.{Tagged}
-use Rattle.lexer.specs.declared.Tagged.TheVariants as tagged
-use Rattle.lexer.specs.declared.Ended.{Ended}
-use Rattle.lexer.specs.declared.Ended.TheVariants as ended
-use Rattle.lexer.specs.declared.Begin.{Begin}
 use Rattle.lexer.specs.declared.Begin.TheVariants as begin
 use Rattle.reader.specs.Spans.{span, between, bytes_of, whole_span, part_span}
 use Rattle.reader.specs.Namespaces.{Namespace, ReadAttribute, Meaning, refused, meant, meaning_of}
@@ -89,8 +83,8 @@ end_of_empty s place o os = event (end (part_of s o.name) (o.name.at - 1)) (left
 -- "4 end name unlike the open one's bytes (<)"
 abbrev pub end_read : List ℕ → ℕ → List Open → Ended → Next
 end_read s at [] t = refusal 2 (at + 1)
-end_read s at (o ∷ os) (ended.Stopped x) = stopped s x
-end_read s at (o ∷ os) (ended.Got t) =
+end_read s at (o ∷ os) (Err x) = stopped s x
+end_read s at (o ∷ os) (Ok t) =
     cond (same_list (bytes_of s (whole_span t.name)) (bytes_of s o.name))
     (event (end (part_span t.name) at) (left t.next os))
     (refusal 4 at)
@@ -103,21 +97,21 @@ start_meant at os t (meant n as' own) =
     (record { place = t.next; closed = false; awaited = t.empty; opened = record { name = whole_span t.name; declarations = own } ∷ os })
 
 abbrev pub start_read : List ℕ → ℕ → List Open → TagRead → Tagged → Next
-start_read s at os r (tagged.Stopped x) = stopped s x
-start_read s at os r (tagged.Got t) = start_meant at os t (meaning_of s (bindings_of os) t.name r.attrs)
+start_read s at os r (Err x) = stopped s x
+start_read s at os r (Ok t) = start_meant at os t (meaning_of s (bindings_of os) t.name r.attrs)
 
 abbrev pub text_read : List ℕ → ReaderState → ℕ → Read → Next
-text_read s z at (read.Stopped x) = stopped s x
-text_read s z at (read.End j) =
+text_read s z at (Err x) = stopped s x
+text_read s z at (Ok j) =
     event (text (between at j)) (record { place = j; closed = z.closed; awaited = false; opened = z.opened })
 
 -- "then 2, 3 or 1 by first byte; then 4; 5, 6"
-abbrev pub read_at : List ℕ → ReaderState → Begin → Next
-read_at s z (begin.Stopped x) = stopped s x
-read_at s z begin.Finished = finished (length s)
-read_at s z (begin.Text at) = text_read s z at (text_end s at)
-read_at s z (begin.End at) = end_read s at z.opened (end_tag_at s (at + 2))
-read_at s z (begin.Start at) = start_read s at z.opened (tag_at s (at + 1)) (tag_at s (at + 1)).answer
+abbrev pub read_at : List ℕ → ReaderState → BeginRead → Next
+read_at s z (Err x) = stopped s x
+read_at s z (Ok begin.Finished) = finished (length s)
+read_at s z (Ok (begin.Text at)) = text_read s z at (text_end s at)
+read_at s z (Ok (begin.End at)) = end_read s at z.opened (end_tag_at s (at + 2))
+read_at s z (Ok (begin.Start at)) = start_read s at z.opened (tag_at s (at + 1)) (tag_at s (at + 1)).answer
 
 abbrev pub next_by : List ℕ → ReaderState → Bool → List Open → Next
 next_by s z true (o ∷ os) = end_of_empty s z.place o os

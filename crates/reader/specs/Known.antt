@@ -1,10 +1,11 @@
 -- What is kept beside the bindings: a key of each prefix, by which it is looked up. A device. Definitions.
-use Rattle.std.specs.Prelude.{ℕ, zero, suc, ◌+◌, ◌*◌, ◌-◌, ◌<◌, ◌≡◌, List, [], ◌∷◌, map, Bool, cond, not, ◌&&◌, length, get_or, eqb, leb}
+use Rattle.std.specs.Prelude.{ℕ, zero, suc, ◌+◌, ◌*◌, ◌-◌, ◌<◌, ◌≤◌, ◌≡◌, List, [], ◌∷◌, map, Bool, cond, not, ◌&&◌, length, get_or, eqb, leb}
 use Rattle.lexer.specs.declared.Attr.{Attr}
 use Rattle.reader.specs.Spans.{bytes_of, has_prefix}
 use Rattle.reader.specs.Stored.{binding_in, bindings_in}
 use Rattle.reader.specs.declared.Binding.{Binding}
 use Rattle.reader.specs.declared.Found.{Found}
+use Rattle.reader.specs.declared.bindings.InScope.{InScope}
 use Rattle.reader.specs.declared.Found.TheVariants as found
 
 -- bytes behind a number, each in eight bits of their own
@@ -28,6 +29,13 @@ last_key l (suc k) key = cond (eqb (get_or l k 0) key) (suc k) (last_key l k key
 -- the keys of the first n bindings stand from a place on
 abbrev pub KeysAt : List ℕ → List ℕ → ℕ → ℕ → List ℕ → Type 0
 KeysAt s l n from known = (k : ℕ) → k < n → get_or known (from + k) 0 ≡ key_of (bytes_of s (binding_in l k).prefix)
+
+-- the keys of the open bindings stand first, those of the tag's own behind them
+pub record Keyed (s : List ℕ) (d : InScope) : Type 0 where
+  pub bound : d.bound ≤ 64
+  pub owned : d.owned ≤ 16
+  pub outer : KeysAt s d.outer.now d.bound 0 d.known.now
+  pub own : KeysAt s d.own.now d.owned d.bound d.known.now
 
 -- what was found is one of so many own declarations, or of so many that are open
 abbrev pub Within : ℕ → ℕ → Found → Type 0

@@ -1,5 +1,5 @@
 -- The open elements and their bindings in arrays of numbers. Definitions.
-use Rattle.std.specs.Prelude.{ℕ, zero, suc, ◌+◌, ◌*◌, ◌-◌, List, [], ◌∷◌, cond, get_or, take, replicate, eqb, leb, ltb}
+use Rattle.std.specs.Prelude.{ℕ, zero, suc, ◌+◌, ◌*◌, ◌-◌, List, [], ◌∷◌, cond, get_or, take, replicate, eqb, leb, ltb, Result, Ok, Err}
 use Rattle.laws.specs.Lists.{tabulate}
 use Rattle.laws.specs.Over.{overwrite}
 use Rattle.reader.specs.Spans.{span}
@@ -7,7 +7,8 @@ use Rattle.reader.specs.Stored.{at_most, narrowed, binding_in}
 use Rattle.reader.specs.Events.{Open}
 use Rattle.reader.specs.declared.Span.{Span}
 use Rattle.reader.specs.declared.Scope.{Scope}
-use Rattle.reader.specs.declared.Opened.{Opened}
+use Rattle.reader.specs.declared.ScopeError.{ScopeError}
+use Rattle.reader.specs.declared.ScopeError.TheVariants.{Depth, Bindings}
 
 -- "nothing open"
 abbrev pub fresh_scope : Scope
@@ -17,8 +18,9 @@ fresh_scope = record { depth = 0; bound = 0; levels = replicate 192 0; bindings 
 abbrev pub level_numbers : Span → ℕ → List ℕ
 level_numbers name count = narrowed name.at ∷ narrowed name.len ∷ count ∷ []
 
-abbrev pub opened_to : ℕ → Scope → Opened
-opened_to number sc = record { number = number; scope = sc }
+abbrev pub scope_number : ScopeError → ℕ
+scope_number Depth = 21
+scope_number Bindings = 22
 
 -- the scope with an element more, which declares the first owned bindings of own
 abbrev pub with_level : Scope → Span → List ℕ → ℕ → Scope
@@ -30,11 +32,11 @@ with_level sc name own owned =
       bindings = overwrite sc.bindings (4 * sc.bound) (take (4 * owned) own);
     }
 
--- an element opened in a scope that has room, else the scope as it was, with 21 or 22. A tag has at most 16 declarations
-unfoldable pub opened_of : Scope → Span → List ℕ → ℕ → Opened
+-- an element opened in a scope that has room, else 21 or 22. A tag has at most 16 declarations
+unfoldable pub opened_of : Scope → Span → List ℕ → ℕ → Result Scope ScopeError
 opened_of sc name own owned =
-    cond (leb 64 sc.depth) (opened_to 21 sc)
-    (cond (ltb 64 (sc.bound + at_most 16 owned)) (opened_to 22 sc) (opened_to 0 (with_level sc name own (at_most 16 owned))))
+    cond (leb 64 sc.depth) (Err Depth)
+    (cond (ltb 64 (sc.bound + at_most 16 owned)) (Err Bindings) (Ok (with_level sc name own (at_most 16 owned))))
 
 -- how many bindings the innermost level has
 abbrev pub count_in : Scope → ℕ → ℕ

@@ -1,6 +1,6 @@
 -- Bindings and namespaces in arrays of numbers, as the code holds them, and what it finds there. Definitions; what they mean is said by
 -- the laws of proofs/Agree.antt, in the terms of Namespaces.antt.
-use Rattle.std.specs.Prelude.{ℕ, zero, suc, ◌+◌, ◌*◌, ◌-◌, ◌%◌, ◌^◌, List, [], ◌∷◌, ◌++◌, Bool, true, false, cond, not, ◌&&◌, ◌||◌, length, get_or, drop, eqb, leb, ltb}
+use Rattle.std.specs.Prelude.{ℕ, zero, suc, ◌+◌, ◌*◌, ◌-◌, ◌%◌, ◌^◌, List, [], ◌∷◌, ◌++◌, Bool, true, false, cond, not, ◌&&◌, ◌||◌, length, get_or, drop, eqb, leb, ltb, Option, Some, None, Result, Ok, Err}
 use Rattle.laws.specs.Lists.{same_list, any, any_pair, tabulate}
 use Rattle.laws.specs.Gather.{gather}
 use Rattle.lexer.specs.declared.Name.{Name}
@@ -13,10 +13,9 @@ use Rattle.reader.specs.declared.Kind.{Kind}
 use Rattle.reader.specs.declared.Kind.TheVariants.{Plain, Prefixed, Default, Declares}
 use Rattle.reader.specs.declared.Found.{Found}
 use Rattle.reader.specs.declared.Found.TheVariants as found
-use Rattle.reader.specs.declared.Declared.{Declared}
-use Rattle.reader.specs.declared.Declared.TheVariants as declares
-use Rattle.reader.specs.declared.Meant.{Meant}
-use Rattle.reader.specs.declared.Meant.TheVariants as meant
+use Rattle.reader.specs.declared.Element.{Element}
+use Rattle.reader.specs.declared.NamespaceError.{NamespaceError}
+use Rattle.reader.specs.declared.NamespaceError.TheVariants.{BadPrefix, Duplicate}
 
 -- at most so many
 abbrev pub at_most : ℕ → ℕ → ℕ
@@ -46,8 +45,13 @@ fitting s [] = []
 fitting s (b ∷ bs) = cond (refused_binding s b) [] (b ∷ fitting s bs)
 
 -- what declaring gives, and the array of the tag's own declarations behind it
-abbrev pub declared_of : List ℕ → List Binding → Declared
-declared_of s ds = cond (any (refused_binding s) ds) declares.Refused (declares.Own (length ds))
+abbrev pub declared_of : List ℕ → List Binding → Result ℕ NamespaceError
+declared_of s ds = cond (any (refused_binding s) ds) (Err BadPrefix) (Ok (length ds))
+
+-- the place, from 0, of one that is counted from 1; none for 0
+abbrev pub counted_from_1 : ℕ → Option ℕ
+counted_from_1 zero = None
+counted_from_1 (suc k) = Some k
 
 -- the last of the first so many bindings with this prefix, counted from 1; 0 where there is none
 unfoldable pub look_from : List ℕ → List ℕ → ℕ → List ℕ → ℕ
@@ -156,14 +160,17 @@ is_unbound (found.Own k) = false
 is_unbound (found.Open k) = false
 is_unbound found.Unbound = true
 
+abbrev pub element_with : Found → ℕ → Element
+element_with f owned = record { found = f; owned = owned }
+
 -- 5 and 6 of a tag whose declarations fit: "unbound prefix; xmlns as an element's prefix"; then "two attributes of one name .."
-unfoldable pub meant_of : List ℕ → List ℕ → ℕ → List ℕ → ℕ → Name → List Attr → Meant
+unfoldable pub meant_of : List ℕ → List ℕ → ℕ → List ℕ → ℕ → Name → List Attr → Result Element NamespaceError
 meant_of s own owned open' bound n attrs =
     let f = found_element s own owned open' bound n in
     let codes = codes_of s own owned open' bound attrs in
-    cond (is_unbound f) meant.Undeclared
-    (cond (ltb (length codes) (length attrs)) meant.Undeclared
-    (cond (twice_in s own open' attrs codes) meant.Twice (meant.Element f owned)))
+    cond (is_unbound f) (Err BadPrefix)
+    (cond (ltb (length codes) (length attrs)) (Err BadPrefix)
+    (cond (twice_in s own open' attrs codes) (Err Duplicate) (Ok (element_with f owned))))
 
 -- the array of the attributes' codes behind it
 unfoldable pub codes_after : List ℕ → List ℕ → ℕ → List ℕ → ℕ → Name → List Attr → List ℕ → List ℕ
@@ -171,7 +178,7 @@ codes_after s own owned open' bound n attrs codes =
     cond (is_unbound (found_element s own owned open' bound n)) codes (laid_numbers (codes_of s own owned open' bound attrs) codes)
 
 -- Document 01's numbers of what a tag means: 0 where it means an element
-abbrev pub meant_number : Meant → ℕ
-meant_number (meant.Element f owned) = 0
-meant_number meant.Undeclared = 5
-meant_number meant.Twice = 6
+abbrev pub meant_number : Result Element NamespaceError → ℕ
+meant_number (Ok e) = 0
+meant_number (Err BadPrefix) = 5
+meant_number (Err Duplicate) = 6

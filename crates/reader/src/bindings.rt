@@ -3,33 +3,37 @@ ghost use Rattle.std.specs.Prelude.{◌≡◌, ◌+◌, ◌≤◌, length, get_o
 ghost use Rattle.laws.specs.Lists.{same_list};
 ghost use Rattle.laws.specs.Over.{overwrite};
 ghost use Rattle.reader.specs.Spans.{bytes_of};
-ghost use Rattle.reader.specs.Stored.{at_most, binding_in, look_from, found_of};
-ghost use Rattle.reader.specs.Known.{key_of, keys_in, last_key, KeysAt};
+ghost use Rattle.reader.specs.Stored.{narrowed, binding_in, counted_from_1, look_from, found_open, found_of};
+ghost use Rattle.reader.specs.Known.{key_of, keys_in, last_key, Keyed};
 
 use crate::{Binding, Found, Scope, Span};
 use compare::{part_of, same};
 
-// n, or the most that there can be.
-pub fn at_most(most: usize, n: usize) -> usize
-    ensures { result ≡ at_most most n }
+// A number as 32 bits hold it: `as` is proved to lose nothing.
+pub fn narrow(x: usize) -> u32
+    ensures { result ≡ narrowed x }
 {
-    if n <= most {
-        return n;
-    }
-    most
+    (x % 4294967296) as u32
+}
+
+// What a prefix is looked up among: a tag's own declarations and those that are open, and the keys of their prefixes.
+#[derive(Clone, Copy)]
+pub struct InScope<'a> {
+    pub own: &'a [u32; 4 * Scope::OWN],
+    pub owned: usize,
+    pub outer: &'a [u32; 4 * Scope::BINDINGS],
+    pub bound: usize,
+    pub known: &'a [u64; 2 * Scope::KNOWN],
 }
 
 // The number at a place; 0 past the end.
 fn number_in(l: &[u32], i: usize) -> usize
     ensures { result ≡ get_or l.now i 0 }
 {
-    if i < l.len() {
-        return l[i] as usize;
-    }
-    0
+    l.get(i).copied().unwrap_or(0) as usize
 }
 
-// The k-th binding; of zeros past the end.
+// The k-th binding; of zeros past the end, as the definitions read them.
 pub fn binding_in(l: &[u32], k: usize) -> Binding
     ensures { result ≡ binding_in l.now k }
 {
@@ -41,15 +45,16 @@ pub fn binding_in(l: &[u32], k: usize) -> Binding
         };
     }
     let at = 4 * k;
-    let prefix = Span {
-        at: number_in(l, at),
-        len: number_in(l, at + 1),
-    };
-    let uri = Span {
-        at: number_in(l, at + 2),
-        len: number_in(l, at + 3),
-    };
-    Binding { prefix, uri }
+    Binding {
+        prefix: Span {
+            at: number_in(l, at),
+            len: number_in(l, at + 1),
+        },
+        uri: Span {
+            at: number_in(l, at + 2),
+            len: number_in(l, at + 3),
+        },
+    }
 }
 
 // Does the k-th binding have this prefix?
@@ -60,52 +65,51 @@ fn is_prefix(s: &[u8], bindings: &[u32], k: usize, prefix: &[u8]) -> bool
     same(part_of(s, b.prefix.at, b.prefix.len), prefix)
 }
 
-// The last of the first `left` bindings with this prefix, counted from 1; 0 where there is none.
-fn look_up(s: &[u8], bindings: &[u32], left: usize, prefix: &[u8]) -> usize
-    ensures { result ≡ look_from s.now bindings.now left prefix.now }
+// The last of the first `left` bindings with this prefix, by a recursion, as the specification has it.
+fn look_up(s: &[u8], bindings: &[u32], left: usize, prefix: &[u8]) -> Option<usize>
+    ensures { result ≡ counted_from_1 (look_from s.now bindings.now left prefix.now) }
 {
     if left == 0 {
-        return 0;
+        None
+    } else if is_prefix(s, bindings, left - 1, prefix) {
+        Some(left - 1)
+    } else {
+        look_up(s, bindings, left - 1, prefix)
     }
-    if is_prefix(s, bindings, left - 1, prefix) {
-        return left;
-    }
-    look_up(s, bindings, left - 1, prefix)
 }
 
 // The declaration in force of a prefix, byte by byte: among the tag's own, then among those round it.
-fn find_spelled(
-    s: &[u8],
-    own: &[u32; 64],
-    owned: usize,
-    outer: &[u32; 256],
-    bound: usize,
-    prefix: &[u8],
-) -> Found
-    ensures { result ≡ found_of s.now own.now owned outer.now bound prefix.now }
+fn find_spelled(s: &[u8], in_scope: InScope, prefix: &[u8]) -> Found
+    ensures { result ≡ found_of s.now in_scope.entry.own.now in_scope.entry.owned in_scope.entry.outer.now in_scope.entry.bound prefix.now }
 {
     if same(prefix, b"xml") {
         return Found::Xml;
     }
-    let mine = look_up(s, own, at_most(16, owned), prefix);
-    if mine != 0 {
-        return Found::Own(mine - 1);
+    let InScope {
+        own,
+        owned,
+        outer,
+        bound,
+        ..
+    } = in_scope;
+    if let Some(k) = look_up(s, own, owned.min(16), prefix) {
+        return Found::Own(k);
     }
-    let other = look_up(s, outer, at_most(64, bound), prefix);
-    if other != 0 {
-        return Found::Open(other - 1);
+    match look_up(s, outer, bound.min(64), prefix) {
+        Some(k) => Found::Open(k),
+        None => undeclared(prefix),
     }
-    if prefix.len() == 0 {
-        return Found::Nothing;
-    }
-    Found::Unbound
 }
 
-// A byte as 64 bits hold it.
-fn wide(b: u8) -> u64
-    ensures { result ≡ b }
+// No declaration is in force of this prefix: the default needs none.
+fn undeclared(prefix: &[u8]) -> Found
+    ensures { result ≡ found_open prefix.now 0 }
 {
-    b as u64
+    if prefix.is_empty() {
+        Found::Nothing
+    } else {
+        Found::Unbound
+    }
 }
 
 // A prefix of at most seven bytes as a number: its bytes and its length; 8 of a longer one, which no such prefix has.
@@ -117,28 +121,13 @@ fn key_of(prefix: &[u8]) -> u64
         return 8;
     }
     let mut key: u64 = 0;
-    let mut i = 0;
-    while i < n {
-        key = 256 * key + wide(prefix[i]);
-        i += 1;
+    for b in prefix {
+        key = 256 * key + u64::from(*b);
     }
     8 * key + (n as u64)
 }
 
-// The keys of the prefixes of n bindings, from a place of the array on.
-pub fn write_keys(s: &[u8], bindings: &[u32], n: usize, from: usize, known: &mut [u64])
-    requires { from + n ≤ length known.old }
-    ensures { known.new ≡ overwrite known.old from (keys_in s.now bindings.now n) }
-{
-    let mut k = 0;
-    while k < n {
-        let b = binding_in(bindings, k);
-        known[from + k] = key_of(part_of(s, b.prefix.at, b.prefix.len));
-        k += 1;
-    }
-}
-
-// The same in the array that is kept beside the bindings.
+// The keys of the prefixes of n bindings, from a place on of the array that is kept beside the bindings.
 pub fn put_keys(
     s: &[u8],
     bindings: &[u32],
@@ -149,52 +138,46 @@ pub fn put_keys(
     requires { from + n ≤ 80 }
     ensures { known.new ≡ overwrite known.old from (keys_in s.now bindings.now n) }
 {
-    let all: &mut [u64] = known;
-    write_keys(s, bindings, n, from, all);
+    for k in 0..n {
+        let prefix = binding_in(bindings, k).prefix;
+        known[from + k] = key_of(part_of(s, prefix.at, prefix.len));
+    }
 }
 
-// The last of the first `left` keys that is this one, counted from 1; 0 where there is none.
-fn last_key(known: &[u64; 2 * Scope::KNOWN], left: usize, key: u64) -> usize
+// The last of the first `left` keys that is this one, by a recursion too.
+fn last_key(known: &[u64; 2 * Scope::KNOWN], left: usize, key: u64) -> Option<usize>
     requires { left ≤ 80 }
-    ensures { result ≡ last_key known.now left key }
+    ensures { result ≡ counted_from_1 (last_key known.now left key) }
 {
     if left == 0 {
-        return 0;
+        None
+    } else if known[left - 1] == key {
+        Some(left - 1)
+    } else {
+        last_key(known, left - 1, key)
     }
-    if known[left - 1] == key {
-        return left;
-    }
-    last_key(known, left - 1, key)
 }
 
 // The declaration in force of a prefix, by its key: those of the open bindings stand first, the tag's own behind them.
-pub fn find(
-    s: &[u8],
-    own: &[u32; 64],
-    owned: usize,
-    outer: &[u32; 256],
-    bound: usize,
-    known: &[u64; 2 * Scope::KNOWN],
-    prefix: &[u8],
-) -> Found
-    requires { (bound ≤ 64) × (owned ≤ 16) × KeysAt s.now outer.now bound 0 known.now × KeysAt s.now own.now owned bound known.now }
-    ensures { result ≡ found_of s.now own.now owned outer.now bound prefix.now }
+pub fn find(s: &[u8], in_scope: InScope, prefix: &[u8]) -> Found
+    requires { Keyed s.now in_scope }
+    ensures { result ≡ found_of s.now in_scope.entry.own.now in_scope.entry.owned in_scope.entry.outer.now in_scope.entry.bound prefix.now }
 {
     if 7 < prefix.len() {
-        return find_spelled(s, own, owned, outer, bound, prefix);
+        return find_spelled(s, in_scope, prefix);
     }
     if same(prefix, b"xml") {
         return Found::Xml;
     }
-    let k = last_key(known, bound + owned, key_of(prefix));
-    if bound < k {
-        return Found::Own(k - bound - 1);
+    let InScope {
+        owned,
+        bound,
+        known,
+        ..
+    } = in_scope;
+    match last_key(known, bound + owned, key_of(prefix)) {
+        Some(k) if k < bound => Found::Open(k),
+        Some(k) => Found::Own(k - bound),
+        None => undeclared(prefix),
     }
-    if k != 0 {
-        return Found::Open(k - 1);
-    }
-    if prefix.len() == 0 {
-        return Found::Nothing;
-    }
-    Found::Unbound
 }

@@ -6,8 +6,8 @@ ghost use Rattle.reader.specs.Events.{colon_end, part_of};
 ghost use Rattle.reader.specs.Scope.{fresh_scope, opened_of, closed_of, name_in};
 ghost use Rattle.reader.specs.Pushed.{pushed_bindings};
 
-use crate::bindings::at_most;
-use crate::{Opened, Scope, Span};
+use crate::bindings::narrow;
+use crate::{Scope, ScopeError, Span};
 use compare::{part_of, same};
 
 // The first owned bindings of own laid behind those that are bound, where there is room for them.
@@ -19,48 +19,35 @@ pub fn push_bindings(
 )
     ensures { bindings.new ≡ pushed_bindings bindings.old bound own.now owned }
 {
-    if Scope::OWN < owned {
+    if Scope::OWN < owned || Scope::BINDINGS - owned < bound {
         return;
     }
-    if Scope::BINDINGS - owned < bound {
-        return;
-    }
-    let all: &mut [u32] = bindings;
-    let new: &[u32] = own;
     let from = 4 * bound;
     let n = 4 * owned;
-    let mut j = 0;
-    while j < n {
-        all[from + j] = new[j];
-        j += 1;
-    }
+    bindings[from..from + n].copy_from_slice(&own[..n]);
 }
 
 // The name of the k-th level.
 pub fn name_in(levels: &[u32; 3 * Scope::DEPTH], k: usize) -> Span
     ensures { result ≡ name_in levels.now k }
 {
-    let all: &[u32] = levels;
     if Scope::DEPTH <= k {
         return Span { at: 0, len: 0 };
     }
-    let at = all[3 * k] as usize;
-    let len = all[3 * k + 1] as usize;
-    Span { at, len }
+    Span {
+        at: levels[3 * k] as usize,
+        len: levels[3 * k + 1] as usize,
+    }
 }
 
 // How many bytes stand up to and with the first colon; 0 where there is none.
 pub fn colon_end(name: &[u8]) -> usize
     ensures { result ≡ colon_end 0 name.now }
 {
-    let mut i = 0;
-    while i < name.len() {
-        if name[i] == b':' {
-            return i + 1;
-        }
-        i += 1;
+    match name.iter().position(|b| *b == b':') {
+        Some(i) => i + 1,
+        None => 0,
     }
-    0
 }
 
 // The part of a name that was read before.
@@ -105,34 +92,30 @@ impl Scope {
     }
 
     // An element more, which declares the first owned bindings of own; or number 21 or 22.
-    pub fn open(mut self, name: Span, own: &[u32; 4 * Scope::OWN], owned: usize) -> Opened
+    pub fn open(
+        mut self,
+        name: Span,
+        own: &[u32; 4 * Scope::OWN],
+        owned: usize,
+    ) -> Result<Scope, ScopeError>
         ensures { result ≡ opened_of self name own.now owned }
     {
         let depth = self.depth;
         let bound = self.bound;
         if Scope::DEPTH <= depth {
-            return Opened {
-                number: 21,
-                scope: self,
-            };
+            return Err(ScopeError::Depth);
         }
-        let count = at_most(Scope::OWN, owned);
+        let count = owned.min(Scope::OWN);
         if Scope::BINDINGS - count < bound {
-            return Opened {
-                number: 22,
-                scope: self,
-            };
+            return Err(ScopeError::Bindings);
         }
         push_bindings(&mut self.bindings, bound, own, count);
-        self.levels[3 * depth] = (name.at % 4294967296) as u32;
-        self.levels[3 * depth + 1] = (name.len % 4294967296) as u32;
+        self.levels[3 * depth] = narrow(name.at);
+        self.levels[3 * depth + 1] = narrow(name.len);
         self.levels[3 * depth + 2] = count as u32;
         self.depth = depth + 1;
         self.bound = bound + count;
-        Opened {
-            number: 0,
-            scope: self,
-        }
+        Ok(self)
     }
 
     // The innermost element closed.
@@ -141,20 +124,13 @@ impl Scope {
     {
         let depth = self.depth;
         let bound = self.bound;
-        if depth == 0 {
-            return self;
-        }
-        if Scope::DEPTH < depth {
+        if depth == 0 || Scope::DEPTH < depth {
             return self;
         }
         let k = depth - 1;
         let count = self.levels[3 * k + 2] as usize;
         self.depth = k;
-        if bound < count {
-            self.bound = 0;
-            return self;
-        }
-        self.bound = bound - count;
+        self.bound = bound.saturating_sub(count);
         self
     }
 }

@@ -2,15 +2,16 @@
 --     row_words              of one row
 --     first_few, unit_few    the first word and what a unit adds to it fit 64 bits
 --     stored, laid_more      one number more behind those that are laid, and some more
---     word_stored            a word's bytes stored one by one
---     words_start, -turn     the loop that lays rows kept as words
+--     row_laid               a row kept as words laid
+--     words_start, -turn     the loop that lays such rows
 --     pair_laid              two of them laid
 --     part_rows              some of what an array holds as words, laid: the bytes of the rows
 --     words_few, -length     the first words of rows; how many words they are
 use mathlib.Core.Path.{◌≡◌, refl, sym, ap, ap₂, ◌∙◌}
-use mathlib.Core.List.{List, [], ◌∷◌, ◌++◌, append-nil, append_assoc}
+use mathlib.Core.List.{List, [], ◌∷◌, ◌++◌, append-nil}
 use Prim.Native.Nat.{ℕ, zero, suc, ◌+◌, ◌*◌, ◌/◌, ◌%◌, ◌^◌, ◌≤◌, ◌<◌}
 use native.Mathlib.Nat.{zero-add, mod-eq_of_lt}
+use native.Mathlib.Numerals.{add-one}
 use native.Mathlib.Omega.{arith}
 use lib.ListN.{length, get_or, set, length-append, get_or-append}
 use lib.Seq.{get_or-append-add}
@@ -18,7 +19,7 @@ use Rattle.laws.specs.Lists.{tabulate}
 use Rattle.laws.specs.Gather.{gather}
 use Rattle.laws.specs.Members.{All}
 use Rattle.laws.specs.Over.{overwrite}
-use Rattle.laws.proofs.Over.{over_none, over_set, over_over, set_over}
+use Rattle.laws.proofs.Over.{over_none, over_set, over_over}
 use Rattle.laws.proofs.Lists.{length_tabulate}
 use Rattle.laws.proofs.Gather.{gather_append}
 use Rattle.reader.proofs.Tabulated.{tabulate_append}
@@ -114,7 +115,7 @@ bytes_length : (w : ℕ) → length (bytes8 w) ≡ 8
 unfolding bytes8
 bytes_length w = refl
 
--- one more number stored behind those that are laid
+-- ---- behind those that are laid: one number stored
 module _ (out : List ℕ) (at : ℕ) where
   pub stored : (x ys : List ℕ) (k v : ℕ) → x ≡ overwrite out at ys → length ys ≡ k → at + k < length out → set x (at + k) v ≡ overwrite out at (ys ++ (v ∷ []))
   stored x ys k v e l h =
@@ -129,25 +130,6 @@ module _ (out : List ℕ) (at : ℕ) where
       ∙ ap (λ (o : List ℕ). overwrite o k zs) e
       ∙ ap (λ (i : ℕ). overwrite (overwrite out at ys) i zs) l
       ∙ over_over out at ys zs h
-
-  stores : (a b c d e f g h : ℕ) → at + 8 ≤ length out
-      → set (set (set (set (set (set (set (set out at a) (at + 1) b) (at + 2) c) (at + 3) d) (at + 4) e) (at + 5) f) (at + 6) g) (at + 7) h
-      ≡ overwrite out at (a ∷ b ∷ c ∷ d ∷ e ∷ f ∷ g ∷ h ∷ [])
-  stores a b c d e f g h s =
-      let s1 = set_over out at a (omega arith) in
-      let s2 = stored _ (a ∷ []) 1 b s1 refl (omega arith) in
-      let s3 = stored _ (a ∷ b ∷ []) 2 c s2 refl (omega arith) in
-      let s4 = stored _ (a ∷ b ∷ c ∷ []) 3 d s3 refl (omega arith) in
-      let s5 = stored _ (a ∷ b ∷ c ∷ d ∷ []) 4 e s4 refl (omega arith) in
-      let s6 = stored _ (a ∷ b ∷ c ∷ d ∷ e ∷ []) 5 f s5 refl (omega arith) in
-      let s7 = stored _ (a ∷ b ∷ c ∷ d ∷ e ∷ f ∷ []) 6 g s6 refl (omega arith) in
-      stored _ (a ∷ b ∷ c ∷ d ∷ e ∷ f ∷ g ∷ []) 7 h s7 refl (omega arith)
-
-pub word_stored : (out : List ℕ) (at w : ℕ) → at + 8 ≤ length out
-    → set (set (set (set (set (set (set (set out at (w / 72057594037927936 % 256)) (at + 1) (w / 281474976710656 % 256)) (at + 2) (w / 1099511627776 % 256)) (at + 3) (w / 4294967296 % 256)) (at + 4) (w / 16777216 % 256)) (at + 5) (w / 65536 % 256)) (at + 6) (w / 256 % 256)) (at + 7) (w % 256)
-    ≡ overwrite out at (bytes8 w)
-unfolding bytes8
-word_stored out at w h = stores out at (w / 72057594037927936 % 256) (w / 281474976710656 % 256) (w / 1099511627776 % 256) (w / 4294967296 % 256) (w / 16777216 % 256) (w / 65536 % 256) (w / 256 % 256) (w % 256) h
 
 -- ---- rows kept as words
 module _ (words : List ℕ) (unit : ℕ) where
@@ -178,45 +160,29 @@ module _ (words : List ℕ) (unit : ℕ) where
     unfolding tabulate gather
     words_start = sym (over_none out at)
 
-    -- a turn: two words
-    pub words_turn : (x y z : List ℕ) (j used : ℕ) → at ≤ length out → x ≡ overwrite out at (words_rows j) → used ≡ at + 16 * j
-        → y ≡ overwrite x used (bytes8 (get_or words (2 * j) 0 + unit)) → z ≡ overwrite y (used + 8) (bytes8 (get_or words (2 * j + 1) 0))
-        → z ≡ overwrite out at (words_rows (j + 1))
-    unfolding words_row
-    words_turn x y z j used h e u f g =
-        let a : List ℕ = bytes8 (get_or words (2 * j) 0 + unit) in
-        let b : List ℕ = bytes8 (get_or words (2 * j + 1) 0) in
-        let l : length (words_rows j) ≡ 16 * j = rows_length (tabulate (λ (i : ℕ). i) 0 j) ∙ ap (λ (n : ℕ). 16 * n) (length_tabulate (λ (i : ℕ). i) 0 j) in
-        laid_more out at y z (words_rows j ++ a) b (used + 8) h
-        (laid_more out at x y (words_rows j) a used h e (omega arith) f)
-        (omega (arith, length-append (words_rows j) a, bytes_length (get_or words (2 * j) 0 + unit)))
-        g
-        ∙ ap (overwrite out at) (append_assoc (words_rows j) a b ∙ sym (rows_next j))
-
-    -- two rows: four words
-    pub pair_laid : (x y z v : List ℕ) (j : ℕ) → at ≤ length out
+    -- two words are a row
+    pub row_laid : (x y : List ℕ) (j : ℕ) → at ≤ length out
         → x ≡ overwrite out at (bytes8 (get_or words (2 * j) 0 + unit)) → y ≡ overwrite x (at + 8) (bytes8 (get_or words (2 * j + 1) 0))
-        → z ≡ overwrite y (at + 16) (bytes8 (get_or words (2 * j + 2) 0 + unit)) → v ≡ overwrite z (at + 24) (bytes8 (get_or words (2 * j + 3) 0))
-        → v ≡ overwrite out at (gather (words_row words unit) (tabulate (λ (i : ℕ). i) j 2))
-    unfolding tabulate gather words_row
-    pair_laid x y z v j h e f g k =
+        → y ≡ overwrite out at (words_row words unit j)
+    unfolding words_row
+    row_laid x y j h e f =
         let a : List ℕ = bytes8 (get_or words (2 * j) 0 + unit) in
-        let b : List ℕ = bytes8 (get_or words (2 * j + 1) 0) in
-        let c : List ℕ = bytes8 (get_or words (2 * j + 2) 0 + unit) in
-        let d : List ℕ = bytes8 (get_or words (2 * j + 3) 0) in
-        let la : length a ≡ 8 = bytes_length (get_or words (2 * j) 0 + unit) in
-        let lb : length b ≡ 8 = bytes_length (get_or words (2 * j + 1) 0) in
-        let lc : length c ≡ 8 = bytes_length (get_or words (2 * j + 2) 0 + unit) in
-        let r1 = laid_more out at x y a b (at + 8) h e (omega (arith, la)) f in
-        let r2 = laid_more out at y z (a ++ b) c (at + 16) h r1 (omega (arith, la, lb, length-append a b)) g in
-        let r3 = laid_more out at z v ((a ++ b) ++ c) d (at + 24) h r2 (omega (arith, la, lb, lc, length-append a b, length-append (a ++ b) c)) k in
-        let p : 2 * j + 2 ≡ 2 * suc j = omega arith in
-        let q : 2 * j + 3 ≡ 2 * suc j + 1 = omega arith in
-        r3
-        ∙ ap (overwrite out at)
-        (append_assoc (a ++ b) c d
-        ∙ ap₂ (λ (s t : ℕ). (a ++ b) ++ (bytes8 (get_or words s 0 + unit) ++ bytes8 (get_or words t 0))) p q
-        ∙ ap (λ (l : List ℕ). (a ++ b) ++ l) (sym (append-nil (bytes8 (get_or words (2 * suc j) 0 + unit) ++ bytes8 (get_or words (2 * suc j + 1) 0)))))
+        laid_more out at x y a (bytes8 (get_or words (2 * j + 1) 0)) (at + 8) h e (omega (arith, bytes_length (get_or words (2 * j) 0 + unit))) f
+
+    -- a turn: one row more
+    pub words_turn : (x y : List ℕ) (j : ℕ) → at ≤ length out → x ≡ overwrite out at (words_rows j) → y ≡ overwrite x (at + 16 * j) (words_row words unit j)
+        → y ≡ overwrite out at (words_rows (j + 1))
+    words_turn x y j h e f =
+        let l : length (words_rows j) ≡ 16 * j = rows_length (tabulate (λ (i : ℕ). i) 0 j) ∙ ap (λ (n : ℕ). 16 * n) (length_tabulate (λ (i : ℕ). i) 0 j) in
+        laid_more out at x y (words_rows j) (words_row words unit j) (at + 16 * j) h e (omega arith) f ∙ ap (overwrite out at) (sym (rows_next j))
+
+    pub pair_laid : (x y : List ℕ) (j : ℕ) → at ≤ length out → x ≡ overwrite out at (words_row words unit j) → y ≡ overwrite x (at + 16) (words_row words unit (j + 1))
+        → y ≡ overwrite out at (gather (words_row words unit) (tabulate (λ (i : ℕ). i) j 2))
+    unfolding tabulate gather
+    pair_laid x y j h e f =
+        let a : List ℕ = words_row words unit j in
+        laid_more out at x y a (words_row words unit (j + 1)) (at + 16) h e (omega (arith, row_length j)) f
+        ∙ ap (λ (r : List ℕ). overwrite out at (a ++ r)) (ap (words_row words unit) (add-one j) ∙ sym (append-nil (words_row words unit (suc j))))
 
 -- ---- rows that an array holds as words
 -- two to each

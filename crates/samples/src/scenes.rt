@@ -3,33 +3,39 @@ ghost use Rattle.std.specs.Prelude.{◌≤◌, length};
 ghost use Rattle.std.specs.Counts.{IsPrefixLen};
 
 // A part from a place on, and the place behind it; what the buffer has no room for is left out.
-pub fn put(scene: &mut [u8], at: usize, part: &[u8]) -> usize
+fn put(scene: &mut [u8], at: usize, part: &[u8]) -> usize
+    requires { at ≤ length scene.old }
+    ensures { IsPrefixLen result scene.new }
+{
+    let n = part.len().min(scene.len() - at);
+    scene[at..at + n].copy_from_slice(&part[..n]);
+    at + n
+}
+
+// The same part so many times.
+fn repeat(scene: &mut [u8], at: usize, part: &[u8], times: usize) -> usize
     requires { at ≤ length scene.old }
     ensures { IsPrefixLen result scene.new }
 {
     let mut to = at;
-    let mut k = 0;
-    while k < part.len() {
-        if to == scene.len() {
-            return to;
-        }
-        scene[to] = part[k];
-        to += 1;
-        k += 1;
+    for _ in 0..times {
+        to = put(scene, to, part);
     }
     to
 }
 
-// The same part so many times.
-pub fn repeat(scene: &mut [u8], at: usize, part: &[u8], times: usize) -> usize
-    requires { at ≤ length scene.old }
-    ensures { IsPrefixLen result scene.new }
-{
-    let mut to = at;
-    let mut k = 0;
-    while k < times {
-        to = put(scene, to, part);
-        k += 1;
-    }
-    to
+// A root of u round the tags that open and close so many elements, each inside the one before, with a part innermost.
+pub fn nested<'a>(
+    scene: &'a mut [u8],
+    times: usize,
+    open: &[u8],
+    innermost: &[u8],
+    close: &[u8],
+) -> &'a [u8] {
+    let mut n = put(scene, 0, b"<r xmlns=\"u\">");
+    n = repeat(scene, n, open, times);
+    n = put(scene, n, innermost);
+    n = repeat(scene, n, close, times);
+    n = put(scene, n, b"</r>");
+    &scene[..n]
 }

@@ -180,8 +180,8 @@ module _ (t : Table) (s : List ℕ) (h : Head) (levels bindings spaces strands :
 
   -- ---- the ways out
   module _ (a : Bool) (ea : a ≡ head_fits (length s) h) where
-    pub session_head : not a ≡ true → false ≡ coherent t s z
-    session_head = chain_out a _ _ (coherent t s z) ea whole
+    pub session_head : a ≡ false → a ≡ coherent t s z
+    session_head f = f ∙ chain_out a _ _ (coherent t s z) ea whole (ap not f)
 
-    pub session_arrays : not a ≡ false → (r : Bool) → r ≡ arrays_fit t s h.units h.depth h.bound levels bindings spaces strands → r ≡ coherent t s z
-    session_arrays f r e = e ∙ chain_on a _ _ (coherent t s z) ea whole f
+    pub session_arrays : a ≡ true → (r : Bool) → r ≡ arrays_fit t s h.units h.depth h.bound levels bindings spaces strands → r ≡ coherent t s z
+    session_arrays f r e = e ∙ chain_on a _ _ (coherent t s z) ea whole (ap not f)

@@ -7,16 +7,17 @@
 --     text_inside, .., span_small                places inside the scene
 --     closes_past, .., tag_here_lem                  the open name and a > where an end tag's name begins
 --     stopped_planned, .., alike_named           what is planned, by what the code's parts gave
-use Prim.Native.Nat.{ℕ, zero, suc, ◌+◌, ◌*◌, ◌-◌, ◌/◌, ◌%◌, ◌^◌, ◌≤◌, ◌<◌}
+use Prim.Native.Nat.{ℕ, zero, suc, ◌+◌, ◌*◌, ◌-◌, ◌/◌, ◌≤◌, ◌<◌}
 use mathlib.Core.Path.{◌≡◌, refl, sym, ap, ap₂, subst, ◌∙◌}
 use mathlib.Core.Logic.{⊎_elim}
 use mathlib.Core.List.{List, ◌∷◌, map}
 use mathlib.Core.Bool.{Bool, true, false, cond, not, ◌&&◌}
 use native.Mathlib.Omega.{arith}
-use native.Mathlib.Nat.{add-zero, add-sub_cancel_left, mod-eq_of_lt}
+use native.Mathlib.Nat.{add-sub_cancel_left, mod-eq_of_lt}
 use borrow.Author.Tests.{eq-eqb, ne_eqb, lt-ltb, le-ltb, eqb-true, ltb-true, ltb-false}
 use lib.ListN.{length, take, drop, get_or}
 use lib.Dec.{eqb, ltb}
+use Rattle.std.specs.Prelude.{Result, Err, Ok}
 use Rattle.laws.specs.Lists.{tabulate, same_list}
 use Rattle.laws.specs.Tests.{untold, untold'}
 use Rattle.laws.specs.Reading.{le_or_lt}
@@ -33,11 +34,8 @@ use Rattle.lexer.specs.Tags.{end_tag_at}
 use Rattle.lexer.specs.Whole.{is_whole_name}
 use Rattle.lexer.specs.declared.Stop.{Stop}
 use Rattle.lexer.specs.declared.Stop.TheVariants.{Bad, Long, Cut}
-use Rattle.lexer.specs.declared.Read.{Read}
-use Rattle.lexer.specs.declared.Read.TheVariants as read
+use Rattle.lexer.specs.Reads.{Read, Ended}
 use Rattle.lexer.specs.declared.EndTag.{EndTag}
-use Rattle.lexer.specs.declared.Ended.{Ended}
-use Rattle.lexer.specs.declared.Ended.TheVariants as ended
 use Rattle.lexer.proofs.ValueLaws.{ValueTo, value_inside}
 use Rattle.lexer.proofs.Inside.{ReadInside, within_read, EndedInside, end_tag_inside}
 use Rattle.lexer.proofs.WholeNames.{name_here, end_tag_here}
@@ -60,15 +58,15 @@ use Rattle.records.specs.Rows.{laid, laid_rows, body_of}
 use Rattle.records.specs.declared.Row.{Row}
 use Rattle.records.proofs.Laid.{rows_end}
 use Rattle.strands.specs.Packed.{words_at}
-use Rattle.strands.specs.Writing.{row_for, row_of, event_records, event_count}
+use Rattle.strands.specs.Writing.{row_of, event_records, event_count}
 use Rattle.strands.proofs.Delivered.{events_length, events_most, texts_records, ends_records, rows_bytes, rows_length}
 use Rattle.sessions.specs.Sessions.{class_in, uri_in, strand_count, strands_in, level_in, levels_in, session_of, reader_of, state_of, with_end}
 use Rattle.sessions.specs.Stepping.{Plan, event, refused, plan_by, plan_of, Step, answered, refused_step, event_step}
-use Rattle.sessions.specs.Turns.{closes_at, stop_turn, step_by, closed_head, end_row, PlannedAs}
+use Rattle.sessions.specs.Turns.{refusal_of, closes_at, stop_turn, step_by, closed_head, end_row, PlannedAs}
 use Rattle.sessions.specs.Session.{Session}
 use Rattle.sessions.specs.declared.Head.{Head}
 use Rattle.sessions.specs.declared.Planned.{Planned}
-use Rattle.sessions.specs.declared.Planned.TheVariants as planned
+use Rattle.sessions.specs.declared.Refusal.{Refusal}
 
 -- ---- what the innermost level writes
 module _ (t : Table) (s : List ℕ) (z : Session) (h : 1 ≤ z.scope.depth) where
@@ -145,20 +143,6 @@ end_body part spaces level c a l =
       mod-eq_of_lt {n = part.len} {m = 4294967296} l,
     )
 
--- and by the numbers that were read of the level
-pub end_row_is : (part : Span) (spaces : List ℕ) (level class at len uri_at uri_len : ℕ) → class ≡ get_or spaces (4 * level + 0) 0 → at ≡ part.at % 2 ^ 32 → len ≡ part.len % 2 ^ 32
-    → uri_at ≡ get_or spaces (4 * level + 1) 0 → uri_len ≡ get_or spaces (4 * level + 2) 0
-    → ◌≡◌ {A = Row} (record { unit = 0; kind = 5; class = class % 256; at = at; len = len; uri_at = uri_at; uri_len = uri_len }) (end_row part spaces level)
-end_row_is part spaces level class at len uri_at uri_len c a l u v =
-    rw (c ∙ ap (λ (i : ℕ). get_or spaces i 0) (add-zero (4 * level)), a, l, u, v)
-
--- of a text
-pub text_row_is : (at end' : ℕ) → at < 4294967296 → end' < 4294967296 → (x y : ℕ) → x ≡ at % 2 ^ 32 → y ≡ (end' - at) % 2 ^ 32
-    → ◌≡◌ {A = Row} (record { unit = 0; kind = 4; class = 0; at = x; len = y; uri_at = 0; uri_len = 0 }) (row_for 0 (text_body (between at end')))
-text_row_is at end' a b x y p q =
-    let m : end' - at < 4294967296 = omega arith in
-    rw (p ∙ mod-eq_of_lt {n = at} {m = 4294967296} a, q ∙ mod-eq_of_lt {n = end' - at} {m = 4294967296} m)
-
 -- ---- a refusal, and the numbers behind an end
 pub stop_step : (n p : ℕ) (head : Head) (levels bindings spaces strands out : List ℕ) → (n ≡ 0 → ⊥)
     → step_by (stop_turn n p head) levels bindings spaces strands out ≡ refused_step n p (session_of head levels bindings spaces strands) out
@@ -211,24 +195,24 @@ module _ (t : Table) (s : List ℕ) (z : Session) (h : 1 ≤ z.scope.depth) wher
       ap₂ (λ (b : Bool) (os : List Open). plan_by t s z (next_by s (reader_of z) b os)) a (opens_inner z.scope h)
       ∙ ap (λ (b : Bool). event (inner_name.at - 1) (written (dispatch t) (state_of t s z) (end (part_of s inner_name))) (with_end z z.place b)) (rest_nil z.scope h)
 
-  pub stopped_plan : (at : ℕ) (x : Stop) → plan_by t s z (end_read s at (opens_of z.scope) (ended.Stopped x)) ≡ refused (number_of x) (stop_place s x)
-  stopped_plan at x = ap (λ (os : List Open). plan_by t s z (end_read s at os (ended.Stopped x))) (opens_inner z.scope h)
+  pub stopped_plan : (at : ℕ) (x : Stop) → plan_by t s z (end_read s at (opens_of z.scope) (Err x)) ≡ refused (number_of x) (stop_place s x)
+  stopped_plan at x = ap (λ (os : List Open). plan_by t s z (end_read s at os (Err x))) (opens_inner z.scope h)
 
   module _ (at : ℕ) (tag : EndTag) where
-    pub unlike_plan : same_list (bytes_of s (whole_span tag.name)) (bytes_of s inner_name) ≡ false → plan_by t s z (end_read s at (opens_of z.scope) (ended.Got tag)) ≡ refused 4 at
-    unlike_plan e = ap (λ (os : List Open). plan_by t s z (end_read s at os (ended.Got tag))) (opens_inner z.scope h) ∙ rw e
+    pub unlike_plan : same_list (bytes_of s (whole_span tag.name)) (bytes_of s inner_name) ≡ false → plan_by t s z (end_read s at (opens_of z.scope) (Ok tag)) ≡ refused 4 at
+    unlike_plan e = ap (λ (os : List Open). plan_by t s z (end_read s at os (Ok tag))) (opens_inner z.scope h) ∙ rw e
 
     pub end_plan_lem : same_list (bytes_of s (whole_span tag.name)) (bytes_of s inner_name) ≡ true
-        → plan_by t s z (end_read s at (opens_of z.scope) (ended.Got tag)) ≡ end_plan (part_span tag.name) at tag.next
+        → plan_by t s z (end_read s at (opens_of z.scope) (Ok tag)) ≡ end_plan (part_span tag.name) at tag.next
     end_plan_lem e =
-        ap (λ (os : List Open). plan_by t s z (end_read s at os (ended.Got tag))) (opens_inner z.scope h)
+        ap (λ (os : List Open). plan_by t s z (end_read s at os (Ok tag))) (opens_inner z.scope h)
         ∙ rw (e, rest_nil z.scope h)
 
 -- ---- places inside the scene
-pub text_inside : (s : List ℕ) (at j : ℕ) (r : Read) → r ≡ text_end s at → r ≡ read.End j → j ≤ length s
+pub text_inside : (s : List ℕ) (at j : ℕ) (r : Read) → r ≡ text_end s at → r ≡ Ok j → j ≤ length s
 text_inside s at j r p q = let i : ValueTo s 0x3C at j = subst (ReadInside (ValueTo s 0x3C at) s at) (sym p ∙ q) (within_read (ValueTo s 0x3C at) s at (text_end s at) (value_inside s at 0x3C)) in omega arith
 
-pub tag_inside : (s : List ℕ) (at : ℕ) (tag : EndTag) (r : Ended) → r ≡ end_tag_at s at → r ≡ ended.Got tag → (tag.name.end ≤ length s) × (tag.name.part ≤ length s)
+pub tag_inside : (s : List ℕ) (at : ℕ) (tag : EndTag) (r : Ended) → r ≡ end_tag_at s at → r ≡ Ok tag → (tag.name.end ≤ length s) × (tag.name.part ≤ length s)
 tag_inside s at tag r p q =
     let i = subst (EndedInside s at) (sym p ∙ q) (end_tag_inside s at) in
     let n = i.name in
@@ -291,7 +275,7 @@ module _ (s : List ℕ) (at : ℕ) (name : Span) where
       unfolding tag_here
       next_here = refl
 
-      pub tag_here_lem : end_tag_at s at ≡ ended.Got tag_here
+      pub tag_here_lem : end_tag_at s at ≡ Ok tag_here
       unfolding tag_here
       tag_here_lem = end_tag_here s at name.len closes_inside whole_here closes_byte
 
@@ -310,19 +294,19 @@ stop_nonzero (Bad p) e = omega arith
 stop_nonzero (Long p) e = omega arith
 stop_nonzero Cut e = omega arith
 
-module _ (table index s : List ℕ) (z : Session) (own words schemas attributes : List ℕ) (r : Planned) where
-  abbrev As : Planned → Plan → Type 0
+module _ (table index s : List ℕ) (z : Session) (own words schemas attributes : List ℕ) where
+  abbrev As : Result Planned Refusal → Plan → Type 0
   As = PlannedAs table index s z own words schemas attributes
 
-  pub stopped_planned : (p : Plan) (x : Stop) → r ≡ planned.Refused (number_of x) (stop_place s x) → p ≡ refused (number_of x) (stop_place s x) → As r p
-  stopped_planned p x e q = subst (λ (y : Planned). As y p) (sym e) (q, stop_nonzero x)
+  pub stopped_planned : (r : Refusal) (p : Plan) (x : Stop) → r ≡ refusal_of s x → p ≡ refused (number_of x) (stop_place s x) → As (Err r) p
+  stopped_planned r p x e q = subst (λ (y : Refusal). As (Err y) p) (sym e) (q, stop_nonzero x)
 
-  pub text_planned : (at : ℕ) (v m : Read) → v ≡ text_end s at → v ≡ m → As r (plan_by (decode table) s z (text_read s (reader_of z) at m)) → As r (plan_by (decode table) s z (text_read s (reader_of z) at (text_end s at)))
-  text_planned at v m p q = subst (λ (x : Read). As r (plan_by (decode table) s z (text_read s (reader_of z) at x))) (sym q ∙ p)
+  pub text_planned : (r : Result Planned Refusal) (at : ℕ) (v m : Read) → v ≡ text_end s at → v ≡ m → As r (plan_by (decode table) s z (text_read s (reader_of z) at m)) → As r (plan_by (decode table) s z (text_read s (reader_of z) at (text_end s at)))
+  text_planned r at v m p q = subst (λ (x : Read). As r (plan_by (decode table) s z (text_read s (reader_of z) at x))) (sym q ∙ p)
 
-  pub end_planned : (at : ℕ) (v m : Ended) → v ≡ end_tag_at s (at + 2) → v ≡ m → As r (plan_by (decode table) s z (end_read s at (opens_of z.scope) m))
+  pub end_planned : (r : Result Planned Refusal) (at : ℕ) (v m : Ended) → v ≡ end_tag_at s (at + 2) → v ≡ m → As r (plan_by (decode table) s z (end_read s at (opens_of z.scope) m))
       → As r (plan_by (decode table) s z (end_read s at (opens_of z.scope) (end_tag_at s (at + 2))))
-  end_planned at v m p q = subst (λ (x : Ended). As r (plan_by (decode table) s z (end_read s at (opens_of z.scope) x))) (sym q ∙ p)
+  end_planned r at v m p q = subst (λ (x : Ended). As r (plan_by (decode table) s z (end_read s at (opens_of z.scope) x))) (sym q ∙ p)
 
 module _ (t : Table) (s : List ℕ) (z : Session) (h : 1 ≤ z.scope.depth) where
   -- the end of a />
@@ -350,11 +334,11 @@ module _ (t : Table) (s : List ℕ) (z : Session) (h : 1 ≤ z.scope.depth) wher
     same_is = q ∙ ap₂ (λ (v x : Span). same_list (bytes_of s v) (bytes_of s x)) w n
 
     -- an end tag that was read
-    pub unlike_named : not same ≡ true → plan_by t s z (end_read s at (opens_of z.scope) (ended.Got tag)) ≡ refused 4 at
+    pub unlike_named : not same ≡ true → plan_by t s z (end_read s at (opens_of z.scope) (Ok tag)) ≡ refused 4 at
     unlike_named u = unlike_plan t s z h at tag (untold same (same_list (bytes_of s (whole_span tag.name)) (bytes_of s (name_in z.scope.levels (z.scope.depth - 1)))) same_is u)
 
     pub alike_named : not same ≡ false → (part : Span) → part ≡ part_span tag.name
-        → plan_by t s z (end_read s at (opens_of z.scope) (ended.Got tag)) ≡ event at (written (dispatch t) (state_of t s z) (end part)) (with_end z tag.next (eqb z.scope.depth 1))
+        → plan_by t s z (end_read s at (opens_of z.scope) (Ok tag)) ≡ event at (written (dispatch t) (state_of t s z) (end part)) (with_end z tag.next (eqb z.scope.depth 1))
     alike_named u part p =
         end_plan_lem t s z h at tag (untold' same (same_list (bytes_of s (whole_span tag.name)) (bytes_of s (name_in z.scope.levels (z.scope.depth - 1)))) same_is u)
         ∙ sym (ap (λ (v : Span). end_plan t s z h v at tag.next) p)

@@ -1,6 +1,7 @@
 -- The reader's state behind an event, by what the event is; a start's name ends in its part, and a tag declares at most 16 and has at most 16 attributes.
 --     followed      of the event that is next
 --     event_few     a scene's starts have at most 16 attributes
+use Rattle.std.specs.Prelude.{Ok, Err}
 use Prim.Native.Nat.{ℕ, ◌+◌, ◌≤◌, ◌<◌}
 use mathlib.Core.Path.{◌≡◌, refl, ap, subst}
 use mathlib.Core.List.{List, [], ◌∷◌, ◌++◌, tail}
@@ -13,15 +14,9 @@ use Rattle.laws.proofs.Holds.{holds_cond}
 use Rattle.lexer.specs.Values.{text_end}
 use Rattle.lexer.specs.Tags.{TagRead, tag_at, end_tag_at}
 use Rattle.lexer.specs.Begins.{begin_at}
-use Rattle.lexer.specs.declared.Read.{Read}
-use Rattle.lexer.specs.declared.Read.TheVariants as read
+use Rattle.lexer.specs.Reads.{Read, Tagged, Ended, BeginRead}
 use Rattle.lexer.specs.declared.Name.{Name}
 use Rattle.lexer.specs.declared.Attr.{Attr}
-use Rattle.lexer.specs.declared.Tagged.{Tagged}
-use Rattle.lexer.specs.declared.Tagged.TheVariants as tagged
-use Rattle.lexer.specs.declared.Ended.{Ended}
-use Rattle.lexer.specs.declared.Ended.TheVariants as ended
-use Rattle.lexer.specs.declared.Begin.{Begin}
 use Rattle.lexer.specs.declared.Begin.TheVariants as begin
 use Rattle.lexer.proofs.Inside.{TagInside, TaggedInside, TagReadInside, tag_inside}
 use Rattle.reader.specs.declared.Binding.{Binding}
@@ -74,20 +69,20 @@ module _ (s : List ℕ) where
 -- ---- by what was read
 module _ (s : List ℕ) (z : ReaderState) where
   text_followed : false ≡ z.awaited → (at : ℕ) (r : Read) → NextFollowed s z (text_read s z at r)
-  text_followed a at (read.Stopped x) = tt
-  text_followed a at (read.End j) = ap (λ (b : Bool). record { place = j; closed = z.closed; awaited = b; opened = z.opened }) a
+  text_followed a at (Err x) = tt
+  text_followed a at (Ok j) = ap (λ (b : Bool). record { place = j; closed = z.closed; awaited = b; opened = z.opened }) a
 
   end_followed : (at : ℕ) (os : List Open) → os ≡ z.opened → (r : Ended) → NextFollowed s z (end_read s at os r)
   end_followed at [] e r = tt
-  end_followed at (o ∷ os) e (ended.Stopped x) = tt
-  end_followed at (o ∷ os) e (ended.Got t) =
+  end_followed at (o ∷ os) e (Err x) = tt
+  end_followed at (o ∷ os) e (Ok t) =
       holds_cond (NextFollowed s z) (same_list (bytes_of s (whole_span t.name)) (bytes_of s o.name))
       (λ q. ap (λ (xs : List Open). record { place = t.next; closed = is_nil os; awaited = false; opened = tail xs }) e)
       (λ q. tt)
 
   start_followed : (at : ℕ) (r : TagRead) → TagReadInside s (at + 1) r → (a : Tagged) → r.answer ≡ a → NextFollowed s z (start_read s at z.opened r a)
-  start_followed at r i (tagged.Stopped x) e = tt
-  start_followed at r i (tagged.Got t) e = by (meaning_of s (bindings_of z.opened) t.name r.attrs) (meaning_few s (bindings_of z.opened) t.name r.attrs)
+  start_followed at r i (Err x) e = tt
+  start_followed at r i (Ok t) e = by (meaning_of s (bindings_of z.opened) t.name r.attrs) (meaning_few s (bindings_of z.opened) t.name r.attrs)
     where
       tag : TagInside s (at + 1) r.attrs t
       tag = subst (TaggedInside s (at + 1) r.attrs) e i.answer
@@ -96,12 +91,12 @@ module _ (s : List ℕ) (z : ReaderState) where
       by (refused n) k = tt
       by (meant n as' own) k = record { own = own; few_own = omega (arith, i.few, k.0); few_attributes = omega (arith, i.few, k.1); part = part_of_lem s (at + 1) t.name tag.name; state = refl }
 
-  begun_followed : false ≡ z.awaited → (b : Begin) → NextFollowed s z (read_at s z b)
-  begun_followed a (begin.Stopped x) = tt
-  begun_followed a begin.Finished = tt
-  begun_followed a (begin.Text at) = text_followed a at (text_end s at)
-  begun_followed a (begin.End at) = end_followed at z.opened refl (end_tag_at s (at + 2))
-  begun_followed a (begin.Start at) = start_followed at (tag_at s (at + 1)) (tag_inside s (at + 1)) (tag_at s (at + 1)).answer refl
+  begun_followed : false ≡ z.awaited → (b : BeginRead) → NextFollowed s z (read_at s z b)
+  begun_followed a (Err x) = tt
+  begun_followed a (Ok begin.Finished) = tt
+  begun_followed a (Ok (begin.Text at)) = text_followed a at (text_end s at)
+  begun_followed a (Ok (begin.End at)) = end_followed at z.opened refl (end_tag_at s (at + 2))
+  begun_followed a (Ok (begin.Start at)) = start_followed at (tag_at s (at + 1)) (tag_inside s (at + 1)) (tag_at s (at + 1)).answer refl
 
   by_followed : (a : Bool) (os : List Open) → a ≡ z.awaited → os ≡ z.opened → (a ≡ true → os ≡ [] → ⊥) → NextFollowed s z (next_by s z a os)
   by_followed true (o ∷ os) p q n = ap (λ (xs : List Open). record { place = z.place; closed = is_nil os; awaited = false; opened = tail xs }) q

@@ -12,14 +12,14 @@ use native.Mathlib.Omega.{arith}
 use borrow.Author.Tests.{eqb-true, ne_eqb, le-leb, lt-leb, leb-true}
 use lib.ListN.{length, get_or}
 use lib.Dec.{leb, eqb}
+use Rattle.std.specs.Prelude.{Some, None}
 use Rattle.laws.specs.Reading.{le_or_lt}
-use Rattle.laws.proofs.Holds.{holds_cond}
 use Rattle.compare.specs.Compare.{span_of}
 use Rattle.table.specs.Table.{header_of, decode}
 use Rattle.table.specs.Judge.{judged, Accepted}
-use Rattle.table.specs.Places.{place_of}
+use Rattle.table.specs.Places.{placed, places_of, place_of}
 use Rattle.table.proofs.Accepted.{header_in, all_listed}
-use Rattle.table.proofs.Namespaces.{span_of_lem, inside_of}
+use Rattle.table.proofs.Namespaces.{span_of_lem, listed_some, unlisted_none}
 use Rattle.reader.specs.Namespaces as scene
 use Rattle.reader.specs.Held.{SpanHeld}
 use Rattle.reader.specs.declared.Span.{Span}
@@ -32,7 +32,7 @@ use Rattle.uris.specs.declared.UriSpan.{UriSpan}
 use Rattle.uris.specs.declared.Source.{Source}
 use Rattle.uris.specs.declared.Source.TheVariants.{Table, Scene}
 use Rattle.sessions.proofs.Spaces.{class_bounds, uri_back}
-use Rattle.uris.proofs.UriSpans.{listed_class, in_scene, nowhere}
+use Rattle.uris.proofs.UriSpans.{inside, listed_class, in_scene, nowhere}
 
 -- ---- inside
 abbrev pub StandsIn : List ℕ → List ℕ → Source → ℕ → ℕ → Type 0
@@ -41,18 +41,11 @@ StandsIn table s Scene at len = at + len ≤ length s
 
 pub uri_inside : (table s : List ℕ) (class at len : ℕ)
     → StandsIn table s (uri_span_of table s class at len).source (uri_span_of table s class at len).at (uri_span_of table s class at len).len
-unfolding uri_span_of
-uri_inside table s class at len =
-    holds_cond In (not (eqb (judged table).number 0)) (λ e. omega arith) (λ e.
-    holds_cond In (leb 1 class && leb class (header_of table).namespaces) (λ e. inside_of table (header_of table) class) (λ e.
-    holds_cond In (eqb class 255 && leb (at + len) (length s)) (λ e. leb-true (at + len) (length s) (second (eqb class 255) _ e)) (λ e. omega arith)))
+uri_inside table s class at len = let w = uri_span_of table s class at len in by w.source w.at w.len (inside table s class at len)
   where
-    In : UriSpan → Type 0
-    In w = StandsIn table s w.source w.at w.len
-
-    second : (a b : _) → (a && b) ≡ true → b ≡ true
-    second true b e = e
-    second false b e = absurd (let z : ◌≡◌ {A = ℕ} 0 1 = cc in omega arith)
+    by : (x : Source) (at len : ℕ) → at + len ≤ length (slice_of table s x) → StandsIn table s x at len
+    by Table at len h = h
+    by Scene at len h = h
 
 -- ---- by class, with an accepted table
 module _ (table : List ℕ) (a : Accepted table ≡ true) (s : List ℕ) where
@@ -69,25 +62,28 @@ module _ (table : List ℕ) (a : Accepted table ≡ true) (s : List ℕ) where
 
   uri_listed : (class at len : ℕ) → 1 ≤ class → class ≤ (header_of table).namespaces → uri_part table s class at len ≡ get_or (decode table).uris (class - 1) []
   uri_listed class at len lo hi =
-      let f : (leb 1 class && leb class (header_of table).namespaces) ≡ true = rw (le-leb 1 class lo, le-leb class (header_of table).namespaces hi) in
-      let c : class ≡ suc (class - 1) = omega arith in
-      as_part class at len _ (listed_class table s class at len (judged table) refl zero (header_of table) refl f (place_of table (header_of table) class) refl)
-      ∙ ap (λ (k : ℕ). span_of table (place_of table (header_of table) k).at (place_of table (header_of table) k).len) c
-      ∙ span_of_lem table (header_of table) (class - 1)
+      let h = header_of table in
+      let q = get_or (places_of table h) (class - 1) (placed 0 0) in
+      let e : Some q ≡ place_of table h class = listed_some table h class lo (omega (arith, all_listed table a)) in
+      as_part class at len _ (listed_class table s class at len (judged table) refl zero h refl q e) ∙ span_of_lem table h class q e
 
   -- of a class that is neither listed nor 255
-  uri_empty : (class at len : ℕ) → (leb 1 class && leb class (header_of table).namespaces) ≡ false → (class ≡ 255 → ⊥) → uri_part table s class at len ≡ []
+  uri_empty : (class at len : ℕ) → None ≡ place_of table (header_of table) class → (class ≡ 255 → ⊥) → uri_part table s class at len ≡ []
   uri_empty class at len f n =
       let k : (eqb class 255 && leb (at + len) (length s)) ≡ false = rw (ne_eqb class 255 n) in
       as_part class at len (stands Scene 0 0) (nowhere table s class at len (judged table) refl zero (header_of table) refl f (leb (at + len) (length s)) refl k)
 
+  -- classes behind the listed
+  above : (class : ℕ) → 30 < class → None ≡ place_of table (header_of table) class
+  above class l = unlisted_none table (header_of table) class (inr (omega (arith, most, all_listed table a)))
+
   pub uri_unlisted : (at len : ℕ) → at + len ≤ length s → uri_part table s 255 at len ≡ span_of s at len
   uri_unlisted at len h =
-      let f : (leb 1 255 && leb 255 (header_of table).namespaces) ≡ false = lt-leb 255 (header_of table).namespaces (omega (arith, most)) in
-      as_part 255 at len (stands Scene at len) (in_scene table s 255 at len (judged table) refl zero (header_of table) refl f (leb (at + len) (length s)) refl (le-leb (at + len) (length s) h))
+      as_part 255 at len (stands Scene at len)
+      (in_scene table s 255 at len (judged table) refl zero (header_of table) refl (above 255 (omega arith)) (leb (at + len) (length s)) refl (le-leb (at + len) (length s) h))
 
   pub uri_xml : (at len : ℕ) → uri_part table s 254 at len ≡ []
-  uri_xml at len = uri_empty 254 at len (lt-leb 254 (header_of table).namespaces (omega (arith, most))) (λ e. omega arith)
+  uri_xml at len = uri_empty 254 at len (above 254 (omega arith)) (λ e. omega arith)
 
   pub uri_level : (class : ℕ) (w : Span) → (class ≤ length (decode table).uris) ⊎ (class ≡ 255) → SpanHeld s w → uri_part table s class w.at w.len ≡ level_uri (decode table) s class w
   unfolding level_uri
@@ -97,7 +93,7 @@ module _ (table : List ℕ) (a : Accepted table ≡ true) (s : List ℕ) where
       Level = uri_part table s class w.at w.len ≡ level_uri (decode table) s class w
 
       none : class ≡ 0 → Level
-      none e = rw e (uri_empty 0 w.at w.len refl (λ q. omega arith))
+      none e = rw e (uri_empty 0 w.at w.len (unlisted_none table (header_of table) 0 (inl refl)) (λ q. omega arith))
 
       last : class ≡ 255 → Level
       last e = rw e (uri_unlisted w.at w.len h)

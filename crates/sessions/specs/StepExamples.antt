@@ -5,6 +5,7 @@ use Rattle.laws.specs.Text.{bytes}
 use Rattle.table.specs.Table.{standard, former}
 use Rattle.table.specs.declared.Action.TheVariants.{Validate}
 use Rattle.table.specs.Examples.{T, T2}
+use Rattle.table.specs.Places.{places_from, place_of}
 use Rattle.uris.specs.Uris.{stands, uri_span_of}
 use Rattle.uris.specs.declared.Source.TheVariants.{Scene}
 use Rattle.model.specs.DefaultExamples.{A5}
@@ -70,7 +71,7 @@ rejected_strand = refl
 
 -- N3-9: the URI of a reject unit's open is the empty part at the scene's start
 rejected_uri : uri_span_of T (bytes "<r/>") 255 0 0 ≡ stands Scene 0 0
-unfolding computing uri_span_of
+unfolding computing uri_span_of place_of places_from
 rejected_uri = refl
 
 -- a fresh session that has opened so many units

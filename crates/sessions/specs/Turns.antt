@@ -1,5 +1,5 @@
 -- One event of a session that number 20 accepts, as the code takes it: the session's numbers by value, its arrays lent. Definitions.
-use Rattle.std.specs.Prelude.{ℕ, ◌+◌, ◌*◌, ◌-◌, ◌%◌, ◌^◌, ◌≤◌, ◌<◌, ◌≡◌, List, [], map, Bool, true, false, cond, ◌&&◌, length, get_or, take, eqb, ltb}
+use Rattle.std.specs.Prelude.{ℕ, ◌+◌, ◌*◌, ◌-◌, ◌%◌, ◌^◌, ◌≤◌, ◌<◌, ◌≡◌, List, [], map, Bool, true, false, Result, Ok, Err, cond, ◌&&◌, length, get_or, take, eqb, ltb}
 use Rattle.laws.specs.Lists.{same_list, all, keep}
 use Rattle.laws.specs.Gather.{gather}
 use Rattle.laws.specs.Members.{All}
@@ -12,7 +12,9 @@ use Rattle.reader.specs.declared.Span.{Span}
 use Rattle.lexer.specs.declared.Tag.{Tag}
 use Rattle.lexer.specs.Attrs.{attrs_in}
 use Rattle.lexer.specs.Tags.{tag_at}
-use Rattle.lexer.specs.declared.Tagged.{Tagged}
+use Rattle.lexer.specs.Reads.{Tagged}
+use Rattle.lexer.specs.Stops.{number_of, stop_place}
+use Rattle.lexer.specs.declared.Stop.{Stop}
 use Rattle.lexer.specs.Whole.{is_whole_name}
 use Rattle.reader.specs.declared.Binding.{Binding}
 use Rattle.reader.specs.declared.Found.{Found}
@@ -32,7 +34,8 @@ use Rattle.model.specs.Groups.{groups_of}
 use Rattle.model.specs.Dispatch.{dispatch}
 use Rattle.records.specs.declared.Row.{Row}
 use Rattle.attributes.specs.Known.{ClassesAt}
-use Rattle.strands.specs.Packed.{packed}
+use Rattle.strands.specs.Packed.{packed, words_at}
+use Rattle.strands.specs.Writing.{event_records}
 use Rattle.strands.specs.Levels.{level_names, level_spaces, level_strands}
 use Rattle.strands.specs.Entries.{entries_in}
 use Rattle.attributes.specs.Attributes.{placing_of, namespace_of, delivered, all_sorted, sorted_of, attributes_in, sections_in}
@@ -45,13 +48,16 @@ use Rattle.sessions.specs.Stepping.{Plan, refused, finished, event, start_plan, 
 use Rattle.sessions.specs.Session.{Session}
 use Rattle.sessions.specs.declared.Head.{Head}
 use Rattle.sessions.specs.declared.Started.{Started}
-use Rattle.sessions.specs.declared.Reading.{Reading}
-use Rattle.sessions.specs.declared.Reading.TheVariants as reading
+use Rattle.sessions.specs.declared.Refusal.{Refusal}
 use Rattle.sessions.specs.declared.Turn.{Turn}
 use Rattle.sessions.specs.declared.Planned.{Planned}
 use Rattle.sessions.specs.declared.Planned.TheVariants as planned
 use Rattle.sessions.specs.declared.Advanced.{Advanced}
 use Rattle.openings.specs.declared.Decided.{Decided}
+
+-- the refusal where reading stopped
+abbrev pub refusal_of : List ℕ → Stop → Refusal
+refusal_of s x = record { number = number_of x; place = stop_place s x }
 
 -- a refusal: the numbers stay
 abbrev pub stop_turn : ℕ → ℕ → Head → Turn
@@ -91,6 +97,15 @@ pub record Innermost (s : List ℕ) (head : Head) (levels spaces : List ℕ) : T
   pub class : get_or spaces (4 * (head.depth - 1)) 0 < 256
   pub name : SpanHeld s (name_in levels (head.depth - 1))
   pub whole : is_whole_name (bytes_of s (name_in levels (head.depth - 1))) ≡ true
+
+-- the innermost level is open, and its strands are few
+abbrev pub InnerLevel : Head → List ℕ → Type 0
+InnerLevel head levels = (1 ≤ head.depth) × (head.depth ≤ 64) × (get_or (level_spaces levels) (4 * (head.depth - 1) + 3) 0 ≤ 16)
+
+-- the records of an event of the innermost level
+abbrev pub inner_records : Body → Bool → Head → List ℕ → List (Record Body ℕ)
+inner_records b closes head levels =
+    gather (event_records b closes) (words_at (level_strands levels) (head.depth - 1) (get_or (level_spaces levels) (4 * (head.depth - 1) + 3) 0))
 
 -- the bytes of a name and a > stand at a place
 abbrev pub closes_at : List ℕ → ℕ → Span → Bool
@@ -183,17 +198,17 @@ pub record Met (s outer own attrs codes known : List ℕ) (bound : ℕ) (o : Sta
   pub plain_codes : o.plain ≡ true → All (λ (c : Coded). c.code ≡ 0) (coded (attrs_in attrs o.tag.count) codes)
 
 -- what a start tag that was read does next
-abbrev pub read_plan : Table → List ℕ → Session → List ℕ → List ℕ → List ℕ → Reading → Plan
-read_plan t s z own attrs codes (reading.Start o) =
+abbrev pub read_plan : Table → List ℕ → Session → List ℕ → List ℕ → List ℕ → Result Started Refusal → Plan
+read_plan t s z own attrs codes (Ok o) =
     start_plan t s z (start_of s z.scope.bindings own attrs codes o.at o.tag o.found) (declarations_of s (attrs_in attrs o.tag.count)) o.tag.next
-read_plan t s z own attrs codes (reading.Refused number place) = refused number place
+read_plan t s z own attrs codes (Err x) = refused x.number x.place
 
-abbrev pub ReadMet : List ℕ → Session → List ℕ → List ℕ → List ℕ → List ℕ → Reading → Type 0
-ReadMet s z own attrs codes known (reading.Start o) = Met s z.scope.bindings own attrs codes known z.scope.bound o
-ReadMet s z own attrs codes known (reading.Refused number place) = number ≡ 0 → ⊥
+abbrev pub ReadMet : List ℕ → Session → List ℕ → List ℕ → List ℕ → List ℕ → Result Started Refusal → Type 0
+ReadMet s z own attrs codes known (Ok o) = Met s z.scope.bindings own attrs codes known z.scope.bound o
+ReadMet s z own attrs codes known (Err x) = x.number ≡ 0 → ⊥
 
 -- what reading the tag whose < stands at a place answers and leaves in its arrays
-pub record ReadAs (table s : List ℕ) (z : Session) (at : ℕ) (x : Tagged) (own attrs codes known : List ℕ) (r : Reading) : Type 0 where
+pub record ReadAs (table s : List ℕ) (z : Session) (at : ℕ) (x : Tagged) (own attrs codes known : List ℕ) (r : Result Started Refusal) : Type 0 where
   pub plan_is : plan_by (decode table) s z (start_read s at (opens_of z.scope) (tag_at s (at + 1)) x) ≡ read_plan (decode table) s z own attrs codes r
   pub beside : Beside table s known z
   pub met : ReadMet s z own attrs codes known r
@@ -219,9 +234,10 @@ decided_number t s z σ =
     cond (ltb 16 (length (entries_at (dispatch t) (state_of t s z).levels σ))) 23
     (cond (ltb 65536 (after (dispatch t) (state_of t s z) (start σ)).units) 24 0)
 
-pub record DecidedAs (t : Table) (s : List ℕ) (z : Session) (σ : Element) (r : Decided) (words schemas attributes sections : List ℕ) : Type 0 where
-  pub number_is : r.number ≡ decided_number t s z σ
-  pub made : r.number ≡ 0 → Made t s z σ r words schemas attributes sections
+-- what passes 23 and 24, or which of them refuses it
+abbrev pub DecidedAs : (t : Table) → List ℕ → Session → Element → Result Decided Refusal → List ℕ → List ℕ → List ℕ → List ℕ → Type 0
+DecidedAs t s z σ (Ok r) words schemas attributes sections = (decided_number t s z σ ≡ 0) × Made t s z σ r words schemas attributes sections
+DecidedAs t s z σ (Err x) words schemas attributes sections = (x ≡ record { number = decided_number t s z σ; place = σ.at }) × (x.number ≡ 0 → ⊥)
 
 -- what 21 and 22 leave
 pub record Roomy (head : Head) (owned : ℕ) : Type 0 where
@@ -243,26 +259,25 @@ pub record StartAs (table index s : List ℕ) (z : Session) (own words schemas a
   pub plan_is : p ≡ start_plan (decode table) s z (start_of s z.scope.bindings own attrs codes o.at o.tag o.found) ds o.tag.next
   pub told : Told s z.scope.bindings own attrs codes o.at o.tag o.found o.owned ds
   pub placing_is : placing ≡ placing_of (space_of (decode table) s (stored_space own z.scope.bindings o.found))
-  pub as_decided : DecidedAs (decode table) s z (element_of (decode table) s (start_of s z.scope.bindings own attrs codes o.at o.tag o.found)) decided words schemas (attributes_in attributes) (sections_in attributes)
-  pub passed : decided.number ≡ 0
+  pub as_decided : DecidedAs (decode table) s z (element_of (decode table) s (start_of s z.scope.bindings own attrs codes o.at o.tag o.found)) (Ok decided) words schemas (attributes_in attributes) (sections_in attributes)
   pub shallow : z.scope.depth < 64
   pub few_bound : z.scope.bound + o.owned ≤ 64
   pub openable : Openable index (attributes_in attributes) (sections_in attributes) words schemas (narrowed o.at) z.units decided
 
 -- what comes next, by what the first half of a step hands to the second
-abbrev pub PlannedAs : List ℕ → List ℕ → List ℕ → Session → List ℕ → List ℕ → List ℕ → List ℕ → Planned → Plan → Type 0
-PlannedAs table index s z own words schemas attributes (planned.Start o placing decided) p = StartAs table index s z own words schemas attributes o placing decided p
-PlannedAs table index s z own words schemas attributes (planned.Text at place) p =
+abbrev pub PlannedAs : List ℕ → List ℕ → List ℕ → Session → List ℕ → List ℕ → List ℕ → List ℕ → Result Planned Refusal → Plan → Type 0
+PlannedAs table index s z own words schemas attributes (Ok (planned.Start o placing decided)) p = StartAs table index s z own words schemas attributes o placing decided p
+PlannedAs table index s z own words schemas attributes (Ok (planned.Text at place)) p =
     (p ≡ event at (written (dispatch (decode table)) (state_of (decode table) s z) (text (between at place))) (with_place z place))
     × (1 ≤ z.scope.depth) × (at < 4294967296) × (place < 4294967296)
-PlannedAs table index s z own words schemas attributes (planned.End part at place) p =
+PlannedAs table index s z own words schemas attributes (Ok (planned.End part at place)) p =
     (p ≡ event at (written (dispatch (decode table)) (state_of (decode table) s z) (end part)) (with_end z place (eqb z.scope.depth 1)))
     × (1 ≤ z.scope.depth) × (part.at < 4294967296) × (part.len < 4294967296)
-PlannedAs table index s z own words schemas attributes (planned.Awaited part at) p =
+PlannedAs table index s z own words schemas attributes (Ok (planned.Awaited part at)) p =
     (p ≡ event at (written (dispatch (decode table)) (state_of (decode table) s z) (end part)) (with_end z z.place (eqb z.scope.depth 1)))
     × (1 ≤ z.scope.depth) × (part.at < 4294967296) × (part.len < 4294967296)
-PlannedAs table index s z own words schemas attributes planned.Finished p = p ≡ finished (length s)
-PlannedAs table index s z own words schemas attributes (planned.Refused n place) p = (p ≡ refused n place) × (n ≡ 0 → ⊥)
+PlannedAs table index s z own words schemas attributes (Ok planned.Finished) p = p ≡ finished (length s)
+PlannedAs table index s z own words schemas attributes (Err x) p = (p ≡ refused x.number x.place) × (x.number ≡ 0 → ⊥)
 
 -- the session behind a plan
 abbrev pub session_by : Plan → Session → Session

@@ -14,11 +14,14 @@ use table::Header;
 fn head_fits(len: usize, head: Head) -> bool
     ensures { result ≡ head_fits len head }
 {
-    let awaited = !head.awaited | (head.depth != 0);
-    let closed = !head.closed | (head.depth == 0);
-    (head.depth <= DEPTH)
-        & ((head.bound <= BINDINGS)
-            & ((head.place <= len) & ((head.units <= UNITS) & (awaited & closed))))
+    let awaited = !head.awaited || head.depth != 0;
+    let closed = !head.closed || head.depth == 0;
+    head.depth <= DEPTH
+        && head.bound <= BINDINGS
+        && head.place <= len
+        && head.units <= UNITS
+        && awaited
+        && closed
 }
 
 // May a session go on with this table and scene?
@@ -32,10 +35,8 @@ pub fn coherent(
 ) -> bool
     ensures { result ≡ coherent (table_of table.now header) scene.now (session_at head levels.now bindings.now) }
 {
-    if !head_fits(scene.len(), head) {
-        return false;
-    }
-    arrays_fit(
-        table, header, scene, head.units, head.depth, head.bound, levels, bindings,
-    )
+    head_fits(scene.len(), head)
+        && arrays_fit(
+            table, header, scene, head.units, head.depth, head.bound, levels, bindings,
+        )
 }

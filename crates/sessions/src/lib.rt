@@ -5,26 +5,28 @@ pub mod checks;
 
 ghost use Rattle.std.specs.Prelude.{◌≡◌};
 ghost use Rattle.sessions.specs.Sessions.{fresh_of, head_of};
+ghost use Rattle.sessions.specs.Turns.{refusal_of};
 
 use attributes::Placing;
-use lexer::Tag;
+use lexer::stops::{number_of, place_of};
+use lexer::{Stop, Tag};
 use openings::Decided;
-use reader::{Found, Span};
+use reader::{Found, Scope, Span};
 
 // Limits of a session: open levels, open bindings, strands of a level, units.
-pub const DEPTH: usize = 64;
+pub const DEPTH: usize = Scope::DEPTH;
 
-pub const BINDINGS: usize = 64;
+pub const BINDINGS: usize = Scope::BINDINGS;
 
-pub const STRANDS: usize = 16;
+pub const STRANDS: usize = openings::STRANDS;
 
-pub const UNITS: usize = 65536;
+pub const UNITS: usize = openings::UNITS;
 
 // The longest scene.
 pub const LONGEST: usize = 16777215;
 
 // The numbers of a session.
-#[derive(Clone, Copy)]
+#[derive(Clone, Copy, PartialEq, Eq)]
 pub struct Head {
     pub place: usize,
     pub units: usize,
@@ -34,7 +36,7 @@ pub struct Head {
     pub bound: usize,
 }
 
-// What one event's work gives: a number and its place, how many records it has, and the session's numbers behind it.
+// What one event's work gives: a number and its place, how many records it has, and the session's numbers behind it. The number is the answer's, 0 where the event was taken, as `step_in` has it.
 #[derive(Clone, Copy)]
 pub struct Turn {
     pub number: u8,
@@ -43,7 +45,7 @@ pub struct Turn {
     pub head: Head,
 }
 
-// What some steps give: the last one's number and place, how many events and records, and the session's numbers behind them.
+// What some steps give: the last one's number, which is the answer's, and place, how many events and records, and the session's numbers behind them.
 #[derive(Clone, Copy)]
 pub struct Advanced {
     pub number: u8,
@@ -63,22 +65,52 @@ pub struct Started {
     pub plain: bool,
 }
 
-// What reading a start tag comes to: a start, or a number and its place.
-#[derive(Clone, Copy)]
-pub enum Reading {
-    Start(Started),
-    Refused(u8, usize),
+// A refusal: its number and its place, as the specification has them.
+#[derive(Clone, Copy, Debug, PartialEq, Eq)]
+pub struct Refusal {
+    pub number: u8,
+    pub place: usize,
 }
 
-// What comes next, decided without an output: a start, its namespace and what it makes; a text, its first byte and the place behind it; an end, its name's part, its tag's < and the place behind it; the end of a />; the scene's end; or a number and its place.
+// What comes next, decided without an output.
 #[derive(Clone, Copy)]
 pub enum Planned {
-    Start(Started, Placing, Decided),
-    Text(usize, usize),
-    End(Span, usize, usize),
-    Awaited(Span, usize),
+    // A start, its namespace and what it makes.
+    Start {
+        started: Started,
+        placing: Placing,
+        decided: Decided,
+    },
+    // A text: its first byte and the place behind it.
+    Text {
+        at: usize,
+        end: usize,
+    },
+    // An end: its name's part, its tag's < and the place behind it.
+    End {
+        part: Span,
+        at: usize,
+        place: usize,
+    },
+    // The end of a />: its name's part, its tag's <.
+    Awaited {
+        part: Span,
+        at: usize,
+    },
+    // The scene's end.
     Finished,
-    Refused(u8, usize),
+}
+
+impl Refusal {
+    // Reading stopped.
+    pub fn stopped(scene: &[u8], x: Stop) -> Refusal
+        ensures { result ≡ refusal_of scene.now x }
+    {
+        Refusal {
+            number: number_of(x),
+            place: place_of(scene, x),
+        }
+    }
 }
 
 impl Head {

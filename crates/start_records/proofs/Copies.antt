@@ -1,10 +1,10 @@
 -- The element where every attribute is kept: its rows laid once as words, and copied along each strand.
---     elements_whole                                 where no attribute has a section, every one is kept
+--     element_whole                                  where no attribute has a section, every one is kept
 --     attribute_laid, start_laid, rows_turn          the words of its rows laid
 --     bodies_many, rows_held, rows_kept              what the array holds then
 --     units_start, units_turn                        what each strand's unit adds
 --     part_copied                                    some of the rows copied
---     copy_none, copy_laid                           along one strand
+--     copy_laid                                      along one strand
 --     room_late, room_left, room_here, room_next     room for the rows; bytes-few: how many bytes they are
 use Prim.Native.Nat.{ℕ, zero, suc, ◌+◌, ◌-◌, ◌*◌, ◌%◌, ◌^◌, ◌≤◌, ◌<◌}
 use mathlib.Core.Path.{◌≡◌, refl, sym, ap, ap₂, ◌∙◌, subst}
@@ -14,7 +14,7 @@ use mathlib.Core.Option.{Option, some}
 use native.Mathlib.Nat.{zero-add, add-mul, mul-le-mul, one-mul, le_refl}
 use native.Mathlib.Omega.{arith}
 use mathlib.Core.Logic.{⊎_elim}
-use borrow.Author.Tests.{not-true, not-false, le-leb, lt-leb}
+use borrow.Author.Tests.{not-false, le-leb, lt-leb}
 use lib.Dec.{leb}
 use lib.ListN.{length, get_or, set, length-map}
 use lib.Seq.{get_or-set_same, get_or-set_other}
@@ -28,13 +28,13 @@ use Rattle.laws.proofs.Gather.{gather_append}
 use Rattle.laws.proofs.Over.{set_over, four_set, get_d_over_in}
 use Rattle.reader.proofs.Tabulated.{tabulate_append}
 use Rattle.reader.specs.Spans.{span}
-use Rattle.model.specs.Theory.{holds, Record}
+use Rattle.model.specs.Theory.{holds}
 use Rattle.model.specs.Stream.{Entry, give}
 use Rattle.model.specs.Records.{Body, plain}
-use Rattle.model.proofs.Lists.{gather_same, gather_map}
+use Rattle.model.proofs.Lists.{gather_map}
 use Rattle.records.specs.declared.Row.{Row}
 use Rattle.records.specs.Rows.{Laid, laid, laid_if, laid_rows, row_bytes, first_word, unit_word, last_word, body_words, words_row, ByteFields, InWords}
-use Rattle.records.proofs.Laid.{rows_none, rows_append, rows_if, rows_fit}
+use Rattle.records.proofs.Laid.{rows_append, rows_if, rows_fit}
 use Rattle.records.proofs.Words.{stored, laid_more, part_rows, words_length}
 use Rattle.strands.specs.Packed.{strand_in, receives, is_unit, target_in}
 use Rattle.attributes.specs.Attributes.{Sorted, given_in, sorted_in, all_sorted}
@@ -42,17 +42,14 @@ use Rattle.strands.specs.Writing.{row_for, row_of, opens_with, sorted_bodies, el
 use Rattle.strands.proofs.Counting.{all_kept}
 use Rattle.strands.proofs.Counted.{bodies_length}
 use Rattle.start_records.proofs.UnitRows.{held_rows}
-use Rattle.start_records.proofs.ElementRows.{give_none, receives_target}
+use Rattle.start_records.proofs.ElementRows.{receives_target}
 
 -- ---- every attribute is kept
-module _ (attributes sections : List ℕ) (n : ℕ) (zeros : (k : ℕ) → k < n → get_or sections k 0 ≡ 0) (index : List ℕ) where
-  pub elements_whole : (at : ℕ) (begun : Body) (es : List Entry)
-      → gather (whole_records at (whole_bodies begun (all_sorted attributes sections n))) es ≡ gather (element_records index at begun (all_sorted attributes sections n)) es
-  unfolding element_records whole_records
-  elements_whole at begun es =
-      gather_same (whole_records at (whole_bodies begun (all_sorted attributes sections n))) (element_records index at begun (all_sorted attributes sections n))
-      (λ (e : Entry). ap (λ (l : List Sorted). give (receives e.strand) (opens_with at e.schema e.strand.here ++ map holds (begun ∷ gather sorted_bodies l))) (sym (all_kept attributes sections n zeros index e.strand.mode)))
-      es
+pub element_whole : (attributes sections : List ℕ) (n : ℕ) → ((k : ℕ) → k < n → get_or sections k 0 ≡ 0) → (index : List ℕ) (at : ℕ) (begun : Body) (e : Entry)
+    → whole_records at (whole_bodies begun (all_sorted attributes sections n)) e ≡ element_records index at begun (all_sorted attributes sections n) e
+unfolding element_records whole_records
+element_whole attributes sections n zeros index at begun e =
+    ap (λ (l : List Sorted). give (receives e.strand) (opens_with at e.schema e.strand.here ++ map holds (begun ∷ gather sorted_bodies l))) (sym (all_kept attributes sections n zeros index e.strand.mode))
 
 -- ---- the words of its rows
 -- a first word and a last word, as `first_word` and `last_word` give them
@@ -169,13 +166,6 @@ part_copied rows before part after unit mark out out' place j n w b l m h g =
 module _ (word schema at : ℕ) (b : Bool) (e : b ≡ is_unit (receives (strand_in word))) (bodies : List Body) where
   abbrev entry : Entry
   entry = record { strand = strand_in word; schema = schema }
-
-  pub copy_none : (w : Laid) → not b ≡ true → w ≡ laid_rows w (map row_of (whole_records at bodies (record { strand = strand_in word; schema = schema })))
-  unfolding whole_records
-  copy_none w h =
-      sym (rows_none w)
-      ∙ ap (λ (rs : List (Record Body ℕ)). laid_rows w (map row_of rs))
-      (sym (give_none (receives (strand_in word)) (opens_with at schema (strand_in word).here ++ map holds bodies) (sym e ∙ not-true b h)))
 
   given_rows : (unit : ℕ) (here : Bool) → map row_of (give (some unit) (opens_with at schema here ++ map holds bodies)) ≡ cond here (row_for unit (plain 0 schema (span at 0)) ∷ []) [] ++ map (row_for unit) bodies
   given_rows unit true = ap (λ (rs : List Row). row_for unit (plain 0 schema (span at 0)) ∷ rs) (held_rows unit bodies)

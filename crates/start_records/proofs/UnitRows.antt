@@ -16,12 +16,9 @@ use lib.Dec.{eqb}
 use Rattle.laws.specs.Lists.{tabulate, keep}
 use Rattle.laws.specs.Gather.{gather}
 use Rattle.laws.proofs.Lists.{tabulate_here, tabulate_done}
-use Rattle.table.specs.Table.{rule_of}
-use Rattle.table.specs.Index.{next_rule, chosen_of}
 use Rattle.table.specs.declared.Action.{Action}
 use Rattle.table.specs.declared.Action.TheVariants.{Attach, Unwrap, Validate}
 use Rattle.table.specs.declared.Rule.{Rule}
-use Rattle.table.specs.declared.Chosen.{Chosen}
 use Rattle.reader.specs.Spans.{span}
 use Rattle.model.specs.Theory.{AttributeUnit, Piece, opens, holds}
 use Rattle.model.specs.Stream.{attributes_from}
@@ -34,7 +31,6 @@ use Rattle.strands.specs.Packed.{strand_in}
 use Rattle.strands.specs.Rules.{rules_in}
 use Rattle.attributes.specs.Attributes.{Sorted, given_in, sorted_in}
 use Rattle.strands.specs.Writing.{row_for, row_of, members, head_class, sorted_bodies, unit_for, section_units, strand_units}
-use Rattle.strands.proofs.Ruled.{left as rulesLeft, At, left_first, at_here, left_next, at_end}
 
 -- ---- rows
 module _ (v : Laid) where
@@ -47,6 +43,10 @@ module _ (v : Laid) where
 pub rows_cons : (w : Laid) (r : Row) (rs : List Row) → laid_rows w (r ∷ rs) ≡ laid_rows (laid_row w r) rs
 unfolding laid_rows
 rows_cons w r rs = refl
+
+-- a row at a place of its own
+abbrev pub placed : ℕ → ℕ → Row → Row
+placed at len r = record { unit = r.unit; kind = r.kind; class = r.class; at = at; len = len; uri_at = r.uri_at; uri_len = r.uri_len }
 
 -- an attribute's rows
 pub two_rows : (w v : Laid) (due : Bool) (r s : Row) → v ≡ laid_if due w r → laid_if due v s ≡ laid_rows w (cond due (r ∷ s ∷ []) [])
@@ -229,33 +229,28 @@ module _ (at : ℕ) (l : List Sorted) (j : ℕ) where
   abbrev pub by_rules : List Rule → List (AttributeUnit Body)
   by_rules rs = gather (λ (r : Rule). unit_for at (members l j) r.action r.schema) rs
 
-  pub rules_all : (index : List ℕ) (mode class : ℕ) (c : Chosen) → length index ≡ 256 → class ≡ head_class (members l j) → c ≡ chosen_of index mode 1 class
-      → by_rules (rulesLeft index c c.first) ≡ section_units index mode at l j
+  pub rules_all : (index : List ℕ) (mode class : ℕ) → class ≡ head_class (members l j) → by_rules (rules_in index mode 1 class) ≡ section_units index mode at l j
   unfolding section_units
-  rules_all index mode class c size f e = ap by_rules (left_first index mode 1 class c size e) ∙ ap (λ (k : ℕ). by_rules (rules_in index mode 1 k)) f
+  rules_all index mode class f = ap (λ (k : ℕ). by_rules (rules_in index mode 1 k)) f
 
-  module _ (index : List ℕ) (c : Chosen) (i : ℕ) (a : At index c i) (w₀ : Laid) (first : ℕ) (all : List (AttributeUnit Body)) (w : Laid) (unit : ℕ)
-      (g : Going w₀ first all w unit (by_rules (rulesLeft index c i))) where
-    pub rule_done : c.end ≤ i → (unit ≡ first + length all) × (w ≡ laid_rows w₀ (unit_rows first all))
+  module _ (rs : List Rule) (w₀ : Laid) (first : ℕ) (all : List (AttributeUnit Body)) (w : Laid) (unit : ℕ) (g : Going w₀ first all w unit (by_rules rs)) where
+    pub rule_done : rs ≡ [] → (unit ≡ first + length all) × (w ≡ laid_rows w₀ (unit_rows first all))
     unfolding gather
-    rule_done h = going_done w₀ first all w unit (by_rules (rulesLeft index c i)) g (ap by_rules (at_end index c i a h))
+    rule_done e = going_done w₀ first all w unit (by_rules rs) g (ap by_rules e)
 
-    module _ (rule : Rule) (h : i < c.end) (e : rule ≡ rule_of (get_or index i 0)) where
-      rule_here : by_rules (rulesLeft index c i) ≡ unit_for at (members l j) rule.action rule.schema ++ by_rules (rulesLeft index c (i + 1))
+    module _ (rule : Rule) (rest : List Rule) (e : rs ≡ rule ∷ rest) where
+      rule_here : by_rules rs ≡ unit_for at (members l j) rule.action rule.schema ++ by_rules rest
       unfolding gather
-      rule_here = ap by_rules (at_here index c i rule a h e)
+      rule_here = ap by_rules e
 
       pub rule_fits : (most : ℕ) → first + length all ≤ most → unit + length (unit_for at (members l j) rule.action rule.schema) ≤ most
-      rule_fits =
-          going_fits w₀ first all w unit (by_rules (rulesLeft index c i)) g (unit_for at (members l j) rule.action rule.schema) (by_rules (rulesLeft index c (i + 1))) rule_here
+      rule_fits = going_fits w₀ first all w unit (by_rules rs) g (unit_for at (members l j) rule.action rule.schema) (by_rules rest) rule_here
 
-      pub rule_on : (i' : ℕ) → i' ≡ next_rule index (i + 1) c.end c.key → (w' : Laid) (unit' : ℕ)
+      pub rule_on : (w' : Laid) (unit' : ℕ)
           → unit' ≡ unit + length (unit_for at (members l j) rule.action rule.schema)
           → w' ≡ laid_rows w (unit_rows unit (unit_for at (members l j) rule.action rule.schema))
-          → Going w₀ first all w' unit' (by_rules (rulesLeft index c i'))
-      rule_on i' n =
-          going_on w₀ first all w unit (by_rules (rulesLeft index c i)) g (unit_for at (members l j) rule.action rule.schema) (by_rules (rulesLeft index c i'))
-          (rule_here ∙ ap (λ (rs : List Rule). unit_for at (members l j) rule.action rule.schema ++ by_rules rs) (sym (left_next index c i i' a h n)))
+          → Going w₀ first all w' unit' (by_rules rest)
+      rule_on = going_on w₀ first all w unit (by_rules rs) g (unit_for at (members l j) rule.action rule.schema) (by_rules rest) rule_here
 
 -- ---- by section, by strand
 module _ {A : Type 0} (f : ℕ → A) (made : A → List (AttributeUnit Body)) (n : ℕ) where

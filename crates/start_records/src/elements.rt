@@ -3,18 +3,20 @@ ghost use Rattle.std.specs.Prelude.{◌≡◌, List, map, ℕ, ◌+◌, ◌*◌,
 ghost use Rattle.laws.specs.Over.{overwrite};
 ghost use Rattle.laws.specs.Lists.{keep};
 ghost use Rattle.laws.specs.Gather.{gather};
-ghost use Rattle.model.specs.Records.{Body};
-ghost use Rattle.records.specs.Rows.{laid, laid_rows, unit_word, body_words, InWords};
+ghost use Rattle.reader.specs.Spans.{span};
+ghost use Rattle.model.specs.Records.{Body, plain};
+ghost use Rattle.records.specs.Rows.{laid, laid_if, laid_rows, unit_word, body_words, InWords};
 ghost use Rattle.strands.specs.Packed.{strand_in, target_in};
 ghost use Rattle.strands.specs.Entries.{entries_in};
 ghost use Rattle.attributes.specs.Attributes.{sorted_in, all_sorted, sorted_held, sections_in, attributes_in};
-ghost use Rattle.strands.specs.Writing.{row_for, row_of, keeps, sorted_bodies, begun_body, element_records, whole_bodies, whole_records};
+ghost use Rattle.strands.specs.Writing.{row_for, row_of, keeps, sorted_bodies, begun_body, element_records, whole_bodies};
 
 use crate::units::put_attribute_if;
 use attributes::HELD;
 use records::{Row, first_word, last_word, put_pair, put_row, put_row_if, put_words, unit_word};
 use strands::Begun;
 use strands::counts::{class_at, is_kept};
+use strands::events::plain_row;
 use strands::packed::{delivers, is_here, mode_of, target_of};
 
 // Where an array of rows as words has what each strand's unit adds: behind 33 rows.
@@ -34,13 +36,23 @@ fn write_kept(
     ensures { laid out.new result ≡ laid_rows (laid out.old from) (map (row_for unit) (gather sorted_bodies (keep (keeps index.now mode) (sorted_held attributes.now n)))) }
 {
     let mut used = from;
-    let mut k = 0;
-    while k < n {
+    for k in 0..n {
         let due = is_kept(index, mode, attributes, k);
         used = put_attribute_if(out, used, due, unit, attributes, k);
-        k += 1;
     }
     used
+}
+
+// An open along a strand, if its unit is new.
+fn put_open(out: &mut [u8], from: usize, w: u32, schema: u32, tag: u32) -> usize
+    requires { schema < 256 }
+    ensures { laid out.new result ≡ laid_if (strand_in w).here (laid out.old from) (row_for (target_in w) (plain 0 schema (span tag 0))) }
+{
+    let open = Row {
+        at: tag,
+        ..plain_row(target_of(w), 0, schema as u8)
+    };
+    put_row_if(out, from, is_here(w), open)
 }
 
 // The element along one strand: an open if its unit is new, the start, the attributes that are kept.
@@ -61,15 +73,6 @@ fn write_element(
         return from;
     }
     let unit = target_of(w);
-    let open = Row {
-        unit,
-        kind: 0,
-        class: schema as u8,
-        at: begun.tag,
-        len: 0,
-        uri_at: 0,
-        uri_len: 0,
-    };
     let start = Row {
         unit,
         kind: 1,
@@ -79,7 +82,7 @@ fn write_element(
         uri_at: begun.uri_at,
         uri_len: begun.uri_len,
     };
-    let a = put_row_if(out, from, is_here(w), open);
+    let a = put_open(out, from, w, schema, begun.tag);
     let b = put_row(out, a, start);
     write_kept(index, mode_of(w), attributes, n, unit, out, b)
 }
@@ -100,10 +103,8 @@ fn write_each(
     ensures { laid out.new result ≡ laid_rows (laid out.old from) (map row_of (gather (element_records index.now begun.tag (begun_body begun) (sorted_held attributes.now n)) (entries_in words.now schemas.now count))) }
 {
     let mut used = from;
-    let mut k = 0;
-    while k < count {
+    for k in 0..count {
         used = write_element(index, attributes, n, words[k], schemas[k], begun, out, used);
-        k += 1;
     }
     used
 }
@@ -128,13 +129,10 @@ fn lay_rows(begun: Begun, attributes: &[u32; HELD], n: usize, rows: &mut [u64; 8
     requires { n ≤ 16 }
     ensures { (sections : List ℕ) → InWords rows.new (whole_bodies (begun_body begun) (all_sorted (attributes_in attributes.now) sections n)) }
 {
-    let all: &mut [u64] = rows;
-    all[0] = first_word(1, begun.class, begun.at, begun.len);
-    all[1] = last_word(begun.len, begun.uri_at, begun.uri_len);
-    let mut k = 0;
-    while k < n {
-        lay_attribute(attributes, k, all);
-        k += 1;
+    rows[0] = first_word(1, begun.class, begun.at, begun.len);
+    rows[1] = last_word(begun.len, begun.uri_at, begun.uri_len);
+    for k in 0..n {
+        lay_attribute(attributes, k, rows);
     }
 }
 
@@ -144,83 +142,16 @@ fn lay_units(words: &[u32; 16], count: usize, rows: &mut [u64; 82])
     ensures { ((i : ℕ) → i < 66 → get_or rows.new i 0 ≡ get_or rows.old i 0)
         × ((k : ℕ) → k < count → get_or rows.new (66 + k) 0 ≡ unit_word (target_in (get_or words.now k 0))) }
 {
-    let all: &mut [u64] = rows;
-    let mut k = 0;
-    while k < count {
-        all[UNITS + k] = unit_word(target_of(words[k]));
-        k += 1;
+    for k in 0..count {
+        rows[UNITS + k] = unit_word(target_of(words[k]));
     }
-}
-
-// The element along the k-th strand, its rows copied.
-fn write_copy(
-    rows: &[u64; 82],
-    n: usize,
-    k: usize,
-    w: u32,
-    schema: u32,
-    tag: u32,
-    out: &mut [u8],
-    from: usize,
-) -> usize
-    requires { (n ≤ 16) × (k < 16) × (schema < 256) × (from + 32 * (n + 1) ≤ length out.old)
-        × (get_or rows.now (66 + k) 0 ≡ unit_word (target_in w))
-        × ((j : ℕ) → j < 2 * n + 1 → get_or rows.now (2 * j) 0 < 2 ^ 48) }
-    ensures { (result ≤ from + 32 * (n + 1))
-        × ((bodies : List Body) → length bodies ≡ 2 * n + 1 → InWords rows.now bodies → laid out.new result ≡ laid_rows (laid out.old from) (map row_of (whole_records tag bodies (record { strand = strand_in w; schema = schema })))) }
-{
-    if !delivers(w) {
-        return from;
-    }
-    let open = Row {
-        unit: target_of(w),
-        kind: 0,
-        class: schema as u8,
-        at: tag,
-        len: 0,
-        uri_at: 0,
-        uri_len: 0,
-    };
-    let a = put_row_if(out, from, is_here(w), open);
-    let size = 2 * n + 1;
-    put_words(out, a, rows, size, rows[UNITS + k]);
-    a + 16 * size
-}
-
-// The element along all strands where each keeps all attributes: its rows are laid once and copied.
-fn write_copies(
-    attributes: &[u32; HELD],
-    n: usize,
-    words: &[u32; 16],
-    schemas: &[u32; 16],
-    count: usize,
-    begun: Begun,
-    rows: &mut [u64; 82],
-    out: &mut [u8],
-    from: usize,
-) -> usize
-    requires { (n ≤ 16) × (count ≤ 16) × ((k : ℕ) → k < count → get_or schemas.now k 0 < 256) × (from + count * (32 * (n + 1)) ≤ length out.old) }
-    ensures { (sections : List ℕ) → laid out.new result ≡ laid_rows (laid out.old from) (map row_of (gather (whole_records begun.tag (whole_bodies (begun_body begun) (all_sorted (attributes_in attributes.now) sections n))) (entries_in words.now schemas.now count))) }
-{
-    lay_rows(begun, attributes, n, rows);
-    lay_units(words, count, rows);
-    let mut used = from;
-    let mut k = 0;
-    while k < count {
-        used = write_copy(rows, n, k, words[k], schemas[k], begun.tag, out, used);
-        k += 1;
-    }
-    used
 }
 
 // Whether so many bytes fit from a place on.
 fn has_room(size: usize, from: usize, bytes: usize) -> bool
     ensures { result ≡ leb (from + bytes) size }
 {
-    if size < from {
-        return false;
-    }
-    bytes <= size - from
+    from <= size && bytes <= size - from
 }
 
 // The rows of the attributes that are kept along a strand of this mode, copied.
@@ -240,22 +171,21 @@ fn copy_kept(
         × ((begun : Body) (target : ℕ) → InWords rows.now (whole_bodies begun sorted) → unit ≡ unit_word target → laid out.new result ≡ laid_rows (laid out.old from) (map (row_for target) (gather sorted_bodies (keep (keeps index.now mode) sorted)))) }
 {
     let mut used = from;
-    let mut k = 0;
-    while k < n {
+    for k in 0..n {
         if is_kept(index, mode, attributes, k) {
             put_pair(out, used, rows, 2 * k + 1, unit);
             used += 32;
         }
-        k += 1;
     }
     used
 }
 
-// The element along the k-th strand, its rows copied: the start and the attributes that are kept.
+// The element along the k-th strand, its rows copied: the start and the attributes that are kept. Where there are no sections every attribute is, and all rows are copied at once.
 fn copy_element(
     index: &[u32; 256],
     attributes: &[u32; HELD],
     n: usize,
+    m: usize,
     rows: &[u64; 82],
     k: usize,
     w: u32,
@@ -266,7 +196,8 @@ fn copy_element(
 ) -> usize
     requires { (n ≤ 16) × (k < 16) × (schema < 256) × (from + 32 * (n + 1) ≤ length out.old)
         × (get_or rows.now (66 + k) 0 ≡ unit_word (target_in w))
-        × ((j : ℕ) → j < 2 * n + 1 → get_or rows.now (2 * j) 0 < 2 ^ 48) }
+        × ((j : ℕ) → j < 2 * n + 1 → get_or rows.now (2 * j) 0 < 2 ^ 48)
+        × (m ≡ 0 → (i : ℕ) → i < n → get_or (sections_in attributes.now) i 0 ≡ 0) }
     ensures { let sorted = sorted_held attributes.now n in
         (result ≤ from + 32 * (n + 1))
         × ((begun : Body) → InWords rows.now (whole_bodies begun sorted) → laid out.new result ≡ laid_rows (laid out.old from) (map row_of (element_records index.now tag begun sorted (record { strand = strand_in w; schema = schema })))) }
@@ -274,21 +205,16 @@ fn copy_element(
     if !delivers(w) {
         return from;
     }
-    let open = Row {
-        unit: target_of(w),
-        kind: 0,
-        class: schema as u8,
-        at: tag,
-        len: 0,
-        uri_at: 0,
-        uri_len: 0,
-    };
-    let a = put_row_if(out, from, is_here(w), open);
+    let a = put_open(out, from, w, schema, tag);
     let unit = rows[UNITS + k];
+    if m == 0 {
+        let size = 2 * n + 1;
+        put_words(out, a, rows, size, unit);
+        return a + 16 * size;
+    }
     put_words(out, a, rows, 1, unit);
     let b = a + 16;
-    let mode = mode_of(w);
-    copy_kept(index, mode, attributes, n, rows, unit, out, b)
+    copy_kept(index, mode_of(w), attributes, n, rows, unit, out, b)
 }
 
 // The element along all strands, each with the attributes that it keeps: its rows are laid once and copied.
@@ -296,6 +222,7 @@ fn copy_elements(
     index: &[u32; 256],
     attributes: &[u32; HELD],
     n: usize,
+    m: usize,
     words: &[u32; 16],
     schemas: &[u32; 16],
     count: usize,
@@ -304,23 +231,21 @@ fn copy_elements(
     out: &mut [u8],
     from: usize,
 ) -> usize
-    requires { (n ≤ 16) × (count ≤ 16) × ((k : ℕ) → k < count → get_or schemas.now k 0 < 256) × (from + count * (32 * (n + 1)) ≤ length out.old) }
+    requires { (n ≤ 16) × (count ≤ 16) × ((k : ℕ) → k < count → get_or schemas.now k 0 < 256) × (from + count * (32 * (n + 1)) ≤ length out.old) × (m ≡ 0 → (k : ℕ) → k < n → get_or (sections_in attributes.now) k 0 ≡ 0) }
     ensures { laid out.new result ≡ laid_rows (laid out.old from) (map row_of (gather (element_records index.now begun.tag (begun_body begun) (sorted_held attributes.now n)) (entries_in words.now schemas.now count))) }
 {
     lay_rows(begun, attributes, n, rows);
     lay_units(words, count, rows);
     let mut used = from;
-    let mut k = 0;
-    while k < count {
+    for k in 0..count {
         used = copy_element(
-            index, attributes, n, rows, k, words[k], schemas[k], begun.tag, out, used,
+            index, attributes, n, m, rows, k, words[k], schemas[k], begun.tag, out, used,
         );
-        k += 1;
     }
     used
 }
 
-// The element along all strands. Where there are no sections every attribute is kept.
+// The element along all strands: its rows copied where the output has room for the most that there can be, else laid one by one.
 pub fn write_elements(
     index: &[u32; 256],
     attributes: &[u32; HELD],
@@ -338,14 +263,12 @@ pub fn write_elements(
     ensures { laid out.new result ≡ laid_rows (laid out.old from) (map row_of (gather (element_records index.now begun.tag (begun_body begun) (sorted_held attributes.now n)) (entries_in words.now schemas.now count))) }
 {
     if has_room(out.len(), from, count * (32 * (n + 1))) {
-        if m == 0 {
-            return write_copies(attributes, n, words, schemas, count, begun, rows, out, from);
-        }
-        return copy_elements(
-            index, attributes, n, words, schemas, count, begun, rows, out, from,
-        );
+        copy_elements(
+            index, attributes, n, m, words, schemas, count, begun, rows, out, from,
+        )
+    } else {
+        write_each(
+            index, attributes, n, words, schemas, count, begun, out, from,
+        )
     }
-    write_each(
-        index, attributes, n, words, schemas, count, begun, out, from,
-    )
 }

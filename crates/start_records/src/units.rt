@@ -11,14 +11,13 @@ ghost use Rattle.strands.specs.Writing.{row_for, row_of, members, sorted_bodies,
 
 use attributes::HELD;
 use attributes::sections::section_at;
-use index::{choose, next_rule};
 use records::{Row, put_row, put_row_if};
 use strands::Wrote;
-use strands::counts::section_class;
+use strands::counts::{class_at, section_class};
 use strands::events::plain_row;
 use strands::packed::mode_of;
-use table::Action;
-use table::words::rule_of;
+use strands::rules::rules_in;
+use table::{Action, Rule};
 
 // The two rows of the k-th attribute, if they are due.
 pub fn put_attribute_if(
@@ -36,20 +35,16 @@ pub fn put_attribute_if(
     let name = Row {
         unit,
         kind: 2,
-        class: (attributes[at + 4] % 256) as u8,
+        class: class_at(attributes, k),
         at: attributes[at],
         len: attributes[at + 1],
         uri_at: attributes[at + 5],
         uri_len: attributes[at + 6],
     };
     let value = Row {
-        unit,
-        kind: 3,
-        class: 0,
         at: attributes[at + 2],
         len: attributes[at + 3],
-        uri_at: 0,
-        uri_len: 0,
+        ..plain_row(unit, 3, 0)
     };
     let next = put_row_if(out, used, due, name);
     put_row_if(out, next, due, value)
@@ -69,8 +64,7 @@ fn write_members(
 {
     let section = j as u32;
     let mut used = from;
-    let mut k = 0;
-    while k < n {
+    for k in 0..n {
         used = put_attribute_if(
             out,
             used,
@@ -79,7 +73,6 @@ fn write_members(
             attributes,
             k,
         );
-        k += 1;
     }
     used
 }
@@ -99,13 +92,9 @@ fn write_unit(
     ensures { laid out.new result ≡ laid_rows (laid out.old from) (map row_of (attributes_from (λ (u : ℕ). u) unit (unit_for tag (members (sorted_held attributes.now n) j) Validate schema))) }
 {
     let open = Row {
-        unit,
-        kind: 0,
-        class: schema,
         at: tag,
         len: 1,
-        uri_at: 0,
-        uri_len: 0,
+        ..plain_row(unit, 0, schema)
     };
     let a = put_row(out, from, open);
     let b = put_row(out, a, plain_row(unit, 1, 253));
@@ -119,23 +108,30 @@ fn write_by(
     attributes: &[u32; HELD],
     n: usize,
     j: usize,
-    action: Action,
-    schema: u8,
+    rule: Rule,
     tag: u32,
     wrote: Wrote,
     out: &mut [u8],
 ) -> Wrote
-    requires { (n ≤ 16) × (j ≤ 16) × (wrote.unit + length (unit_for tag (members (sorted_held attributes.now n) j) action schema) ≤ 65536) }
-    ensures { let us = unit_for tag (members (sorted_held attributes.now n) j) action schema in
+    requires { (n ≤ 16) × (j ≤ 16) × (wrote.unit + length (unit_for tag (members (sorted_held attributes.now n) j) rule.action rule.schema) ≤ 65536) }
+    ensures { let us = unit_for tag (members (sorted_held attributes.now n) j) rule.action rule.schema in
         (result.unit ≡ wrote.unit + length us)
         × (laid out.new result.used ≡ laid_rows (laid out.old wrote.used) (map row_of (attributes_from (λ (u : ℕ). u) wrote.unit us))) }
 {
-    match action {
-        Action::Attach => wrote,
-        Action::Unwrap => wrote,
+    match rule.action {
+        Action::Attach | Action::Unwrap => wrote,
         Action::Validate => {
             let unit = wrote.unit;
-            let used = write_unit(attributes, n, j, unit as u32, schema, tag, out, wrote.used);
+            let used = write_unit(
+                attributes,
+                n,
+                j,
+                unit as u32,
+                rule.schema,
+                tag,
+                out,
+                wrote.used,
+            );
             Wrote {
                 unit: unit + 1,
                 used,
@@ -160,15 +156,9 @@ fn write_section(
         (result.unit ≡ from.unit + length us)
         × (laid out.new result.used ≡ laid_rows (laid out.old from.used) (map row_of (attributes_from (λ (u : ℕ). u) from.unit us))) }
 {
-    let c = choose(index, mode, 1, section_class(attributes, n, j));
-    let rules: &[u32] = index;
     let mut wrote = from;
-    let mut i = c.first;
-    while i < c.end {
-        let rule = rule_of(rules[i]);
-        let action = rule.action;
-        wrote = write_by(attributes, n, j, action, rule.schema, tag, wrote, out);
-        i = next_rule(index, i + 1, c.end, c.key);
+    for rule in rules_in(index, mode, 1, section_class(attributes, n, j)) {
+        wrote = write_by(attributes, n, j, rule, tag, wrote, out);
     }
     wrote
 }
@@ -190,10 +180,8 @@ fn write_sections(
         × (laid out.new result.used ≡ laid_rows (laid out.old from.used) (map row_of (attributes_from (λ (u : ℕ). u) from.unit us))) }
 {
     let mut wrote = from;
-    let mut j = 1;
-    while j <= m {
+    for j in 1..=m {
         wrote = write_section(index, attributes, n, j, mode, tag, wrote, out);
-        j += 1;
     }
     wrote
 }
@@ -216,10 +204,8 @@ pub fn write_units(
         × (laid out.new result.used ≡ laid_rows (laid out.old 0) (map row_of (attributes_from (λ (u : ℕ). u) unit us))) }
 {
     let mut wrote = Wrote { unit, used: 0 };
-    let mut k = 0;
-    while k < count {
-        wrote = write_sections(index, attributes, n, m, mode_of(words[k]), tag, wrote, out);
-        k += 1;
+    for w in &words[..count] {
+        wrote = write_sections(index, attributes, n, m, mode_of(*w), tag, wrote, out);
     }
     wrote
 }

@@ -4,6 +4,7 @@
 --     text_fewer, end_fewer, awaited_fewer               a text, an end: no binding is added
 --     text_beside, end_beside, awaited_beside            so what is held stays true behind it
 --     beside_start                                       a start: its own bindings behind those that were open
+use Rattle.std.specs.Prelude.{Ok, Err}
 use Prim.Native.Nat.{ℕ, ◌+◌, ◌-◌, ◌*◌, ◌≤◌, ◌<◌}
 use mathlib.Core.Path.{◌≡◌, refl, sym, ap, subst, ◌∙◌}
 use mathlib.Core.Logic.{inl, inr, ⊎_elim}
@@ -21,10 +22,7 @@ use Rattle.laws.proofs.Holds.{holds_cond}
 use Rattle.laws.proofs.Over.{length_over}
 use Rattle.table.specs.Table.{Table, table_of, decode, header_of, class_of}
 use Rattle.table.specs.declared.Header.{Header}
-use Rattle.lexer.specs.declared.Read.{Read}
-use Rattle.lexer.specs.declared.Read.TheVariants as read
-use Rattle.lexer.specs.declared.Ended.{Ended}
-use Rattle.lexer.specs.declared.Ended.TheVariants as ended
+use Rattle.lexer.specs.Reads.{Read, Ended}
 use Rattle.reader.specs.declared.Binding.{Binding}
 use Rattle.reader.specs.declared.Scope.{Scope}
 use Rattle.reader.specs.declared.Span.{Span}
@@ -105,13 +103,13 @@ closed_bindings z =
     holds_cond (λ (x : Scope). x.bindings ≡ z.scope.bindings) (ltb 64 z.scope.depth) (λ f. refl) (λ f. refl))
 
 text_none : (s : List ℕ) (z : Session) (at : ℕ) (x : Read) → NoStart (text_read s (reader_of z) at x)
-text_none s z at (read.Stopped y) = tt
-text_none s z at (read.End j) = tt
+text_none s z at (Err y) = tt
+text_none s z at (Ok j) = tt
 
 end_none : (s : List ℕ) (at : ℕ) (os : List Open) (x : Ended) → NoStart (end_read s at os x)
 end_none s at [] x = tt
-end_none s at (o ∷ os) (ended.Stopped y) = tt
-end_none s at (o ∷ os) (ended.Got tag) = holds_cond NoStart (same_list (bytes_of s (whole_span tag.name)) (bytes_of s o.name)) (λ e. tt) (λ e. tt)
+end_none s at (o ∷ os) (Err y) = tt
+end_none s at (o ∷ os) (Ok tag) = holds_cond NoStart (same_list (bytes_of s (whole_span tag.name)) (bytes_of s o.name)) (λ e. tt) (λ e. tt)
 
 module _ (t : Table) (s : List ℕ) (z : Session) where
   abbrev Fewer : Plan → Type 0

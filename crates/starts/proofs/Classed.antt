@@ -12,6 +12,7 @@ use mathlib.Core.Bool.{true}
 use native.Mathlib.Omega.{arith}
 use mathlib.Core.Logic.{inl}
 use lib.ListN.{length, replicate, length-replicate}
+use Rattle.std.specs.Prelude.{Result, Ok, Err}
 use Rattle.laws.specs.Over.{overwrite}
 use Rattle.table.specs.Table.{table_of, decode, header_of}
 use Rattle.laws.proofs.Over.{length_over}
@@ -21,7 +22,7 @@ use Rattle.table.specs.declared.Header.{Header}
 use Rattle.table.proofs.Accepted.{header_in}
 use Rattle.lexer.specs.Attrs.{attrs_in}
 use Rattle.lexer.specs.Tags.{tag_at}
-use Rattle.lexer.specs.declared.Tagged.{Tagged}
+use Rattle.lexer.specs.Reads.{Tagged}
 use Rattle.reader.specs.declared.Found.{Found}
 use Rattle.reader.specs.declared.Found.TheVariants as found
 use Rattle.reader.specs.Namespaces.{declarations_of}
@@ -30,7 +31,7 @@ use Rattle.reader.specs.Spans.{whole_span}
 use Rattle.reader.specs.Stored.{stored_space}
 use Rattle.reader.specs.Scope.{opens_of}
 use Rattle.reader.specs.Known.{keys_in, KeysAt, Within}
-use Rattle.model.specs.Elements.{element_of, space_of}
+use Rattle.model.specs.Elements.{Element, element_of, space_of}
 use Rattle.attributes.specs.declared.Placing.{Placing}
 use Rattle.attributes.specs.Attributes.{placing_of, attributes_in, sections_in}
 use Rattle.attributes.specs.Known.{classes_in, ClassesAt}
@@ -42,8 +43,7 @@ use Rattle.sessions.specs.Turns.{TurnReady, LoopReady, Beside, Met, DecidedAs, d
 use Rattle.sessions.specs.Session.{Session}
 use Rattle.sessions.specs.declared.Head.{Head}
 use Rattle.sessions.specs.declared.Started.{Started}
-use Rattle.sessions.specs.declared.Reading.{Reading}
-use Rattle.sessions.specs.declared.Reading.TheVariants as reading
+use Rattle.sessions.specs.declared.Refusal.{Refusal}
 use Rattle.sessions.specs.declared.Planned.{Planned}
 use Rattle.sessions.specs.declared.Planned.TheVariants as planned
 use Rattle.openings.specs.declared.Decided.{Decided}
@@ -113,7 +113,7 @@ unclassed table index s known known' own attrs codes z o r m n e =
     (with_classes table s own attrs codes known z o r.beside (λ k l. absurd (omega (arith, n))) m)
 
 -- ---- what is answered
-abbrev pub Answered : List ℕ → List ℕ → List ℕ → Session → List ℕ → List ℕ → List ℕ → List ℕ → List ℕ → Planned → Plan → Type 0
+abbrev pub Answered : List ℕ → List ℕ → List ℕ → Session → List ℕ → List ℕ → List ℕ → List ℕ → List ℕ → Result Planned Refusal → Plan → Type 0
 Answered table index s z own words schemas attributes known r p =
     PlannedAs table index s z own words schemas attributes r p × Beside table s known z × Beside table s known (session_by p z)
 
@@ -122,6 +122,10 @@ pub refused_planned : (table s known : List ℕ) (z : Session) (n at : ℕ) (p :
 refused_planned table s known z n at p b e h = ((e, h), b, subst (λ (x : Plan). Beside table s known (session_by x z)) (sym e) b)
 
 -- by what was decided
+pub by_result : (table s : List ℕ) (z : Session) (σ : Element) (r q : Result Decided Refusal) (words schemas attributes : List ℕ) → r ≡ q
+    → DecidedAs (decode table) s z σ r words schemas (attributes_in attributes) (sections_in attributes) → DecidedAs (decode table) s z σ q words schemas (attributes_in attributes) (sections_in attributes)
+by_result table s z σ r q words schemas attributes e d = subst (λ (x : Result Decided Refusal). DecidedAs (decode table) s z σ x words schemas (attributes_in attributes) (sections_in attributes)) e d
+
 module _ (table s own attrs codes known : List ℕ) (z : Session) (o : Started) (k : Classed table s own attrs codes known z o) (shallow : z.scope.depth < 64) (few : z.scope.bound + o.owned ≤ 64) where
   abbrev e : Start
   e = start_of s z.scope.bindings own attrs codes o.at o.tag o.found
@@ -132,16 +136,21 @@ module _ (table s own attrs codes known : List ℕ) (z : Session) (o : Started) 
   abbrev plan : Plan
   plan = start_plan (decode table) s z e opens.declarations o.tag.next
 
-  pub decided_refused : (n : ℕ) → n ≡ decided_number (decode table) s z (element_of (decode table) s e) → (n ≡ 0 → ⊥)
-      → ((plan ≡ refused n o.at) × (n ≡ 0 → ⊥)) × Beside table s known z × Beside table s known (session_by plan z)
-  decided_refused n d h =
-      refused_planned table s known z n o.at plan k.beside (plan_refused (decode table) s z e opens o.tag.next shallow (omega (arith, few, k.met.told.owned_is)) n d h) h
+  pub decided_refused : (words schemas attributes : List ℕ) (x : Refusal)
+      → DecidedAs (decode table) s z (element_of (decode table) s e) (Err x) words schemas (attributes_in attributes) (sections_in attributes)
+      → ((plan ≡ refused x.number x.place) × (x.number ≡ 0 → ⊥)) × Beside table s known z × Beside table s known (session_by plan z)
+  unfolding element_of
+  decided_refused words schemas attributes x d =
+      let number : x.number ≡ decided_number (decode table) s z (element_of (decode table) s e) = ap (λ (y : Refusal). y.number) d.0 in
+      let place : x.place ≡ o.at = ap (λ (y : Refusal). y.place) d.0 in
+      refused_planned table s known z x.number x.place plan k.beside
+      (plan_refused (decode table) s z e opens o.tag.next shallow (omega (arith, few, k.met.told.owned_is)) x.number number d.1 ∙ ap (refused x.number) (sym place)) d.1
 
   pub decided_start : (index words schemas attributes : List ℕ) (placing : Placing) (decided : Decided) → TurnReady table (header_of table) index s z
       → placing ≡ placing_of (space_of (decode table) s (stored_space own z.scope.bindings o.found))
-      → DecidedAs (decode table) s z (element_of (decode table) s e) decided words schemas (attributes_in attributes) (sections_in attributes) → decided.number ≡ 0
-      → Answered table index s z own words schemas attributes known (planned.Start o placing decided) plan
-  decided_start index words schemas attributes placing decided ready w d h = (
+      → DecidedAs (decode table) s z (element_of (decode table) s e) (Ok decided) words schemas (attributes_in attributes) (sections_in attributes)
+      → Answered table index s z own words schemas attributes known (Ok (planned.Start o placing decided)) plan
+  decided_start index words schemas attributes placing decided ready w d = (
     record {
       attrs = attrs;
       codes = codes;
@@ -150,31 +159,30 @@ module _ (table s own attrs codes known : List ℕ) (z : Session) (o : Started) 
       told = k.met.told;
       placing_is = w;
       as_decided = d;
-      passed = h;
       shallow = shallow;
       few_bound = few;
-      openable = made_openable table (header_of table) index s z ready e decided words schemas (attributes_in attributes) (sections_in attributes) (d.made h) o.at refl k.met.told.at_inside;
+      openable = made_openable table (header_of table) index s z ready e decided words schemas (attributes_in attributes) (sections_in attributes) d.1 o.at refl k.met.told.at_inside;
     },
     k.beside,
     k.kept e o.tag.next,
   )
 
 -- by what reading the tag came to
-pub start_met : (table index s : List ℕ) (z : Session) (at : ℕ) (x : Tagged) (own attrs codes known : List ℕ) (r : Reading) → TurnReady table (header_of table) index s z → ReadAs table s z at x own attrs codes known r
-    → (o : Started) → r ≡ reading.Start o → LoopReady table index s known z × Met s z.scope.bindings own attrs codes known z.scope.bound o
+pub start_met : (table index s : List ℕ) (z : Session) (at : ℕ) (x : Tagged) (own attrs codes known : List ℕ) (r : Result Started Refusal) → TurnReady table (header_of table) index s z → ReadAs table s z at x own attrs codes known r
+    → (o : Started) → r ≡ Ok o → LoopReady table index s known z × Met s z.scope.bindings own attrs codes known z.scope.bound o
 start_met table index s z at x own attrs codes known r t h o q = (record { ready = t; beside = h.beside }, subst (ReadMet s z own attrs codes known) q h.met)
 
-module _ (table s : List ℕ) (z : Session) (at : ℕ) (x : Tagged) (own attrs codes known : List ℕ) (r : Reading) (h : ReadAs table s z at x own attrs codes known r) where
+module _ (table s : List ℕ) (z : Session) (at : ℕ) (x : Tagged) (own attrs codes known : List ℕ) (r : Result Started Refusal) (h : ReadAs table s z at x own attrs codes known r) where
   abbrev read_by : Plan
   read_by = plan_by (decode table) s z (start_read s at (opens_of z.scope) (tag_at s (at + 1)) x)
 
-  pub start_read_lem : (index words schemas attributes known' : List ℕ) (o : Started) → r ≡ reading.Start o → (a : Planned)
-      → Answered table index s z own words schemas attributes known' a (read_plan (decode table) s z own attrs codes (reading.Start o)) → Answered table index s z own words schemas attributes known' a read_by
+  pub start_read_lem : (index words schemas attributes known' : List ℕ) (o : Started) → r ≡ Ok o → (a : Result Planned Refusal)
+      → Answered table index s z own words schemas attributes known' a (read_plan (decode table) s z own attrs codes (Ok o)) → Answered table index s z own words schemas attributes known' a read_by
   start_read_lem index words schemas attributes known' o q a w =
       subst (Answered table index s z own words schemas attributes known' a) (sym (h.plan_is ∙ ap (read_plan (decode table) s z own attrs codes) q)) w
 
-  pub refused_read : (n p : ℕ) → r ≡ reading.Refused n p → ((read_by ≡ refused n p) × (n ≡ 0 → ⊥)) × Beside table s known z × Beside table s known (session_by read_by z)
-  refused_read n p q = refused_planned table s known z n p read_by h.beside (h.plan_is ∙ ap (read_plan (decode table) s z own attrs codes) q) (subst (ReadMet s z own attrs codes known) q h.met)
+  pub refused_read : (x : Refusal) → r ≡ Err x → ((read_by ≡ refused x.number x.place) × (x.number ≡ 0 → ⊥)) × Beside table s known z × Beside table s known (session_by read_by z)
+  refused_read x q = refused_planned table s known z x.number x.place read_by h.beside (h.plan_is ∙ ap (read_plan (decode table) s z own attrs codes) q) (subst (ReadMet s z own attrs codes known) q h.met)
 
 -- ---- the start of step, advance and run
 pub from_loop : (table : List ℕ) (header : Header) (index s : List ℕ) (head : Head) (levels bindings : List ℕ) → TurnReady table header index s (session_at head levels bindings) → length bindings ≡ 256

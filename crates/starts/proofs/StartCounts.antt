@@ -1,24 +1,19 @@
 -- What is counted and laid of a start, in the model's terms.
---     not_heavy                                  what the count of units says
 --     words_back, taken_back, small_at           what the arrays hold
 --     units_after, written_length                the units and the records of the model
 --     units_loaded, records_loaded               those of the attribute units
 --     element_records_lem                            the records of the element along its strands
-use Prim.Native.Nat.{ℕ, ◌+◌, ◌≤◌, ◌<◌}
+use Prim.Native.Nat.{ℕ, ◌+◌, ◌<◌}
 use mathlib.Core.Path.{◌≡◌, refl, sym, ap, ap₂, ◌∙◌}
 use mathlib.Core.List.{List, map}
-use mathlib.Core.Bool.{true, false, cond}
+use mathlib.Core.Bool.{true, false}
 use mathlib.Core.Option.{none}
-use mathlib.Core.Logic.{⊎_elim}
 use native.Mathlib.Omega.{arith}
-use borrow.Author.Tests.{lt-ltb}
 use lib.ListN.{length, get_or, take, length-map, length-append, get_or-map}
 use lib.Seq.{get_or-take}
-use lib.Dec.{ltb}
 use Rattle.laws.specs.Gather.{gather, total}
 use Rattle.laws.specs.Members.{All}
 use Rattle.laws.specs.Over.{overwrite}
-use Rattle.laws.specs.Reading.{le_or_lt}
 use Rattle.laws.proofs.Elementwise as elementwise
 use Rattle.laws.proofs.Holds.{each_at}
 use Rattle.table.specs.Table.{Table, header_of, decode}
@@ -48,12 +43,6 @@ use Rattle.sessions.specs.Sessions.{state_of}
 use Rattle.sessions.specs.Session.{Session}
 use Rattle.openings.proofs.Deciding.{words_of, load_units, load_records}
 use Rattle.sessions.proofs.NewStrands.{ModeIn}
-
--- ---- counts
--- a number 0 says that the units are not too many
-pub not_heavy : (r n : ℕ) → r ≡ cond (ltb 65536 n) 24 0 → r ≡ 0 → n ≤ 65536
-not_heavy r n e z =
-    ⊎_elim (λ l. l) (λ l. absurd (let q : ◌≡◌ {A = ℕ} (cond (ltb 65536 n) 24 0) 24 = rw (lt-ltb 65536 n l) in omega arith)) (le_or_lt n 65536)
 
 -- ---- what was laid
 module _ (l : List ℕ) (es : List Entry) (words : List ℕ) (n : ℕ) where

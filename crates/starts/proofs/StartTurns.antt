@@ -3,6 +3,7 @@
 --     deep_plan, bound_plan                                  21 and 22
 --     made_openable                                          what is decided can be written
 --     begin_plan, start_begins, end_begins, text_begins      one event, by how it begins
+use Rattle.std.specs.Prelude.{Ok}
 use Prim.Native.Nat.{ℕ, zero, suc, ◌+◌, ◌-◌, ◌*◌, ◌%◌, ◌^◌, ◌≤◌, ◌<◌}
 use mathlib.Core.Path.{◌≡◌, refl, sym, ap, ap₂, subst, ◌∙◌}
 use mathlib.Core.List.{List, [], ◌∷◌, ◌++◌}
@@ -25,7 +26,7 @@ use Rattle.table.specs.declared.Action.{Action}
 use Rattle.table.specs.declared.Header.{Header}
 use Rattle.table.proofs.Accepted.{header_in, all_listed}
 use Rattle.lexer.specs.Begins.{begin_at}
-use Rattle.lexer.specs.declared.Begin.{Begin}
+use Rattle.lexer.specs.Reads.{BeginRead}
 use Rattle.lexer.specs.declared.Begin.TheVariants as begin
 use Rattle.lexer.proofs.BeginLaws.{BeginInside, begin_inside}
 use Rattle.reader.specs.declared.Binding.{Binding}
@@ -188,7 +189,7 @@ module _ (table : List ℕ) (header : Header) (index s : List ℕ) (z : Session)
 
 -- ---- one event
 module _ (t : Table) (s : List ℕ) (head : Head) (levels bindings spaces strands : List ℕ) (a : head.awaited ≡ false)
-    (b r : Begin) (p : r ≡ begin_at s head.place (not (eqb head.depth 0)) head.closed) (q : r ≡ b) where
+    (b r : BeginRead) (p : r ≡ begin_at s head.place (not (eqb head.depth 0)) head.closed) (q : r ≡ b) where
   abbrev z₃ : Session
   z₃ = session_of head levels bindings spaces strands
 
@@ -200,19 +201,19 @@ module _ (t : Table) (s : List ℕ) (head : Head) (levels bindings spaces strand
       ∙ ap (λ (o : Bool). read_at s (reader_of z₃) (begin_at s head.place (not o) head.closed)) (opens_nil z₃.scope)
       ∙ ap (read_at s (reader_of z₃)) (sym p ∙ q))
 
-begins : (s : List ℕ) (head : Head) (b r : Begin) → r ≡ begin_at s head.place (not (eqb head.depth 0)) head.closed → r ≡ b → BeginInside s head.place (not (eqb head.depth 0)) head.closed b
+begins : (s : List ℕ) (head : Head) (b r : BeginRead) → r ≡ begin_at s head.place (not (eqb head.depth 0)) head.closed → r ≡ b → BeginInside s head.place (not (eqb head.depth 0)) head.closed b
 begins s head b r p q =
     subst (BeginInside s head.place (not (eqb head.depth 0)) head.closed) (sym p ∙ q) (begin_inside s head.place (not (eqb head.depth 0)) head.closed)
 
 some_level : (d : ℕ) → not (eqb d 0) ≡ true → 1 ≤ d
 some_level d e = omega (arith, eqb-false d 0 (not-true (eqb d 0) e))
 
-module _ (s : List ℕ) (head : Head) (r : Begin) (p : r ≡ begin_at s head.place (not (eqb head.depth 0)) head.closed) (at : ℕ) where
-  pub start_begins : r ≡ begin.Start at → at + 1 ≤ length s
-  start_begins q = let k = begins s head (begin.Start at) r p q in omega (arith, k.1)
+module _ (s : List ℕ) (head : Head) (r : BeginRead) (p : r ≡ begin_at s head.place (not (eqb head.depth 0)) head.closed) (at : ℕ) where
+  pub start_begins : r ≡ Ok (begin.Start at) → at + 1 ≤ length s
+  start_begins q = let k = begins s head (Ok (begin.Start at)) r p q in omega (arith, k.1)
 
-  pub end_begins : r ≡ begin.End at → (1 ≤ head.depth) × (at + 2 ≤ length s)
-  end_begins q = let k = begins s head (begin.End at) r p q in (some_level head.depth k.4, omega (arith, k.1))
+  pub end_begins : r ≡ Ok (begin.End at) → (1 ≤ head.depth) × (at + 2 ≤ length s)
+  end_begins q = let k = begins s head (Ok (begin.End at)) r p q in (some_level head.depth k.4, omega (arith, k.1))
 
-  pub text_begins : r ≡ begin.Text at → (1 ≤ head.depth) × (at ≤ length s)
-  text_begins q = let k = begins s head (begin.Text at) r p q in (some_level head.depth k.3, omega (arith, k.1))
+  pub text_begins : r ≡ Ok (begin.Text at) → (1 ≤ head.depth) × (at ≤ length s)
+  text_begins q = let k = begins s head (Ok (begin.Text at)) r p q in (some_level head.depth k.3, omega (arith, k.1))

@@ -15,6 +15,7 @@ use borrow.Author.Tests.{ltb-false}
 use lib.Dec.{ltb}
 use lib.ListN.{length, take, drop}
 use lib.Seq.{take_all, take-append-le}
+use Rattle.std.specs.Prelude.{Result, Ok, Err}
 use Rattle.laws.specs.Lists.{any}
 use Rattle.laws.specs.Gather.{gather}
 use Rattle.laws.specs.Members.{All}
@@ -26,16 +27,16 @@ use Rattle.lexer.specs.Begins.{begin_at}
 use Rattle.lexer.specs.declared.Name.{Name}
 use Rattle.lexer.specs.declared.Attr.{Attr}
 use Rattle.lexer.specs.declared.Tag.{Tag}
-use Rattle.lexer.specs.declared.Tagged.TheVariants as tagged
 use Rattle.lexer.proofs.Arrays.{laid_there}
 use Rattle.lexer.proofs.Inside.{PrefixTo, NameInside, AttrBehind, TagInside, TaggedInside, TagReadInside, tag_inside}
 use Rattle.reader.specs.declared.Binding.{Binding}
 use Rattle.reader.specs.declared.Scope.{Scope}
 use Rattle.reader.specs.declared.Found.{Found}
-use Rattle.reader.specs.declared.Meant.{Meant}
-use Rattle.reader.specs.declared.Meant.TheVariants as told
+use Rattle.reader.specs.declared.Element.{Element}
+use Rattle.reader.specs.declared.NamespaceError.{NamespaceError}
+use Rattle.reader.specs.declared.NamespaceError.TheVariants.{BadPrefix, Duplicate}
 use Rattle.reader.specs.Namespaces.{declarations_of, refused_binding}
-use Rattle.reader.specs.Stored.{bindings_in, binding_numbers, laid_bindings, fitting, found_element, codes_of, coded, twice_in, is_unbound, meant_of, codes_after}
+use Rattle.reader.specs.Stored.{bindings_in, binding_numbers, laid_bindings, fitting, found_element, codes_of, coded, twice_in, is_unbound, element_with, meant_of, codes_after}
 use Rattle.reader.specs.Known.{keys_in}
 use Rattle.reader.specs.Events.{ReaderState, bindings_of, is_nil, read_at, next_by, next}
 use Rattle.reader.specs.Scope.{opens_of}
@@ -67,7 +68,7 @@ attr_small s at short a h =
     let n = i.name in
     record { part = omega arith; end = omega arith; value = omega arith; stop = omega arith }
 
-module _ (s : List ℕ) (short : length s ≤ 16777215) (at : ℕ) (t : Tag) (e : (tag_at s at).answer ≡ tagged.Got t) where
+module _ (s : List ℕ) (short : length s ≤ 16777215) (at : ℕ) (t : Tag) (e : (tag_at s at).answer ≡ Ok t) where
   pub tag_told : TagTold s t (tag_at s at).attrs
   tag_told =
       let i : TagReadInside s at (tag_at s at) = tag_inside s at in
@@ -94,12 +95,12 @@ next_begun s z e = ap (λ (b : Bool). next_by s z b z.opened) e
 
 -- ---- what it means
 -- what `meaning` gives and leaves in its arrays, of a name and attributes
-abbrev pub Given : List ℕ → Name → List Attr → List ℕ → List ℕ → ℕ → List ℕ → List ℕ → Meant → List ℕ → List ℕ → List ℕ → Type 0
+abbrev pub Given : List ℕ → Name → List Attr → List ℕ → List ℕ → ℕ → List ℕ → List ℕ → Result Element NamespaceError → List ℕ → List ℕ → List ℕ → Type 0
 Given s n attrs own open' bound codes known m own' codes' known' =
     let ds = declarations_of s attrs in
     let down = laid_bindings (fitting s ds) own in
     let refused = any (refused_binding s) ds in
-    (m ≡ cond refused told.Undeclared (meant_of s down (length ds) open' bound n attrs))
+    (m ≡ cond refused (Err BadPrefix) (meant_of s down (length ds) open' bound n attrs))
     × (own' ≡ down)
     × (codes' ≡ cond refused codes (codes_after s down (length ds) open' bound n attrs codes))
     × (known' ≡ cond refused known (overwrite known bound (keys_in s down (length ds))))
@@ -114,7 +115,7 @@ pub record ElementGiven (s : List ℕ) (n : Name) (attrs : List Attr) (open' : L
   pub known_is : known' ≡ overwrite known bound (keys_in s own' owned)
 
 pub element_given : (s : List ℕ) (n : Name) (attrs : List Attr) (own open' : List ℕ) (bound : ℕ) (codes known : List ℕ) (f : Found) (owned : ℕ) (own' codes' known' : List ℕ)
-    → Given s n attrs own open' bound codes known (told.Element f owned) own' codes' known'
+    → Given s n attrs own open' bound codes known (Ok (element_with f owned)) own' codes' known'
     → ElementGiven s n attrs open' bound known f owned own' codes' known'
 unfolding meant_of codes_after
 element_given s n attrs own open' bound codes known f owned own' codes' known' g =
@@ -134,13 +135,15 @@ element_given s n attrs own open' bound codes known f owned own' codes' known' g
     }
   where
     cases : (r u t w : Bool) (x : Found) (k : ℕ)
-        → told.Element f owned ≡ cond r told.Undeclared (cond u told.Undeclared (cond t told.Undeclared (cond w told.Twice (told.Element x k))))
+        → Ok (element_with f owned) ≡ cond r (Err BadPrefix) (cond u (Err BadPrefix) (cond t (Err BadPrefix) (cond w (Err Duplicate) (Ok (element_with x k)))))
         → (r ≡ false) × (u ≡ false) × (t ≡ false) × (owned ≡ k) × (f ≡ x)
     cases true u t w x k e = absurd (let z : ◌≡◌ {A = ℕ} 0 1 = cc in omega arith)
     cases false true t w x k e = absurd (let z : ◌≡◌ {A = ℕ} 0 1 = cc in omega arith)
     cases false false true w x k e = absurd (let z : ◌≡◌ {A = ℕ} 0 1 = cc in omega arith)
     cases false false false true x k e = absurd (let z : ◌≡◌ {A = ℕ} 0 1 = cc in omega arith)
-    cases false false false false x k e = (refl, refl, refl, cc, cc)
+    cases false false false false x k e =
+        let p : element_with f owned ≡ element_with x k = cc in
+        (refl, refl, refl, ap (λ (y : Element). y.owned) p, ap (λ (y : Element). y.found) p)
 
 -- ---- its declarations
 pub own_few : (s : List ℕ) (t : Tag) (attrs : List Attr) → TagTold s t attrs → length (declarations_of s attrs) ≤ 16

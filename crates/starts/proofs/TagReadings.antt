@@ -1,6 +1,6 @@
 -- What reading a start tag comes to.
 --     known_beside                                the keys and classes of the open bindings stay where a tag's keys are laid down
---     start_read_lem, undeclared_read, twice_read     a tag that was read, by what it means
+--     start_read_lem, refused_read                    a tag that was read, by what it means
 --     attrs_read, answer_read, stopped_read       a tag, by what reading it answers
 use Prim.Native.Nat.{ℕ, ◌+◌, ◌-◌, ◌*◌, ◌≤◌, ◌<◌}
 use mathlib.Core.Path.{◌≡◌, sym, ap, ap₂, subst, ◌∙◌}
@@ -10,6 +10,7 @@ use mathlib.Core.Logic.{inl}
 use native.Mathlib.Omega.{arith}
 use borrow.Author.Tests.{leb-true, le-leb}
 use lib.ListN.{length, get_or, take}
+use Rattle.std.specs.Prelude.{Result, Ok, Err}
 use Rattle.laws.specs.Lists.{any}
 use Rattle.laws.specs.Lists as lists
 use Rattle.laws.specs.Members.{All}
@@ -19,23 +20,21 @@ use Rattle.laws.proofs.Elementwise.{each_map}
 use Rattle.table.specs.Table.{Table, decode}
 use Rattle.table.specs.declared.Header.{Header}
 use Rattle.lexer.specs.Attrs.{attrs_in, laid}
-use Rattle.lexer.specs.Stops.{number_of, stop_place}
 use Rattle.lexer.specs.Tags.{tag_at}
 use Rattle.lexer.specs.declared.Attr.{Attr}
 use Rattle.lexer.specs.declared.Stop.{Stop}
-use Rattle.lexer.specs.declared.Stop.TheVariants.{Bad, Long, Cut}
 use Rattle.lexer.specs.declared.Tag.{Tag}
-use Rattle.lexer.specs.declared.Tagged.{Tagged}
-use Rattle.lexer.specs.declared.Tagged.TheVariants as tagged
+use Rattle.lexer.specs.Reads.{Tagged}
 use Rattle.lexer.proofs.Inside.{TagInside, TaggedInside, TagReadInside, tag_inside}
 use Rattle.reader.specs.declared.Binding.{Binding}
 use Rattle.reader.specs.declared.Found.{Found}
 use Rattle.reader.specs.declared.Found.TheVariants as found
-use Rattle.reader.specs.declared.Meant.{Meant}
-use Rattle.reader.specs.declared.Meant.TheVariants as told
+use Rattle.reader.specs.declared.Element.{Element}
+use Rattle.reader.specs.declared.NamespaceError.{NamespaceError}
+use Rattle.reader.specs.declared.NamespaceError.TheVariants.{BadPrefix, Duplicate}
 use Rattle.reader.specs.Spans.{whole_span, part_span}
 use Rattle.reader.specs.Namespaces.{Namespace, nothing, xml, declared, ReadAttribute, declarations_of, refused_binding, meant, meaning_of}
-use Rattle.reader.specs.Stored.{at_most, Coded, coded, codes_of, code_then, found_attribute, found_in, stored_space, laid_bindings, fitting}
+use Rattle.reader.specs.Stored.{at_most, Coded, coded, codes_of, code_then, found_attribute, found_in, element_with, meant_number, stored_space, laid_bindings, fitting}
 use Rattle.reader.specs.Known.{Within, keys_in, plain_attr}
 use Rattle.reader.specs.Events.{bindings_of, start_read, start_meant}
 use Rattle.reader.specs.Scope.{opens_of}
@@ -50,13 +49,14 @@ use Rattle.attributes.proofs.Sorted.{kept_are}
 use Rattle.sessions.specs.Sessions.{session_of}
 use Rattle.sessions.specs.Stepping as plan
 use Rattle.sessions.specs.Stepping.{plan_by, start_plan}
-use Rattle.sessions.specs.Turns.{TurnReady, Beside, start_of, Told, Met, ReadAs}
+use Rattle.sessions.specs.Turns.{refusal_of, TurnReady, Beside, start_of, Told, Met, ReadAs}
 use Rattle.sessions.specs.Session.{Session}
 use Rattle.sessions.specs.declared.Head.{Head}
-use Rattle.sessions.specs.declared.Reading.{Reading}
-use Rattle.sessions.specs.declared.Reading.TheVariants as reading
+use Rattle.sessions.specs.declared.Refusal.{Refusal}
+use Rattle.sessions.specs.declared.Started.{Started}
 use Rattle.sessions.proofs.Clauses.{Clauses, clauses}
 use Rattle.sessions.proofs.CoherentSound.{counted, opened}
+use Rattle.sessions.proofs.EventTurns.{stop_nonzero}
 use Rattle.starts.proofs.TagMeant.{TagTold, tag_told, attrs_back, bindings_open, Given, ElementGiven, element_given, own_few, own_laid}
 use Rattle.reader.proofs.Within.{element_within}
 use Rattle.reader.proofs.Plain.{plain_zeros}
@@ -120,9 +120,9 @@ known_beside table s z known known' own n false room few e b =
 -- what `meaning` answers and leaves in its arrays, of the tag whose < stands at a place
 module _ (table : List ℕ) (header : Header) (index s : List ℕ) (head : Head) (levels bindings spaces strands : List ℕ)
     (r : TurnReady table header index s (session_of head levels bindings spaces strands))
-    (at : ℕ) (tag : Tag) (attrs : List ℕ) (lt : at + 1 ≤ length s) (e : (tag_at s (at + 1)).answer ≡ tagged.Got tag) (back : attrs_in attrs tag.count ≡ (tag_at s (at + 1)).attrs)
+    (at : ℕ) (tag : Tag) (attrs : List ℕ) (lt : at + 1 ≤ length s) (e : (tag_at s (at + 1)).answer ≡ Ok tag) (back : attrs_in attrs tag.count ≡ (tag_at s (at + 1)).attrs)
     (own₀ codes₀ known₀ : List ℕ) (b : Beside table s known₀ (session_of head levels bindings spaces strands))
-    (m : Meant) (own codes known : List ℕ) (g : Given s tag.name (attrs_in attrs tag.count) own₀ bindings head.bound codes₀ known₀ m own codes known) where
+    (m : Result Element NamespaceError) (own codes known : List ℕ) (g : Given s tag.name (attrs_in attrs tag.count) own₀ bindings head.bound codes₀ known₀ m own codes known) where
   abbrev t : Table
   t = decode table
 
@@ -167,11 +167,11 @@ module _ (table : List ℕ) (header : Header) (index s : List ℕ) (head : Head)
       subst (MeaningHeld s) means
       (meaning_held s (bindings_of (opens_of z.scope)) (bindings_in_lem s (opens_of z.scope) (opened t s z clear)) tag.name (at + 1) (tag_at s (at + 1)).attrs inside.each)
 
-  read_as : start_read s at (opens_of z.scope) (tag_at s (at + 1)) (tagged.Got tag) ≡ start_meant at (opens_of z.scope) tag (as_meaning own bindings (attributes_in s own bindings (coded all codes)) ds m)
+  read_as : start_read s at (opens_of z.scope) (tag_at s (at + 1)) (Ok tag) ≡ start_meant at (opens_of z.scope) tag (as_meaning own bindings (attributes_in s own bindings (coded all codes)) ds m)
   read_as = ap (start_meant at (opens_of z.scope) tag) means
 
   -- an element
-  module _ (f : Found) (owned : ℕ) (q : m ≡ told.Element f owned) where
+  module _ (f : Found) (owned : ℕ) (q : m ≡ Ok (element_with f owned)) where
     given : ElementGiven s tag.name all bindings head.bound known₀ f owned own codes known
     given = element_given s tag.name all own₀ bindings head.bound codes₀ known₀ f owned own codes known (sym q ∙ g.0, g.1, g.2, g.3)
 
@@ -185,7 +185,7 @@ module _ (table : List ℕ) (header : Header) (index s : List ℕ) (head : Head)
 
     element_in_lem : NamespaceHeld s (stored_space own bindings f) × All (AttributeHeld s) (attributes_in s own bindings (coded all codes))
     element_in_lem =
-        let k : MeaningHeld s (meant (stored_space own bindings f) (attributes_in s own bindings (coded all codes)) ds) = subst (λ (x : Meant). MeaningHeld s (as_meaning own bindings (attributes_in s own bindings (coded all codes)) ds x)) q meaning_in in
+        let k : MeaningHeld s (meant (stored_space own bindings f) (attributes_in s own bindings (coded all codes)) ds) = subst (λ (x : Result Element NamespaceError). MeaningHeld s (as_meaning own bindings (attributes_in s own bindings (coded all codes)) ds x)) q meaning_in in
         (k.0, k.1)
 
     tag_gives : Told s bindings own attrs codes at tag f owned ds
@@ -203,9 +203,9 @@ module _ (table : List ℕ) (header : Header) (index s : List ℕ) (head : Head)
           few_codes = coded_all (λ (c : ℕ). c < 82) (codes_small s own owned bindings head.bound all);
         }
 
-    tag_plan : plan_by t s z (start_read s at (opens_of z.scope) (tag_at s (at + 1)) (tagged.Got tag)) ≡ start_plan t s z (start_of s bindings own attrs codes at tag f) ds tag.next
+    tag_plan : plan_by t s z (start_read s at (opens_of z.scope) (tag_at s (at + 1)) (Ok tag)) ≡ start_plan t s z (start_of s bindings own attrs codes at tag f) ds tag.next
     tag_plan =
-        ap (plan_by t s z) (read_as ∙ ap (λ (x : Meant). start_meant at (opens_of z.scope) tag (as_meaning own bindings (attributes_in s own bindings (coded all codes)) ds x)) q)
+        ap (plan_by t s z) (read_as ∙ ap (λ (x : Result Element NamespaceError). start_meant at (opens_of z.scope) tag (as_meaning own bindings (attributes_in s own bindings (coded all codes)) ds x)) q)
         ∙ ap (λ (as' : List ReadAttribute). start_plan t s z (record { at = at; name = whole_span tag.name; part = part_span tag.name; namespace = stored_space own bindings f; attributes = as'; empty = tag.empty }) ds tag.next)
         (kept_are s own bindings (coded all codes))
 
@@ -223,41 +223,44 @@ module _ (table : List ℕ) (header : Header) (index s : List ℕ) (head : Head)
             plain_codes = λ h. coded_all (λ (c : ℕ). c ≡ 0) (plain_zeros s own owned bindings head.bound all (sym p ∙ h));
           }
 
-      pub start_read_lem : ReadAs table s z at (tagged.Got tag) own attrs codes known (reading.Start (record { at = at; tag = tag; found = f; owned = owned; plain = plain }))
+      pub start_read_lem : ReadAs table s z at (Ok tag) own attrs codes known (Ok (record { at = at; tag = tag; found = f; owned = owned; plain = plain }))
       start_read_lem = record { plan_is = tag_plan; beside = still_beside; met = tag_met }
 
   -- 5 and 6
-  pub undeclared_read : m ≡ told.Undeclared → ReadAs table s z at (tagged.Got tag) own attrs codes known (reading.Refused 5 at)
+  undeclared_read : m ≡ Err BadPrefix → ReadAs table s z at (Ok tag) own attrs codes known (Err (record { number = 5; place = at }))
   undeclared_read q =
       record {
-        plan_is = ap (plan_by t s z) (read_as ∙ ap (λ (x : Meant). start_meant at (opens_of z.scope) tag (as_meaning own bindings (attributes_in s own bindings (coded all codes)) ds x)) q);
+        plan_is = ap (plan_by t s z) (read_as ∙ ap (λ (x : Result Element NamespaceError). start_meant at (opens_of z.scope) tag (as_meaning own bindings (attributes_in s own bindings (coded all codes)) ds x)) q);
         beside = still_beside;
         met = λ e. omega arith;
       }
 
-  pub twice_read : m ≡ told.Twice → ReadAs table s z at (tagged.Got tag) own attrs codes known (reading.Refused 6 at)
+  twice_read : m ≡ Err Duplicate → ReadAs table s z at (Ok tag) own attrs codes known (Err (record { number = 6; place = at }))
   twice_read q =
       record {
-        plan_is = ap (plan_by t s z) (read_as ∙ ap (λ (x : Meant). start_meant at (opens_of z.scope) tag (as_meaning own bindings (attributes_in s own bindings (coded all codes)) ds x)) q);
+        plan_is = ap (plan_by t s z) (read_as ∙ ap (λ (x : Result Element NamespaceError). start_meant at (opens_of z.scope) tag (as_meaning own bindings (attributes_in s own bindings (coded all codes)) ds x)) q);
         beside = still_beside;
         met = λ e. omega arith;
       }
+
+  pub refused_read : (x : NamespaceError) (n : ℕ) → m ≡ Err x → n ≡ meant_number (Err x) → ReadAs table s z at (Ok tag) own attrs codes known (Err (record { number = n; place = at }))
+  refused_read BadPrefix n q e = subst (λ (k : ℕ). ReadAs table s z at (Ok tag) own attrs codes known (Err (record { number = k; place = at }))) (sym e) (undeclared_read q)
+  refused_read Duplicate n q e = subst (λ (k : ℕ). ReadAs table s z at (Ok tag) own attrs codes known (Err (record { number = k; place = at }))) (sym e) (twice_read q)
 
 -- ---- by what reading the tag answers
 -- the array that was written has the attributes that were read
-pub attrs_read : (s : List ℕ) (at : ℕ) (tag : Tag) (array attrs : List ℕ) → length s ≤ 16777215 → (tag_at s (at + 1)).answer ≡ tagged.Got tag → attrs ≡ laid (tag_at s (at + 1)).attrs array
+pub attrs_read : (s : List ℕ) (at : ℕ) (tag : Tag) (array attrs : List ℕ) → length s ≤ 16777215 → (tag_at s (at + 1)).answer ≡ Ok tag → attrs ≡ laid (tag_at s (at + 1)).attrs array
     → attrs_in attrs tag.count ≡ (tag_at s (at + 1)).attrs
 attrs_read s at tag array attrs short e p = ap (λ (a : List ℕ). attrs_in a tag.count) p ∙ attrs_back s short (at + 1) tag e array
 
-pub answer_read : (table s : List ℕ) (z : Session) (at : ℕ) (x : Tagged) (own attrs codes known : List ℕ) (r : Reading) → (tag_at s (at + 1)).answer ≡ x
+pub answer_read : (table s : List ℕ) (z : Session) (at : ℕ) (x : Tagged) (own attrs codes known : List ℕ) (r : Result Started Refusal) → (tag_at s (at + 1)).answer ≡ x
     → ReadAs table s z at x own attrs codes known r → ReadAs table s z at (tag_at s (at + 1)).answer own attrs codes known r
 answer_read table s z at x own attrs codes known r e h = subst (λ (a : Tagged). ReadAs table s z at a own attrs codes known r) (sym e) h
 
-number_some : (x : Stop) → number_of x ≡ 0 → ⊥
-number_some (Bad p) e = omega arith
-number_some (Long p) e = omega arith
-number_some Cut e = omega arith
-
-pub stopped_read : (table s : List ℕ) (z : Session) (at : ℕ) (x : Stop) (n place : ℕ) (own attrs codes known : List ℕ) → n ≡ number_of x → place ≡ stop_place s x → Beside table s known z
-    → ReadAs table s z at (tagged.Stopped x) own attrs codes known (reading.Refused n place)
-stopped_read table s z at x n place own attrs codes known p q b = record { plan_is = ap₂ plan.refused (sym p) (sym q); beside = b; met = λ e. number_some x (sym p ∙ e) }
+pub stopped_read : (table s : List ℕ) (z : Session) (at : ℕ) (x : Stop) (r : Refusal) (own attrs codes known : List ℕ) → r ≡ refusal_of s x → Beside table s known z
+    → ReadAs table s z at (Err x) own attrs codes known (Err r)
+stopped_read table s z at x r own attrs codes known e b = record {
+  plan_is = ap (λ (y : Refusal). plan.refused y.number y.place) (sym e);
+  beside = b;
+  met = λ q. stop_nonzero x (sym (ap (λ (y : Refusal). y.number) e) ∙ q);
+}

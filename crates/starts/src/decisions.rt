@@ -19,12 +19,12 @@ use attributes::sections::number_sections;
 use attributes::{HELD, Placing};
 use openings::Decided;
 use openings::entering::next_strands;
-use openings::weighing::{only, weigh};
+use openings::weighing::weigh;
 use reader::Scope;
-use sessions::{BINDINGS, Head, STRANDS, Started};
+use sessions::{BINDINGS, Head, Refusal, STRANDS, Started};
 use strands::LEVELS;
 
-// What a start makes.
+// What a start makes; or 23 or 24.
 pub fn decide(
     index: &[u32; 256],
     scene: &[u8],
@@ -40,7 +40,7 @@ pub fn decide(
     words: &mut [u32; STRANDS],
     schemas: &mut [u32; STRANDS],
     attributes: &mut [u32; HELD],
-) -> Decided
+) -> Result<Decided, Refusal>
     requires { (head.depth < 64) × (head.units ≤ 65536) × (1 ≤ head.depth → get_or (level_spaces levels.now) (4 * (head.depth - 1) + 3) 0 ≤ 16) × (head.bound ≤ 64) × All (λ (c : Coded). c.code < 82) (coded (attrs_in attrs.now started.tag.count) codes.now) × (started.plain ≡ true → all (plain_attr scene.now) (attrs_in attrs.now started.tag.count) ≡ true) }
     ensures { (table : List ℕ) (header : Header) → (
         let s = scene.now in
@@ -56,20 +56,26 @@ pub fn decide(
         ) }
 {
     let found = started.found;
-    let count = next_strands(
+    let Some(count) = next_strands(
         index, scene, own, outer, found, placing, head.depth, levels, words, schemas,
-    );
-    if STRANDS < count {
-        return only(23);
-    }
+    ) else {
+        return Err(Refusal {
+            number: 23,
+            place: started.at,
+        });
+    };
+    let heavy = Refusal {
+        number: 24,
+        place: started.at,
+    };
     let tag = started.tag;
     if started.plain {
         let k = hold_plain(attrs, tag.count, attributes);
-        return weigh(index, attributes, k, 0, count, head.units, words);
+        return weigh(index, attributes, k, 0, count, head.units, words).ok_or(heavy);
     }
     let n = hold(
         scene, attrs, tag.count, own, outer, head.bound, known, codes, attributes,
     );
     let m = number_sections(scene, own, outer, found, attributes, n);
-    weigh(index, attributes, n, m, count, head.units, words)
+    weigh(index, attributes, n, m, count, head.units, words).ok_or(heavy)
 }

@@ -20,7 +20,7 @@ use crate::readings::read_start;
 use attributes::HELD;
 use attributes::held::{put_classes, space_of};
 use reader::Scope;
-use sessions::{BINDINGS, DEPTH, Head, Planned, Reading, STRANDS, Started};
+use sessions::{BINDINGS, DEPTH, Head, Planned, Refusal, STRANDS, Started};
 use strands::LEVELS;
 use table::words::header_of;
 
@@ -40,7 +40,7 @@ fn plan_element(
     attributes: &mut [u32; HELD],
     words: &mut [u32; STRANDS],
     schemas: &mut [u32; STRANDS],
-) -> Planned
+) -> Result<Planned, Refusal>
     requires { LoopReady table.now index.now scene.now known.old (session_at head levels.now bindings.now) × Met scene.now bindings.now own.now attrs.now codes.now known.old head.bound started }
     ensures { let s = scene.now in
         let z = session_at head levels.now bindings.now in
@@ -54,10 +54,16 @@ fn plan_element(
     let at = started.at;
     let owned = started.owned;
     if DEPTH <= head.depth {
-        return Planned::Refused(21, at);
+        return Err(Refusal {
+            number: 21,
+            place: at,
+        });
     }
     if BINDINGS < head.bound + owned {
-        return Planned::Refused(22, at);
+        return Err(Refusal {
+            number: 22,
+            place: at,
+        });
     }
     if owned != 0 {
         put_classes(
@@ -75,11 +81,12 @@ fn plan_element(
     let decided = decide(
         index, scene, started, placing, head, attrs, codes, own, bindings, known, levels, words,
         schemas, attributes,
-    );
-    if decided.number != 0 {
-        return Planned::Refused(decided.number, at);
-    }
-    Planned::Start(started, placing, decided)
+    )?;
+    Ok(Planned::Start {
+        started,
+        placing,
+        decided,
+    })
 }
 
 // The start whose < stands at a place.
@@ -97,7 +104,7 @@ pub fn plan_start(
     attributes: &mut [u32; HELD],
     words: &mut [u32; STRANDS],
     schemas: &mut [u32; STRANDS],
-) -> Planned
+) -> Result<Planned, Refusal>
     requires { LoopReady table.now index.now scene.now known.old (session_at head levels.now bindings.now) × (at + 1 ≤ length scene.now) }
     ensures { let s = scene.now in
         let z = session_at head levels.now bindings.now in
@@ -107,11 +114,9 @@ pub fn plan_start(
         × Beside table.now s known.new (session_by p z) }
 {
     let mut codes: [usize; 16] = [0; 16];
-    match read_start(scene, at, head, bindings, known, attrs, own, &mut codes) {
-        Reading::Start(started) => plan_element(
-            table, index, scene, started, head, levels, bindings, known, attrs, &codes, own,
-            attributes, words, schemas,
-        ),
-        Reading::Refused(number, place) => Planned::Refused(number, place),
-    }
+    let started = read_start(scene, at, head, bindings, known, attrs, own, &mut codes)?;
+    plan_element(
+        table, index, scene, started, head, levels, bindings, known, attrs, &codes, own,
+        attributes, words, schemas,
+    )
 }

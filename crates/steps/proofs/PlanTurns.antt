@@ -3,17 +3,18 @@
 --     start_as, text_as, end_as, ..            by what was handed back
 --     start_roomy, text_needs, class_small      what the second half asks
 --     planned_turn, weighed_turn               the step, and what the loop holds beside the session behind it
-use Prim.Native.Nat.{ℕ, ◌+◌, ◌*◌, ◌-◌, ◌≤◌, ◌<◌}
+use Prim.Native.Nat.{ℕ, ◌*◌, ◌-◌, ◌≤◌, ◌<◌}
 use mathlib.Core.Path.{◌≡◌, sym, ap, subst, ◌∙◌}
 use mathlib.Core.List.{List, []}
 use mathlib.Core.Bool.{false, not}
 use native.Mathlib.Omega.{arith}
 use lib.ListN.{length, get_or}
 use lib.Dec.{eqb, ltb}
+use Rattle.std.specs.Prelude.{Result, Ok, Err}
 use Rattle.laws.proofs.Holds.{holds_cond}
 use Rattle.table.specs.Table.{decode, header_of}
 use Rattle.lexer.specs.Begins.{begin_at}
-use Rattle.lexer.specs.declared.Begin.{Begin}
+use Rattle.lexer.specs.Reads.{BeginRead}
 use Rattle.reader.specs.declared.Span.{Span}
 use Rattle.reader.specs.Events.{read_at}
 use Rattle.attributes.specs.declared.Placing.{Placing}
@@ -21,18 +22,19 @@ use Rattle.strands.specs.Levels.{level_names, level_spaces, level_strands}
 use Rattle.openings.specs.declared.Decided.{Decided}
 use Rattle.sessions.specs.Sessions.{session_at, reader_of}
 use Rattle.sessions.specs.Stepping.{Plan, refused, finished, event, plan_by, plan_of, Step, refused_step, planned}
-use Rattle.sessions.specs.Turns.{LoopReady, Beside, Roomy, StartAs, PlannedAs, session_by, weighed, stop_turn, step_in}
+use Rattle.sessions.specs.Turns.{InnerLevel, LoopReady, Beside, Roomy, StartAs, PlannedAs, session_by, weighed, stop_turn, step_in}
 use Rattle.sessions.specs.Session.{Session}
 use Rattle.sessions.specs.declared.Head.{Head}
 use Rattle.sessions.specs.declared.Turn.{Turn}
 use Rattle.sessions.specs.declared.Started.{Started}
 use Rattle.sessions.specs.declared.Planned.{Planned}
 use Rattle.sessions.specs.declared.Planned.TheVariants as variant
+use Rattle.sessions.specs.declared.Refusal.{Refusal}
 use Rattle.sessions.proofs.EventTurns.{stop_step}
 use Rattle.starts.proofs.StartTurns.{innermost, begin_plan}
 
 -- by how it begins
-pub begun_planned : (table index s : List ℕ) (head : Head) (levels bindings : List ℕ) → head.awaited ≡ false → (b r : Begin) → r ≡ begin_at s head.place (not (eqb head.depth 0)) head.closed → r ≡ b → (known own words schemas attributes : List ℕ) (x : Planned) → (
+pub begun_planned : (table index s : List ℕ) (head : Head) (levels bindings : List ℕ) → head.awaited ≡ false → (b r : BeginRead) → r ≡ begin_at s head.place (not (eqb head.depth 0)) head.closed → r ≡ b → (known own words schemas attributes : List ℕ) (x : Result Planned Refusal) → (
     let z = session_at head levels bindings in
     let p = plan_by (decode table) s z (read_at s (reader_of z) b) in
     let q = plan_of (decode table) s z in
@@ -44,27 +46,27 @@ begun_planned table index s head levels bindings a b r e q known own words schem
     (subst (λ (y : Plan). PlannedAs table index s z own words schemas attributes x y) same f, k, subst (λ (y : Plan). Beside table s known (session_by y z)) same k')
 
 -- ---- by what was handed back
-module _ (table index s : List ℕ) (z : Session) (own words schemas attributes : List ℕ) (p : Plan) (r : Planned) (h : PlannedAs table index s z own words schemas attributes r p) where
-  handed : (q : Planned) → r ≡ q → PlannedAs table index s z own words schemas attributes q p
-  handed q e = subst (λ (x : Planned). PlannedAs table index s z own words schemas attributes x p) e h
+module _ (table index s : List ℕ) (z : Session) (own words schemas attributes : List ℕ) (p : Plan) (r : Result Planned Refusal) (h : PlannedAs table index s z own words schemas attributes r p) where
+  handed : (q k : Planned) → r ≡ Ok k → k ≡ q → PlannedAs table index s z own words schemas attributes (Ok q) p
+  handed q k e f = subst (λ (x : Result Planned Refusal). PlannedAs table index s z own words schemas attributes x p) (e ∙ ap Ok f) h
 
-  pub start_as : (o : Started) (placing : Placing) (decided : Decided) → r ≡ variant.Start o placing decided → StartAs table index s z own words schemas attributes o placing decided p
-  start_as o placing decided e = handed (variant.Start o placing decided) e
+  pub start_as : (o : Started) (placing : Placing) (decided : Decided) {k : Planned} → r ≡ Ok k → k ≡ variant.Start o placing decided → StartAs table index s z own words schemas attributes o placing decided p
+  start_as o placing decided {k} e f = handed (variant.Start o placing decided) k e f
 
-  pub text_as : (at place : ℕ) → r ≡ variant.Text at place → PlannedAs table index s z own words schemas attributes (variant.Text at place) p
-  text_as at place e = handed (variant.Text at place) e
+  pub text_as : (at place : ℕ) {k : Planned} → r ≡ Ok k → k ≡ variant.Text at place → PlannedAs table index s z own words schemas attributes (Ok (variant.Text at place)) p
+  text_as at place {k} e f = handed (variant.Text at place) k e f
 
-  pub end_as : (part : Span) (at place : ℕ) → r ≡ variant.End part at place → PlannedAs table index s z own words schemas attributes (variant.End part at place) p
-  end_as part at place e = handed (variant.End part at place) e
+  pub end_as : (part : Span) (at place : ℕ) {k : Planned} → r ≡ Ok k → k ≡ variant.End part at place → PlannedAs table index s z own words schemas attributes (Ok (variant.End part at place)) p
+  end_as part at place {k} e f = handed (variant.End part at place) k e f
 
-  pub awaited_as : (part : Span) (at : ℕ) → r ≡ variant.Awaited part at → PlannedAs table index s z own words schemas attributes (variant.Awaited part at) p
-  awaited_as part at e = handed (variant.Awaited part at) e
+  pub awaited_as : (part : Span) (at : ℕ) {k : Planned} → r ≡ Ok k → k ≡ variant.Awaited part at → PlannedAs table index s z own words schemas attributes (Ok (variant.Awaited part at)) p
+  awaited_as part at {k} e f = handed (variant.Awaited part at) k e f
 
-  pub finished_as : r ≡ variant.Finished → p ≡ finished (length s)
-  finished_as e = handed variant.Finished e
+  pub finished_as : {k : Planned} → r ≡ Ok k → k ≡ variant.Finished → p ≡ finished (length s)
+  finished_as {k} e f = handed variant.Finished k e f
 
-  pub refused_as : (n place : ℕ) → r ≡ variant.Refused n place → (p ≡ refused n place) × (n ≡ 0 → ⊥)
-  refused_as n place e = handed (variant.Refused n place) e
+  pub refused_as : (x : Refusal) → r ≡ Err x → (p ≡ refused x.number x.place) × (x.number ≡ 0 → ⊥)
+  refused_as x e = subst (λ (y : Result Planned Refusal). PlannedAs table index s z own words schemas attributes y p) e h
 
 -- ---- what the second half asks
 pub start_roomy : (table index s : List ℕ) (head : Head) (levels bindings own words schemas attributes : List ℕ) (o : Started) (placing : Placing) (decided : Decided) (p : Plan)
@@ -73,7 +75,7 @@ start_roomy table index s head levels bindings own words schemas attributes o pl
     record { shallow = f.shallow; few_own = omega (arith, f.told.owned_is, f.told.few_own); few_bound = f.few_bound }
 
 module _ (table index s known : List ℕ) (head : Head) (levels bindings : List ℕ) (h : LoopReady table index s known (session_at head levels bindings)) (l : 1 ≤ head.depth) where
-  pub text_needs : (1 ≤ head.depth) × (head.depth ≤ 64) × (get_or (level_spaces levels) (4 * (head.depth - 1) + 3) 0 ≤ 16)
+  pub text_needs : InnerLevel head levels
   text_needs =
       let i = innermost table (header_of table) index s head (level_names levels) bindings (level_spaces levels) (level_strands levels) h.ready l in
       (l, i.shallow, i.few_strands)

@@ -12,12 +12,12 @@ use attributes::HELD;
 use lexer::Begin;
 use misc::begins::begin_at;
 use reader::Scope;
-use sessions::{BINDINGS, Head, Planned, STRANDS, Turn};
+use sessions::{BINDINGS, Head, Planned, Refusal, STRANDS, Turn};
 use starts::plan_start;
 use strands::LEVELS;
 use turns::ends::{end_event, text_event, weigh_end, weigh_text};
 use turns::opening::{lay_level, open_level};
-use turns::planning::{plan_awaited, plan_end, plan_text, stopped};
+use turns::planning::{plan_awaited, plan_end, plan_text};
 use turns::stop;
 
 // What a coherent session does next: the first half of a step. Nothing of the session is changed.
@@ -34,7 +34,7 @@ fn plan_event(
     attributes: &mut [u32; HELD],
     words: &mut [u32; STRANDS],
     schemas: &mut [u32; STRANDS],
-) -> Planned
+) -> Result<Planned, Refusal>
     requires { LoopReady table.now index.now scene.now known.old (session_at head levels.now bindings.now) }
     ensures { let s = scene.now in
         let z = session_at head levels.now bindings.now in
@@ -44,17 +44,17 @@ fn plan_event(
         × Beside table.now s known.new (session_by p z) }
 {
     if head.awaited {
-        return plan_awaited(scene, head, levels);
+        return Ok(plan_awaited(scene, head, levels));
     }
     match begin_at(scene, head.place, head.depth != 0, head.closed) {
-        Begin::Start(at) => plan_start(
+        Ok(Begin::Start(at)) => plan_start(
             table, index, scene, at, head, levels, bindings, known, attrs, own, attributes, words,
             schemas,
         ),
-        Begin::End(at) => plan_end(scene, at, head, levels),
-        Begin::Text(at) => plan_text(scene, at),
-        Begin::Finished => Planned::Finished,
-        Begin::Stopped(x) => stopped(scene, x),
+        Ok(Begin::End(at)) => plan_end(scene, at, head, levels),
+        Ok(Begin::Text(at)) => plan_text(scene, at),
+        Ok(Begin::Finished) => Ok(Planned::Finished),
+        Err(x) => Err(Refusal::stopped(scene, x)),
     }
 }
 
@@ -84,15 +84,21 @@ pub fn judged_step(
     match plan_event(
         table, index, scene, head, levels, bindings, known, attrs, own, attributes, words, schemas,
     ) {
-        Planned::Start(started, placing, decided) => open_level(
+        Ok(
+            Planned::Start {
+                started,
+                placing,
+                decided,
+            },
+        ) => open_level(
             index, started, placing, decided, own, words, schemas, attributes, head, levels,
             bindings, rows, out,
         ),
-        Planned::Text(at, end) => text_event(at, end, head, levels, out),
-        Planned::End(part, at, place) => end_event(part, at, place, head, levels, out),
-        Planned::Awaited(part, at) => end_event(part, at, head.place, head, levels, out),
-        Planned::Finished => stop(9, scene.len(), head),
-        Planned::Refused(number, place) => stop(number, place, head),
+        Ok(Planned::Text { at, end }) => text_event(at, end, head, levels, out),
+        Ok(Planned::End { part, at, place }) => end_event(part, at, place, head, levels, out),
+        Ok(Planned::Awaited { part, at }) => end_event(part, at, head.place, head, levels, out),
+        Ok(Planned::Finished) => stop(9, scene.len(), head),
+        Err(x) => stop(x.number, x.place, head),
     }
 }
 
@@ -119,13 +125,19 @@ pub fn weighed_step(
     match plan_event(
         table, index, scene, head, levels, bindings, known, attrs, own, attributes, words, schemas,
     ) {
-        Planned::Start(started, placing, decided) => lay_level(
+        Ok(
+            Planned::Start {
+                started,
+                placing,
+                decided,
+            },
+        ) => lay_level(
             started, placing, decided, own, words, head, levels, bindings,
         ),
-        Planned::Text(_, end) => weigh_text(end, head, levels),
-        Planned::End(_, _, place) => weigh_end(place, head, levels),
-        Planned::Awaited(_, _) => weigh_end(head.place, head, levels),
-        Planned::Finished => stop(9, scene.len(), head),
-        Planned::Refused(number, place) => stop(number, place, head),
+        Ok(Planned::Text { end, .. }) => weigh_text(end, head, levels),
+        Ok(Planned::End { place, .. }) => weigh_end(place, head, levels),
+        Ok(Planned::Awaited { .. }) => weigh_end(head.place, head, levels),
+        Ok(Planned::Finished) => stop(9, scene.len(), head),
+        Err(x) => stop(x.number, x.place, head),
     }
 }

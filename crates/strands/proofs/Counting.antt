@@ -207,17 +207,6 @@ module _ (index : List ℕ) (l : List Sorted) where
       let f : kept ≡ length (keep (keeps index (strand_in w).mode) l) = k ∙ ap (λ (x : ℕ). length (keep (keeps index x) l)) m in
       e ∙ ap (λ (x : ℕ). cond (is_unit (receives (strand_in w))) (cond (strand_in w).here 1 0 + (1 + 2 * x)) 0) f
 
-module _ (w kept : ℕ) where
-  pub with_none : is_unit (receives (strand_in w)) ≡ false → 0 ≡ cond (is_unit (receives (strand_in w))) (cond (strand_in w).here 1 0 + (1 + 2 * kept)) 0
-  with_none e = rw e
-
-  module _ (e : is_unit (receives (strand_in w)) ≡ true) where
-    pub with_here : (strand_in w).here ≡ true → 2 + 2 * kept ≡ cond (is_unit (receives (strand_in w))) (cond (strand_in w).here 1 0 + (1 + 2 * kept)) 0
-    with_here h = rw (e, h) (omega arith)
-
-    pub with_past : (strand_in w).here ≡ false → 1 + 2 * kept ≡ cond (is_unit (receives (strand_in w))) (cond (strand_in w).here 1 0 + (1 + 2 * kept)) 0
-    with_past h = rw (e, h) (omega arith)
-
 -- no sections, no units
 none_total : (g : ℕ → ℕ → ℕ) (ws : List ℕ) → 0 ≡ total (λ (w : ℕ). total (g w) (tabulate (λ (j : ℕ). j) 1 0)) ws
 unfolding tabulate total

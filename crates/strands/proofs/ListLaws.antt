@@ -1,5 +1,5 @@
 -- Lists: what is kept of one more, by two tests, by tests that agree on it; what each gives by its place; a test joined with a flag.
-use Prim.Native.Nat.{ℕ, suc, ◌+◌, ◌<◌}
+use Prim.Native.Nat.{ℕ, suc, ◌+◌, ◌≤◌, ◌<◌}
 use mathlib.Core.Path.{◌≡◌, refl, sym, ap, ap₂, ◌∙◌}
 use mathlib.Core.List.{List, [], ◌∷◌, ◌++◌, append-nil}
 use mathlib.Core.Bool.{Bool, true, false, cond, ◌&&◌, ◌||◌}
@@ -7,8 +7,11 @@ use mathlib.Core.Logic.{◌⊎◌, inl, inr, ⊎_elim}
 use native.Mathlib.Nat.{add-zero}
 use native.Mathlib.Omega.{arith}
 use lib.ListN.{length, get_or}
+use Rattle.std.specs.List.{sum_by, filter}
+use Rattle.std.proofs.lemmas.List.Sums.{length-filter, count_by-le-length}
+use Rattle.std.proofs.lemmas.List.Recursion.{is_sum_by}
 use Rattle.laws.specs.Lists.{any, keep, tabulate}
-use Rattle.laws.specs.Gather.{gather}
+use Rattle.laws.specs.Gather.{gather, total}
 use Rattle.laws.specs.Members.{In, All}
 use Rattle.laws.proofs.Flags.{differ}
 use Rattle.laws.proofs.Lists.{keep_append}
@@ -79,3 +82,16 @@ any_and {A} p z (x ∷ l) = by (p x) (any_and p z l)
     by : (b : Bool) → any (λ (y : A). p y && z) l ≡ (any p l && z) → ((b && z) || any (λ (y : A). p y && z) l) ≡ ((b || any p l) && z)
     by true ih = ap (λ (y : Bool). z || y) ih ∙ absorb (any p l) z
     by false ih = ih
+
+-- the library's words for them
+pub total_sum : {A : Type 0} (f : A → ℕ) (xs : List A) → total f xs ≡ sum_by f xs
+unfolding total
+total_sum f xs = is_sum_by (total f) f refl (λ x rest. refl) xs
+
+pub keep_filter : {A : Type 0} (p : A → Bool) (xs : List A) → keep p xs ≡ filter p xs
+unfolding keep
+keep_filter p [] = refl
+keep_filter {A = A} p (x ∷ xs) = ap (λ (l : List A). cond (p x) (x ∷ l) l) (keep_filter p xs)
+
+pub length_keep : {A : Type 0} (p : A → Bool) (xs : List A) → length (keep p xs) ≤ length xs
+length_keep {A = A} p xs = omega (arith, ap (length {A = A}) (keep_filter p xs), length-filter p xs, count_by-le-length p xs)

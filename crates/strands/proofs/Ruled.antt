@@ -1,135 +1,129 @@
--- A loop over the rules that the index chooses, from one to the next.
---     left, At               the rules that are still to come, and where the loop stands
---     at_first, at_next      its start and its turn
---     keeps-*, units-*       what the loops of rules.rt have at a turn and at the end
-use Prim.Native.Nat.{ℕ, ◌+◌, ◌≤◌, ◌<◌}
-use mathlib.Core.Path.{◌≡◌, sym, ap, ◌∙◌}
+-- The rules that the index chooses, one after the other.
+--     chosen_within                      where they stand
+--     kept-*, total-*                    what the loops of rules.rt have at a turn and at the end
+--     rule_here, rule_other, rule_none   a call of the iterator
+use Prim.Native.Nat.{ℕ, ◌+◌, ◌-◌, ◌≤◌, ◌<◌}
+use mathlib.Core.Path.{◌≡◌, refl, sym, ap, subst, ◌∙◌}
 use mathlib.Core.List.{List, [], ◌∷◌, map}
-use mathlib.Core.Bool.{Bool, true, false}
-use mathlib.Core.Logic.{⊎_elim}
-use native.Mathlib.Nat.{add_assoc, add-zero}
+use mathlib.Core.Bool.{Bool, true, false, cond, ◌||◌}
+use native.Mathlib.Nat.{add_assoc}
 use native.Mathlib.Omega.{arith}
-use lib.ListN.{length, get_or}
-use Rattle.laws.specs.Lists.{any}
+use lib.ListN.{length, take, drop, length-map}
+use lib.Dec.{eqb}
+use lib.Seq.{slice}
+use Rattle.std.proofs.lemmas.List.{drop-take, length-drop, length-take}
+use borrow.Author.Tests.{eq-eqb, ne_eqb}
+use Rattle.laws.specs.Lists.{any, keep}
 use Rattle.laws.specs.Gather.{total}
-use Rattle.laws.specs.Reading.{le_or_lt}
 use Rattle.table.specs.Table.{rule_of, or_else, standard, fallback}
-use Rattle.table.specs.Index.{bucket, first_of, next_rule, chosen_of}
+use Rattle.table.specs.Index.{key_of, bucket, first_of, chosen_of}
 use Rattle.table.specs.declared.Rule.{Rule}
 use Rattle.table.specs.declared.Chosen.{Chosen}
-use Rattle.table.proofs.Indexed.{those, those_none, chosen_says, next_few, next_found, next_here, next_those}
+use Rattle.table.proofs.Indexed.{chosen_says, next_few}
 use Rattle.model.specs.Groups.{is_attach}
-use Rattle.strands.specs.Rules.{rules_in, keeps_class, opened}
+use Rattle.strands.proofs.ListLaws.{length_keep}
+use Rattle.strands.specs.declared.rules.Rules.{Rules}
+use Rattle.strands.specs.Rules.{rules_of_key, rules_left, rules_in, opened}
 
--- the rules from the i-th on that are chosen
-unfoldable pub left : List ℕ → Chosen → ℕ → List Rule
-left l c i = map rule_of (those l c.end c.key i)
+-- the chosen rules stand within the index
+pub chosen_within : (l : List ℕ) (mode kind class : ℕ) (c : Chosen) → length l ≡ 256 → c ≡ chosen_of l mode kind class → (c.first ≤ c.end) × (c.end ≤ 128)
+chosen_within l mode kind class c size e =
+    rw e
+    (let q = chosen_of l mode kind class in
+    let s = chosen_says l mode kind class in
+    let f : q.end ≤ length l = omega (arith, s.0) in
+    (subst (λ (i : ℕ). i ≤ q.end) (sym s.1) (next_few l q.end q.key f s.0 (first_of l (bucket mode kind))), s.0))
 
--- a loop stands at one of them, or at the end
-pub record At (l : List ℕ) (c : Chosen) (i : ℕ) : Type 0 where
-  pub size : length l ≡ 256
-  pub few : c.end ≤ 128
-  pub inside : i ≤ c.end
-  pub here : i < c.end → left l c i ≡ rule_of (get_or l i 0) ∷ left l c (i + 1)
-
-module _ (l : List ℕ) (c : Chosen) where
-  -- the next one from some place on
-  module _ (size : length l ≡ 256) (few : c.end ≤ 128) (from j : ℕ) (e : j ≡ next_rule l from c.end c.key) where
-    fits : c.end ≤ length l
-    fits = omega arith
-
-    at : At l c j
-    unfolding left
-    at =
-        rw e
-        (record {
-          size = size;
-          few = few;
-          inside = next_few l c.end c.key fits few from;
-          here = λ h. ap (map rule_of) (next_here l c.end c.key fits few from h);
-        })
-
-    same_left : left l c j ≡ left l c from
-    unfolding left
-    same_left = rw e (ap (map rule_of) (next_those l c.end c.key fits few from))
-
-    on : from ≤ c.end → from ≤ j
-    on h = rw e (⊎_elim (λ k. omega (arith, k)) (λ k. (next_found l c.end c.key fits few from k).from_on) (le_or_lt c.end (next_rule l from c.end c.key)))
-
-  pub at_end : (i : ℕ) → At l c i → c.end ≤ i → left l c i ≡ []
-  unfolding left
-  at_end i a h = ap (map rule_of) (those_none l c.end c.key (omega (arith, a.size, a.few)) i h)
-
-  -- the rule at which it stands, as the code reads it
-  pub at_here : (i : ℕ) (r : Rule) → At l c i → i < c.end → r ≡ rule_of (get_or l i 0) → left l c i ≡ r ∷ left l c (i + 1)
-  at_here i r a h e = a.here h ∙ ap (λ (q : Rule). q ∷ left l c (i + 1)) (sym e)
-
-  -- a turn
-  module _ (i j : ℕ) (a : At l c i) (h : i < c.end) (e : j ≡ next_rule l (i + 1) c.end c.key) where
-    pub at_next : At l c j
-    at_next = at a.size a.few (i + 1) j e
-
-    pub left_next : left l c j ≡ left l c (i + 1)
-    left_next = same_left a.size a.few (i + 1) j e
-
-    pub next_on : i < j
-    next_on = omega (arith, on a.size a.few (i + 1) j e (omega arith))
-
--- the start
-module _ (l : List ℕ) (mode kind class : ℕ) (c : Chosen) (size : length l ≡ 256) (e : c ≡ chosen_of l mode kind class) where
-  pub at_first : At l c c.first
-  at_first =
-      rw e
-      (let s = chosen_says l mode kind class in
-      at l (chosen_of l mode kind class) size s.0 (first_of l (bucket mode kind)) (chosen_of l mode kind class).first s.1)
-
-  pub left_first : left l c c.first ≡ rules_in l mode kind class
-  unfolding left rules_in
-  left_first = rw e
-
--- ---- the loops of rules.rt
+-- ---- what the functions of rules.rt say of them
 abbrev pub attaches : Rule → Bool
 attaches r = is_attach r.action
 
 abbrev pub opens : Rule → ℕ
 opens r = opened r.action
 
--- there are none, or some
-module _ (l : List ℕ) (mode class : ℕ) (c : Chosen) (size : length l ≡ 256) (e : c ≡ chosen_of l mode 1 class) where
-  pub keeps_none : c.end ≤ c.first → true ≡ keeps_class l mode class
+-- whether one of those that are left attaches, where there was none before them, or some
+abbrev pub kept_by : ℕ → Bool → List Rule → Bool
+kept_by mode none rs = cond none (any attaches (or_else rs (fallback standard.attribute 1 mode ∷ []))) (any attaches rs)
+
+module _ (mode : ℕ) (none : Bool) where
+  pub kept_end : (rs : List Rule) → rs ≡ [] → none ≡ kept_by mode none rs
   unfolding any
-  keeps_none h = rw (sym (left_first l mode 1 class c size e) ∙ at_end l c c.first (at_first l mode 1 class c size e) h)
+  kept_end rs e = rw e (by none)
+    where
+      by : (b : Bool) → b ≡ kept_by mode b []
+      by true = refl
+      by false = refl
 
-  pub keeps_first : c.first < c.end → any attaches (left l c c.first) ≡ keeps_class l mode class
-  keeps_first h =
-      let p : rules_in l mode 1 class ≡ left l c c.first = sym (left_first l mode 1 class c size e) in
-      let q = (at_first l mode 1 class c size e).here h in
-      sym (ap (λ (rs : List Rule). any attaches (or_else rs (fallback standard.attribute 1 mode ∷ []))) (p ∙ q) ∙ ap (any attaches) (sym q))
-
-module _ (l : List ℕ) (c : Chosen) (i : ℕ) (a : At l c i) where
-  module _ (v : Bool) (inv : any attaches (left l c i) ≡ v) where
-    pub keeps_end : c.end ≤ i → false ≡ v
+  module _ (q : Rule) (rs rest : List Rule) (e : rs ≡ q ∷ rest) (b : Bool) (eb : b ≡ is_attach q.action) where
+    one_kept : kept_by mode none rs ≡ (b || any attaches rest)
     unfolding any
-    keeps_end h = sym (ap (any attaches) (at_end l c i a h)) ∙ inv
+    one_kept = rw (e, eb) (by none)
+      where
+        by : (n : Bool) → kept_by mode n (q ∷ rest) ≡ (attaches q || any attaches rest)
+        by true = refl
+        by false = refl
 
-    module _ (h : i < c.end) (r : Rule) (b : Bool) (er : r ≡ rule_of (get_or l i 0)) (eb : b ≡ is_attach r.action) where
-      pub keeps_found : b ≡ true → true ≡ v
-      unfolding any
-      keeps_found t = simp (← inv, at_here l c i r a h er, ← eb, t)
+    pub kept_here : b ≡ true → true ≡ kept_by mode none rs
+    kept_here t = sym (one_kept ∙ ap (λ (x : Bool). x || any attaches rest) t)
 
-      pub keeps_on : b ≡ false → any attaches (left l c (i + 1)) ≡ v
-      unfolding any
-      keeps_on t = simp (← inv, at_here l c i r a h er, ← eb, t)
+    pub kept_on : b ≡ false → kept_by mode false rest ≡ kept_by mode none rs
+    kept_on t = sym (one_kept ∙ ap (λ (x : Bool). x || any attaches rest) t)
 
-  module _ (n v : ℕ) (inv : n + total opens (left l c i) ≡ v) where
-    pub units_end : c.end ≤ i → n ≡ v
-    unfolding total
-    units_end h = sym (ap (λ (rs : List Rule). n + total opens rs) (at_end l c i a h) ∙ add-zero n) ∙ inv
+-- how many there are, and how many units they open
+pub rules_few : (l : List ℕ) (mode kind class : ℕ) → length (rules_in l mode kind class) ≤ 128
+unfolding rules_in
+rules_few l mode kind class =
+    let c = chosen_of l mode kind class in
+    let s = chosen_says l mode kind class in
+    let words = slice c.first c.end l in
+    omega (arith, s.0, length-map (keep (λ (w : ℕ). eqb (key_of w) c.key) words) rule_of, length_keep (λ (w : ℕ). eqb (key_of w) c.key) words, length-drop c.first (take c.end l), length-take c.end l)
 
-    pub units_on : i < c.end → (r : Rule) (k : ℕ) → r ≡ rule_of (get_or l i 0) → k ≡ opened r.action → n + k + total opens (left l c (i + 1)) ≡ v
-    unfolding total
-    units_on h r k er ek =
-        ap (λ (m : ℕ). n + m + total opens (left l c (i + 1))) ek
-        ∙ add_assoc n (opens r) (total opens (left l c (i + 1)))
-        ∙ ap (λ (rs : List Rule). n + total opens rs) (sym (at_here l c i r a h er))
-        ∙ inv
+pub total_end : (n : ℕ) (rs : List Rule) → rs ≡ [] → n ≡ n + total opens rs
+unfolding total
+total_end n rs e = rw e (omega arith)
+
+pub total_on : (n : ℕ) (q : Rule) (rs rest : List Rule) → rs ≡ q ∷ rest → (k : ℕ) → k ≡ opened q.action → n + k + total opens rest ≡ n + total opens rs
+unfolding total
+total_on n q rs rest e k ek = rw (e, ek) (add_assoc n (opens q) (total opens rest))
+
+-- ---- an iterator over some words: those of its key
+module _ (key : ℕ) (w : ℕ) (ws : List ℕ) where
+  pub key_here : key_of w ≡ key → rules_of_key key (w ∷ ws) ≡ rule_of w ∷ rules_of_key key ws
+  unfolding keep
+  key_here e = rw (eq-eqb (key_of w) key e)
+
+  pub key_other : (key_of w ≡ key → ⊥) → rules_of_key key (w ∷ ws) ≡ rules_of_key key ws
+  unfolding keep
+  key_other n = rw (ne_eqb (key_of w) key n)
+
+-- a call of its `next`: the words before it have other keys
+module _ (r : Rules) (key : ℕ) (words : List ℕ) (inv : rules_of_key key words ≡ rules_left r) where
+  pub rule_none : length words ≡ 0 → rules_left r ≡ []
+  unfolding keep
+  rule_none h = by words inv h
+    where
+      by : (ws : List ℕ) → rules_of_key key ws ≡ rules_left r → length ws ≡ 0 → rules_left r ≡ []
+      by [] e n = sym e
+      by (w ∷ ws) e n = absurd (omega arith)
+
+  module _ (w : ℕ) (rest : List ℕ) (e : words ≡ w ∷ rest) (k : ℕ) (ek : k ≡ key_of w) where
+    pub rule_here : k ≡ key → (q : Rule) → q ≡ rule_of w → rules_left r ≡ q ∷ rules_of_key key rest
+    rule_here h q eq = sym inv ∙ ap (rules_of_key key) e ∙ key_here key w rest (sym ek ∙ h) ∙ ap (λ (x : Rule). x ∷ rules_of_key key rest) (sym eq)
+
+    pub rule_other : (k ≡ key → ⊥) → rules_of_key key rest ≡ rules_left r
+    rule_other n = sym (key_other key w rest (λ d. n (ek ∙ d))) ∙ ap (rules_of_key key) (sym e) ∙ inv
+
+-- the words that an index has from one place to another
+pub part_of_index : (l : List ℕ) (c : Chosen) → c.first ≤ c.end → take (c.end - c.first) (drop c.first l) ≡ slice c.first c.end l
+part_of_index l c h =
+    let e : c.first + (c.end - c.first) ≡ c.end = omega arith in
+    sym (drop-take c.first (c.end - c.first) l) ∙ ap (λ (n : ℕ). drop c.first (take n l)) e
+
+-- a rule fits its next mode in five bits
+pub left_small : (r : Rules) (q : Rule) (rest : List Rule) → rules_left r ≡ q ∷ rest → q.next < 32
+unfolding rules_left
+left_small r q rest e = by (keep (λ (w : ℕ). eqb (key_of w) r.key) r.words.now) e
+  where
+    by : (ws : List ℕ) → map rule_of ws ≡ q ∷ rest → q.next < 32
+    by [] d = cc
+    by (w ∷ ws) d = let f : rule_of w ≡ q = cc in omega (arith, ap (λ (x : Rule). x.next) f)

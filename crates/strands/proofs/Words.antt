@@ -6,6 +6,7 @@ use mathlib.Core.Bool.{Bool, true, false, cond, not, ◌&&◌}
 use mathlib.Core.Option.{none, some}
 use native.Mathlib.Omega.{arith}
 use borrow.Author.Tests.{eq-eqb, ne_eqb, eqb-true}
+use denote.Enum.Declared.{tag_of}
 use lib.Dec.{eqb}
 use lib.ListN.{get_or}
 use Rattle.reader.proofs.Tabulated.{tabulate_append}
@@ -14,6 +15,7 @@ use Rattle.table.specs.Table.{action_of}
 use Rattle.table.specs.declared.Action.{Action}
 use Rattle.table.specs.declared.Action.TheVariants.{Attach, Unwrap, Validate}
 use Rattle.table.specs.declared.Rule.{Rule}
+use Rattle.table.specs.contracts.Action.{the_type}
 use Rattle.model.specs.Stream.{HeldStrand, receiver, stay}
 use Rattle.strands.specs.Packed.{strand_in, packed, action_number, target_number, here_number, words_at, receives, is_unit, target_in}
 use Rattle.strands.specs.Entries.{made_by, aimed_at}
@@ -64,19 +66,30 @@ module _ (w : ℕ) where
   unfolding packed strand_in
   stay_is action aim e f = omega arith
 
+-- an action as a number
+pub tag_is : (a : Action) → tag_of the_type a ≡ action_number a
+tag_is Attach = refl
+tag_is Unwrap = refl
+tag_is Validate = refl
+
+pub action_few : (a : Action) → action_number a ≤ 2
+action_few Attach = omega arith
+action_few Unwrap = omega arith
+action_few Validate = omega arith
+
 -- what a rule makes, by its action
 module _ (r : HeldStrand ℕ) (q : Rule) where
-  pub made_attach : (aim : ℕ) → q.action ≡ Attach → aim ≡ target_number r.target → q.next + aim ≡ packed (made_by r q).strand
+  pub made_attach : (aim next : ℕ) → next ≡ q.next → q.action ≡ Attach → aim ≡ target_number r.target → next + aim ≡ packed (made_by r q).strand
   unfolding packed
-  made_attach aim e f = rw e (omega arith)
+  made_attach aim next n e f = rw e (omega arith)
 
-  pub made_unwrap : (aim : ℕ) → q.action ≡ Unwrap → aim ≡ target_number r.target → q.next + 32 + aim ≡ packed (made_by r q).strand
+  pub made_unwrap : (aim next : ℕ) → next ≡ q.next → q.action ≡ Unwrap → aim ≡ target_number r.target → next + 32 + aim ≡ packed (made_by r q).strand
   unfolding packed
-  made_unwrap aim e f = rw e (omega arith)
+  made_unwrap aim next n e f = rw e (omega arith)
 
-  pub made_validate : q.action ≡ Validate → q.next + 64 + 128 ≡ packed (made_by r q).strand
+  pub made_validate : (next : ℕ) → next ≡ q.next → q.action ≡ Validate → next + 64 + 128 ≡ packed (made_by r q).strand
   unfolding packed
-  made_validate e = rw e (omega arith)
+  made_validate next n e = rw e (omega arith)
 
 -- a strand without a target fills eight bits
 eight_bits : (mode unit here aim : ℕ) (a : Action) → mode < 32 → here ≤ 128 → aim ≡ 0

@@ -1,6 +1,6 @@
 -- "At a new section each strand, in order, takes the rules": the strands of an element that starts, in two arrays of sixteen numbers, strands and
 -- schemas. Definitions.
-use Rattle.std.specs.Prelude.{ℕ, ◌<◌, List, [], ◌∷◌, map, true, cond, ◌≡◌, get_or, leb}
+use Rattle.std.specs.Prelude.{ℕ, ◌<◌, List, [], ◌∷◌, map, true, cond, ◌≡◌, get_or, leb, Option, Some, None}
 use Rattle.std.proofs.Math.Option.{none, some}
 use Rattle.laws.specs.Lists.{tabulate}
 use Rattle.laws.specs.Gather.{gather, total}
@@ -26,9 +26,9 @@ entries_from index class words = gather (λ (w : ℕ). entries_by index class (s
 abbrev pub stay_entry : ℕ → Entry
 stay_entry w = record { strand = stay (strand_in w); schema = 0 }
 
--- a count of strands; 17 where they are more than 16
-abbrev pub counted : ℕ → ℕ
-counted n = cond (leb n 16) n 17
+-- a count of strands; none where they are more than 16
+abbrev pub counted : ℕ → Option ℕ
+counted n = cond (leb n 16) (Some n) None
 
 abbrev pub strand_word : Entry → ℕ
 strand_word e = packed e.strand

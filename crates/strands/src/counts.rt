@@ -29,28 +29,24 @@ pub fn members_of(attributes: &[u32; HELD], n: usize, j: usize) -> usize
 {
     let section = j as u32;
     let mut m = 0;
-    let mut k = 0;
-    while k < n {
+    for k in 0..n {
         if section_at(attributes, k) == section {
             m += 1;
         }
-        k += 1;
     }
     m
 }
 
-// The class of the j-th section: that of its first attribute; 0 where it has none.
+// The class of the j-th section: that of its first attribute; 0 where it has none, as `head_class` has it.
 pub fn section_class(attributes: &[u32; HELD], n: usize, j: usize) -> u8
     requires { (n ≤ 16) × (j ≤ 16) }
     ensures { result ≡ head_class (members (sorted_held attributes.now n) j) }
 {
     let section = j as u32;
-    let mut k = 0;
-    while k < n {
+    for k in 0..n {
         if section_at(attributes, k) == section {
             return class_at(attributes, k);
         }
-        k += 1;
     }
     0
 }
@@ -67,13 +63,11 @@ pub fn load_of(index: &[u32; 256], attributes: &[u32; HELD], n: usize, m: usize,
 {
     let mut units = 0;
     let mut records = 0;
-    let mut j = 1;
-    while j <= m {
+    for j in 1..=m {
         let class = section_class(attributes, n, j);
         let v = units_for(index, mode, class);
         units += v;
         records += v * (4 + 2 * members_of(attributes, n, j));
-        j += 1;
     }
     Load { units, records }
 }
@@ -96,19 +90,16 @@ pub fn load_all(
         × (result.units ≤ 32768)
         × (result.records ≤ 1179648) }
 {
-    let mut units = 0;
-    let mut records = 0;
-    if m == 0 {
-        return Load { units, records };
+    let mut load = Load {
+        units: 0,
+        records: 0,
+    };
+    if m != 0 {
+        for w in &words[..count] {
+            load += load_of(index, attributes, n, m, mode_of(*w));
+        }
     }
-    let mut k = 0;
-    while k < count {
-        let one = load_of(index, attributes, n, m, mode_of(words[k]));
-        units += one.units;
-        records += one.records;
-        k += 1;
-    }
-    Load { units, records }
+    load
 }
 
 // Is the k-th attribute kept with the element along a strand of this mode?
@@ -116,10 +107,7 @@ pub fn is_kept(index: &[u32; 256], mode: u8, attributes: &[u32; HELD], k: usize)
     requires { k < 16 }
     ensures { result ≡ keeps index.now mode (sorted_in (attributes_in attributes.now) (sections_in attributes.now) k) }
 {
-    if section_at(attributes, k) == 0 {
-        return true;
-    }
-    keeps_class(index, mode, class_at(attributes, k))
+    section_at(attributes, k) == 0 || keeps_class(index, mode, class_at(attributes, k))
 }
 
 // How many of the n attributes are kept.
@@ -128,12 +116,10 @@ pub fn kept_count(index: &[u32; 256], mode: u8, attributes: &[u32; HELD], n: usi
     ensures { (result ≡ length (keep (keeps index.now mode) (sorted_held attributes.now n))) × (result ≤ 16) }
 {
     let mut m = 0;
-    let mut k = 0;
-    while k < n {
+    for k in 0..n {
         if is_kept(index, mode, attributes, k) {
             m += 1;
         }
-        k += 1;
     }
     m
 }
@@ -146,10 +132,7 @@ fn count_with(w: u32, kept: usize) -> usize
     if !delivers(w) {
         return 0;
     }
-    if is_here(w) {
-        return 2 + 2 * kept;
-    }
-    1 + 2 * kept
+    usize::from(is_here(w)) + (1 + 2 * kept)
 }
 
 // How many records the element makes along a strand. Where there are no sections every attribute is kept.
@@ -158,9 +141,10 @@ fn element_count(index: &[u32; 256], w: u32, attributes: &[u32; HELD], n: usize,
     ensures { ((schema : ℕ) → result ≡ element_count index.now (sorted_held attributes.now n) (record { strand = strand_in w; schema = schema })) × (result ≤ 34) }
 {
     if m == 0 {
-        return count_with(w, n);
+        count_with(w, n)
+    } else {
+        count_with(w, kept_count(index, mode_of(w), attributes, n))
     }
-    count_with(w, kept_count(index, mode_of(w), attributes, n))
 }
 
 // How many records the element makes along all strands.
@@ -176,10 +160,8 @@ pub fn elements_count(
     ensures { ((schemas : List ℕ) → result ≡ total (element_count index.now (sorted_held attributes.now n)) (entries_in words.now schemas count)) × (result ≤ 544) }
 {
     let mut r = 0;
-    let mut k = 0;
-    while k < count {
-        r += element_count(index, words[k], attributes, n, m);
-        k += 1;
+    for w in &words[..count] {
+        r += element_count(index, *w, attributes, n, m);
     }
     r
 }

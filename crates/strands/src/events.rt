@@ -18,10 +18,7 @@ fn records_of(w: u32, closes: bool) -> usize
     ensures { (result ≡ event_count closes w) × (result ≤ 2) }
 {
     // Two bits for each action, whether its unit opened here and whether it has a target. The second number is for an event that closes.
-    let mut counts: u32 = 0x51510000;
-    if closes {
-        counts = 0xA2510000;
-    }
+    let counts: u32 = if closes { 0xA2510000 } else { 0x51510000 };
     (counts >> (w / 32 % 16 * 2) & 3) as usize
 }
 
@@ -44,15 +41,7 @@ pub fn event_count(levels: &[u32; LEVELS], level: usize, n: usize, closes: bool)
 fn with_unit(row: Row, unit: u32) -> Row
     ensures { result ≡ row_for unit (body_of row) }
 {
-    Row {
-        unit,
-        kind: row.kind,
-        class: row.class,
-        at: row.at,
-        len: row.len,
-        uri_at: row.uri_at,
-        uri_len: row.uri_len,
-    }
+    Row { unit, ..row }
 }
 
 // A row of this unit with kind and class alone.
@@ -83,14 +72,12 @@ pub fn write_event(
     ensures { laid out.new result ≡ laid_rows (laid out.old 0) (map row_of (gather (event_records (body_of row) closes) (words_at (level_strands levels.now) level n))) }
 {
     let mut used = 0;
-    let mut j = 0;
-    while j < n {
+    for j in 0..n {
         let w = strand_at(levels, level, j);
         let due = delivers(w);
         let unit = target_of(w);
         let next = put_row_if(out, used, due, with_unit(row, unit));
         used = put_row_if(out, next, due & closes & is_here(w), plain_row(unit, 6, 0));
-        j += 1;
     }
     used
 }

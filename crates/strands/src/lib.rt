@@ -1,6 +1,8 @@
 // The strands of an element, its attribute sections, and the records of an event, over arrays of numbers.
 #![tactic(auto)]
 
+ghost use Rattle.std.specs.Prelude.{◌≡◌, ◌+◌, ◌^◌, ◌<◌};
+
 pub mod counts;
 pub mod events;
 pub mod levels;
@@ -8,6 +10,7 @@ pub mod packed;
 pub mod rules;
 
 use reader::Scope;
+use std::ops::AddAssign;
 
 // The numbers of all levels, 24 to a level.
 pub const LEVELS: usize = 24 * Scope::DEPTH;
@@ -17,6 +20,17 @@ pub const LEVELS: usize = 24 * Scope::DEPTH;
 pub struct Load {
     pub units: usize,
     pub records: usize,
+}
+
+impl AddAssign for Load {
+    ghost can_add_assign = { λ a b. (a.units + b.units < 2 ^ 64) × (a.records + b.records < 2 ^ 64) };
+
+    ghost add_assign_gives = { λ a b c. (c.units ≡ a.units + b.units) × (c.records ≡ a.records + b.records) };
+
+    fn add_assign(&mut self, other: Load) {
+        self.units += other.units;
+        self.records += other.records;
+    }
 }
 
 // Where writing has come to: the next unit's number, and the first free byte.

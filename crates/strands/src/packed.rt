@@ -2,7 +2,7 @@
 ghost use Rattle.std.specs.Prelude.{◌≡◌, ℕ, ◌<◌};
 ghost use Rattle.std.proofs.Math.Option.{none};
 ghost use Rattle.model.specs.Stream.{HeldStrand, stay};
-ghost use Rattle.strands.specs.Packed.{strand_in, packed, action_number, target_number, receives, is_unit, target_in};
+ghost use Rattle.strands.specs.Packed.{strand_in, packed, target_number, receives, is_unit, target_in};
 ghost use Rattle.strands.specs.Entries.{made_by, aimed_at};
 
 use table::words::action_of;
@@ -36,23 +36,14 @@ pub fn target_of(w: u32) -> u32
     w / 512 % 65536
 }
 
-// Its target with the bit that says there is one; 0 where there is none.
+// Its target with the bit that says there is one; 0 where there is none: the bits of a packed strand.
 fn aim_of(w: u32) -> u32
     ensures { result ≡ target_number (strand_in w).target }
 {
     if w / 256 % 2 == 1 {
-        return 256 + target_of(w) * 512;
-    }
-    0
-}
-
-fn action_number(a: Action) -> u32
-    ensures { (result ≡ action_number a) × (result < 3) }
-{
-    match a {
-        Action::Attach => 0,
-        Action::Unwrap => 1,
-        Action::Validate => 2,
+        256 + target_of(w) * 512
+    } else {
+        0
     }
 }
 
@@ -61,7 +52,7 @@ pub fn stay_of(w: u32) -> u32
     ensures { result ≡ packed (stay (strand_in w)) }
 {
     let action = action_of((w / 32 % 4) as u8);
-    (w % 32) + action_number(action) * 32 + aim_of(w)
+    (w % 32) + (action as u32) * 32 + aim_of(w)
 }
 
 // The strand that a rule makes of one. A new unit has no number yet.
@@ -69,9 +60,8 @@ pub fn made_by(w: u32, rule: Rule) -> u32
     requires { rule.next < 32 }
     ensures { result ≡ packed (made_by (strand_in w) rule).strand }
 {
-    let next = rule.next as u32;
-    let action = rule.action;
-    match action {
+    let next = u32::from(rule.next);
+    match rule.action {
         Action::Attach => next + aim_of(w),
         Action::Unwrap => next + 32 + aim_of(w),
         Action::Validate => next + 64 + 128,

@@ -3,7 +3,7 @@ use Prim.Native.Nat.{ℕ, ◌≤◌, ◌<◌}
 use mathlib.Core.Path.{◌≡◌, sym, ap, ◌∙◌}
 use mathlib.Core.List.{List}
 use mathlib.Core.Bool.{Bool, true, false, cond, not, ◌&&◌, ◌||◌}
-use borrow.Author.Tests.{lt-ltb, le-ltb, leb-true, not-false}
+use borrow.Author.Tests.{lt-ltb, le-ltb, leb-true}
 use lib.ListN.{length}
 use lib.Dec.{leb}
 use Rattle.laws.specs.Lists.{any, all, any_pair}
@@ -13,9 +13,9 @@ use Rattle.table.specs.Judge.{said, judged, header_fits, length_fits, word_fits,
 use Rattle.table.specs.declared.Answer.{Answer}
 use Rattle.table.specs.declared.Header.{Header}
 
-pub few_namespaces : (h : Header) (b : Bool) → b ≡ header_fits h → not b ≡ false → h.namespaces ≤ 30
+pub few_namespaces : (h : Header) (b : Bool) → b ≡ header_fits h → b ≡ true → h.namespaces ≤ 30
 few_namespaces h b e k =
-    leb-true h.namespaces 30 (and_left (leb h.namespaces 30) (leb 1 h.modes && (leb h.modes 32 && (leb h.schemas 64 && leb h.rules 128))) (sym e ∙ not-false b k))
+    leb-true h.namespaces 30 (and_left (leb h.namespaces 30) (leb 1 h.modes && (leb h.modes 32 && (leb h.schemas 64 && leb h.rules 128))) (sym e ∙ k))
 
 -- 11 behind the length, and 12
 abbrev pub bad_field : List ℕ → Header → Bool
@@ -34,44 +34,51 @@ module _ (t : List ℕ) where
   unfolding judged
   by_tests l h e = rw (le-ltb (length t) 4 l) (ap (λ (g : Header). verdict (length t) (header_fits g) (length_fits t g) (bad_field t g) (bad_pair t g)) (sym e))
 
-  module _ (r : Answer) where
-    pub short : length t < 4 → r ≡ said 10 0 → r ≡ judged t
-    unfolding judged
-    short l e = e ∙ sym (rw (lt-ltb (length t) 4 l))
+  pub short : length t < 4 → said 10 0 ≡ judged t
+  unfolding judged
+  short l = sym (rw (lt-ltb (length t) 4 l))
 
-    module _ (l : 4 ≤ length t) (h : Header) (e : h ≡ header_of t) (hf : Bool) (fh : hf ≡ header_fits h) where
-      header_known : judged t ≡ verdict (length t) hf (length_fits t h) (bad_field t h) (bad_pair t h)
-      header_known = by_tests l h e ∙ ap (λ (b : Bool). verdict (length t) b (length_fits t h) (bad_field t h) (bad_pair t h)) (sym fh)
+  module _ (l : 4 ≤ length t) (h : Header) (e : h ≡ header_of t) (hf : Bool) (fh : hf ≡ header_fits h) where
+    header_known : judged t ≡ verdict (length t) hf (length_fits t h) (bad_field t h) (bad_pair t h)
+    header_known = by_tests l h e ∙ ap (λ (b : Bool). verdict (length t) b (length_fits t h) (bad_field t h) (bad_pair t h)) (sym fh)
 
-      pub bad_header : not hf ≡ true → r ≡ said 11 0 → r ≡ judged t
-      bad_header k d = d ∙ sym (header_known ∙ rw k)
+    pub bad_header : hf ≡ false → said 11 0 ≡ judged t
+    bad_header k = sym (header_known ∙ rw k)
 
-      module _ (kh : not hf ≡ false) (lf : Bool) (fl : lf ≡ length_fits t h) where
-        length_known : judged t ≡ verdict (length t) hf lf (bad_field t h) (bad_pair t h)
-        length_known = header_known ∙ ap (λ (b : Bool). verdict (length t) hf b (bad_field t h) (bad_pair t h)) (sym fl)
+    module _ (kh : hf ≡ true) (lf : Bool) (fl : lf ≡ length_fits t h) where
+      length_known : judged t ≡ verdict (length t) hf lf (bad_field t h) (bad_pair t h)
+      length_known = header_known ∙ ap (λ (b : Bool). verdict (length t) hf b (bad_field t h) (bad_pair t h)) (sym fl)
 
-        pub bad_length : not lf ≡ true → r ≡ said 10 0 → r ≡ judged t
-        bad_length k d = d ∙ sym (length_known ∙ rw (kh, k))
+      pub bad_length : lf ≡ false → said 10 0 ≡ judged t
+      bad_length k = sym (length_known ∙ rw (kh, k))
 
-        module _ (kl : not lf ≡ false) (wf : Bool) (fw : wf ≡ all (word_fits h) (words_of t h)) (em : Bool) (fe : em ≡ any is_empty (uris_of t h)) where
+      module _ (kl : lf ≡ true) (wf : Bool) (fw : wf ≡ all (word_fits h) (words_of t h)) where
+        words_known : judged t ≡ verdict (length t) hf lf (not wf || any is_empty (uris_of t h)) (bad_pair t h)
+        words_known = length_known ∙ ap (λ (b : Bool). verdict (length t) hf lf (not b || any is_empty (uris_of t h)) (bad_pair t h)) (sym fw)
+
+        pub bad_word : wf ≡ false → said 11 0 ≡ judged t
+        bad_word k = sym (words_known ∙ rw (kh, kl, k))
+
+        module _ (kw : wf ≡ true) (em : Bool) (fe : em ≡ any is_empty (uris_of t h)) where
           fields_known : judged t ≡ verdict (length t) hf lf (not wf || em) (bad_pair t h)
-          fields_known =
-              length_known
-              ∙ ap (λ (b : Bool). verdict (length t) hf lf (not b || any is_empty (uris_of t h)) (bad_pair t h)) (sym fw)
-              ∙ ap (λ (b : Bool). verdict (length t) hf lf (not wf || b) (bad_pair t h)) (sym fe)
+          fields_known = words_known ∙ ap (λ (b : Bool). verdict (length t) hf lf (not wf || b) (bad_pair t h)) (sym fe)
 
-          pub bad_field_lem : (not wf || em) ≡ true → r ≡ said 11 0 → r ≡ judged t
-          bad_field_lem k d = d ∙ sym (fields_known ∙ rw (kh, kl, k))
+          pub bad_empty : em ≡ true → said 11 0 ≡ judged t
+          bad_empty k = sym (fields_known ∙ rw (kh, kl, kw, k))
 
-          module _ (kf : (not wf || em) ≡ false) (rc : Bool) (fr : rc ≡ any_pair rules_clash (words_of t h)) (uc : Bool) (fu : uc ≡ uris_clash (uris_of t h)) where
-            all_known : judged t ≡ verdict (length t) hf lf (not wf || em) (rc || uc)
-            all_known =
-                fields_known
-                ∙ ap (λ (b : Bool). verdict (length t) hf lf (not wf || em) (b || uris_clash (uris_of t h))) (sym fr)
-                ∙ ap (λ (b : Bool). verdict (length t) hf lf (not wf || em) (rc || b)) (sym fu)
+          module _ (ke : em ≡ false) (rc : Bool) (fr : rc ≡ any_pair rules_clash (words_of t h)) where
+            rules_known : judged t ≡ verdict (length t) hf lf (not wf || em) (rc || uris_clash (uris_of t h))
+            rules_known = fields_known ∙ ap (λ (b : Bool). verdict (length t) hf lf (not wf || em) (b || uris_clash (uris_of t h))) (sym fr)
 
-            pub bad_pair_lem : (rc || uc) ≡ true → r ≡ said 12 0 → r ≡ judged t
-            bad_pair_lem k d = d ∙ sym (all_known ∙ rw (kh, kl, kf, k))
+            pub bad_rules : rc ≡ true → said 12 0 ≡ judged t
+            bad_rules k = sym (rules_known ∙ rw (kh, kl, kw, ke, k))
 
-            pub good : (rc || uc) ≡ false → r ≡ said 0 (length t) → r ≡ judged t
-            good k d = d ∙ sym (all_known ∙ rw (kh, kl, kf, k))
+            module _ (kr : rc ≡ false) (uc : Bool) (fu : uc ≡ uris_clash (uris_of t h)) where
+              all_known : judged t ≡ verdict (length t) hf lf (not wf || em) (rc || uc)
+              all_known = rules_known ∙ ap (λ (b : Bool). verdict (length t) hf lf (not wf || em) (rc || b)) (sym fu)
+
+              pub bad_uris : uc ≡ true → said 12 0 ≡ judged t
+              bad_uris k = sym (all_known ∙ rw (kh, kl, kw, ke, kr, k))
+
+              pub good : uc ≡ false → said 0 (length t) ≡ judged t
+              good k = sym (all_known ∙ rw (kh, kl, kw, ke, kr, k))

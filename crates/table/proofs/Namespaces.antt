@@ -1,19 +1,22 @@
 -- The URIs of a table, where they stand, and the classes that name them.
---     spans, places_inside, place-span     the part of the table at a listed URI's place is the URI
+--     spans, places_inside, span_of_lem    the part of the table at a listed URI's place is the URI
+--     listed_some, unlisted_none           which classes have a place
 --     class_of_listed, listed_of_class     in an accepted table the class of a listed URI is its place, from 1, and back
 --     one_class                            two URIs of one listed class are equal
 --     class_nil, class_xml                 the classes of no namespace and of xml's
 --     uris_few                             no more URIs than are asked for
 use Prim.Native.Nat.{ℕ, zero, suc, ◌+◌, ◌-◌, ◌*◌, ◌≤◌, ◌<◌}
-use mathlib.Core.Path.{◌≡◌, refl, sym, ap, ◌∙◌}
+use mathlib.Core.Path.{◌≡◌, refl, sym, ap, ◌∙◌, subst}
 use mathlib.Core.List.{List, [], ◌∷◌, map}
 use mathlib.Core.Bool.{Bool, true, false, cond}
 use mathlib.Core.Logic.{◌⊎◌, inl, inr, ⊎_elim}
 use native.Mathlib.Nat.{add-zero}
 use native.Mathlib.Omega.{arith}
-use borrow.Author.Tests.{eqb-true, eqb-false, ne_eqb, lt-ltb}
-use lib.ListN.{length, get_or, take, drop, get_or-map, get_or-eq_default}
+use borrow.Author.Tests.{ne_eqb, lt-ltb, ltb-true}
+use lib.ListN.{length, get_or, take, drop, length-map, get_or-map, get_or-eq_default}
 use lib.Dec.{eqb, ltb, leb}
+use Rattle.std.specs.Prelude.{Option, None, Some, slice_get}
+use Rattle.std.proofs.lemmas.Option.{slice_get_past, slice_get_within, get_or_from_slice_get, slice_get-get_or}
 use Rattle.laws.specs.Lists.{same_list, any, any_pair}
 use Rattle.laws.specs.Members.{In, All}
 use Rattle.laws.specs.Reading.{le_or_lt}
@@ -26,7 +29,7 @@ use Rattle.table.specs.Judge.{Accepted}
 use Rattle.table.specs.Places.{placed, places_from, places_of, place_of}
 use Rattle.table.specs.declared.Header.{Header}
 use Rattle.table.specs.declared.Listed.{Listed}
-use Rattle.table.proofs.Walk.{uri_at, last_uri, last_place, first_uri, first_place, place_inside}
+use Rattle.table.proofs.Walk.{uri_at, none_some, last_uri, last_place, first_uri, first_place, place_inside}
 use Rattle.table.proofs.Accepted.{header_in, all_listed, no_pair, no_xml, not_empty, uri_in_lem}
 
 -- no more URIs than are asked for
@@ -59,21 +62,16 @@ module _ (t : List ℕ) where
   spans_from : (n p : ℕ) → (map span_at (places_from n p (drop p t)) ≡ uris_from n (drop p t)) × All Inside (places_from n p (drop p t))
   unfolding places_from uris_from
   spans_from zero p = (refl, tt)
-  spans_from (suc n) p = by (eqb u.at 0) refl (spans_from n (u.at + u.len))
+  spans_from (suc n) p = by (uri_at t p) refl (λ q. spans_from n q)
     where
-      u : Listed
-      u = uri_at t p
-
-      by : (b : Bool) → b ≡ eqb u.at 0
-          → (map span_at (places_from n (u.at + u.len) (drop (u.at + u.len) t)) ≡ uris_from n (drop (u.at + u.len) t)) × All Inside (places_from n (u.at + u.len) (drop (u.at + u.len) t))
+      by : (o : Option Listed) → o ≡ uri_at t p
+          → ((q : ℕ) → (map span_at (places_from n q (drop q t)) ≡ uris_from n (drop q t)) × All Inside (places_from n q (drop q t)))
           → (map span_at (places_from (suc n) p (drop p t)) ≡ uris_from (suc n) (drop p t)) × All Inside (places_from (suc n) p (drop p t))
-      by true e ih =
-          let z : u.at ≡ 0 = eqb-true u.at 0 (sym e) in
-          (rw (last_place t p n u refl z, last_uri t p n u refl z), rw (last_place t p n u refl z) tt)
-      by false e ih =
-          let z : u.at ≡ 0 → ⊥ = eqb-false u.at 0 (sym e) in (
-            rw (first_place t p n u refl z, first_uri t p n u refl z) (ap (λ (us : List (List ℕ)). span_at u ∷ us) ih.0),
-            rw (first_place t p n u refl z) (place_inside t p n u refl z, ih.1),
+      by None e ih = (rw (last_place t p n e, last_uri t p n e), rw (last_place t p n e) tt)
+      by (Some u) e ih =
+          let rest = ih (u.at + u.len) in (
+            rw (first_place t p n u e, first_uri t p n u e) (ap (λ (us : List (List ℕ)). span_at u ∷ us) rest.0),
+            rw (first_place t p n u e) (place_inside t p n u e, rest.1),
           )
 
 module _ (t : List ℕ) (h : Header) where
@@ -95,18 +93,36 @@ module _ (t : List ℕ) (h : Header) where
       here : i < length (places_of t h) → Inside t (get_or (places_of t h) i (placed 0 0))
       here l = all_at (Inside t) (places_of t h) places_inside (get_or (places_of t h) i (placed 0 0)) (in_at (places_of t h) i (placed 0 0) l)
 
-  -- the same of `place_of`
-  pub span_of_lem : (i : ℕ) → span_at t (place_of t h (suc i)) ≡ get_or (uris_of t h) i []
-  unfolding place_of
-  span_of_lem i = let e : suc i - 1 ≡ i = omega arith in simp (lt-ltb 0 (suc i) (omega arith), e) (span_at_lem i)
+  pub as_many : length (places_of t h) ≡ length (uris_of t h)
+  as_many = sym (length-map (places_of t h) (λ (q : Listed). span_of t q.at q.len)) ∙ ap length spans
 
-  pub inside_of : (class : ℕ) → Inside t (place_of t h class)
+  -- the same of `place_of`
+  pub place_listed : (class : ℕ) (u : Listed) → Some u ≡ place_of t h class → (1 ≤ class) × (class ≤ length (uris_of t h)) × (slice_get (places_of t h) (class - 1) ≡ Some u)
   unfolding place_of
-  inside_of class = by (ltb 0 class)
+  place_listed class u e = by (ltb 0 class) refl e
     where
-      by : (b : Bool) → Inside t (cond b (get_or (places_of t h) (class - 1) (placed 0 0)) (placed 0 0))
-      by true = inside_at (class - 1)
-      by false = omega arith
+      by : (b : Bool) → b ≡ ltb 0 class → Some u ≡ cond b (slice_get (places_of t h) (class - 1)) None
+          → (1 ≤ class) × (class ≤ length (uris_of t h)) × (slice_get (places_of t h) (class - 1) ≡ Some u)
+      by true q f =
+          let l = ltb-true 0 class (sym q) in
+          (omega (arith, l), omega (arith, as_many, l, slice_get_within (places_of t h) (class - 1) u (sym f)), sym f)
+      by false q f = absurd (none_some (sym f))
+
+  pub span_of_lem : (class : ℕ) (u : Listed) → Some u ≡ place_of t h class → span_at t u ≡ get_or (uris_of t h) (class - 1) []
+  span_of_lem class u e =
+      ap (span_at t) (sym (get_or_from_slice_get (places_of t h) (class - 1) u (placed 0 0) (place_listed class u e).2)) ∙ span_at_lem (class - 1)
+
+  pub inside_of : (class : ℕ) (u : Listed) → Some u ≡ place_of t h class → Inside t u
+  inside_of class u e = subst (Inside t) (get_or_from_slice_get (places_of t h) (class - 1) u (placed 0 0) (place_listed class u e).2) (inside_at (class - 1))
+
+  pub listed_some : (class : ℕ) → 1 ≤ class → class ≤ length (uris_of t h) → Some (get_or (places_of t h) (class - 1) (placed 0 0)) ≡ place_of t h class
+  unfolding place_of
+  listed_some class lo hi = rw (lt-ltb 0 class lo) (sym (slice_get-get_or (places_of t h) (class - 1) (placed 0 0) (omega (arith, as_many))))
+
+  pub unlisted_none : (class : ℕ) → (class ≡ 0) ⊎ (length (uris_of t h) < class) → None ≡ place_of t h class
+  unfolding place_of
+  unlisted_none class (inl z) = simp z
+  unlisted_none class (inr l) = rw (lt-ltb 0 class (omega arith)) (sym (slice_get_past (places_of t h) (class - 1) (omega (arith, as_many))))
 
 -- ---- the place of a URI in a list
 listed_at : (us : List (List ℕ)) (k i : ℕ) → i < length us → any_pair same_list us ≡ false → listed_from us k (get_or us i []) ≡ k + i

@@ -1,21 +1,18 @@
 -- The rules of a table one by one.
-use Prim.Native.Nat.{ℕ, ◌+◌, ◌-◌, ◌*◌, ◌≤◌, ◌<◌}
+use Prim.Native.Nat.{ℕ, ◌+◌, ◌-◌, ◌≤◌, ◌<◌}
 use mathlib.Core.Path.{◌≡◌, sym, ap, ◌∙◌}
-use mathlib.Core.Bool.{Bool, true, false, not, ◌&&◌, ◌||◌}
+use mathlib.Core.Bool.{Bool, true, false, not, ◌||◌, or-false}
 use native.Mathlib.Nat.{zero-add, sub-zero}
 use native.Mathlib.Omega.{arith}
-use borrow.Author.Tests.{eqb-true, eq-eqb}
-use lib.Dec.{eqb}
 use Rattle.laws.specs.Lists.{any, all, any_pair, tabulate}
-use Rattle.laws.specs.Tests.{untold, untold', both}
+use Rattle.laws.specs.Tests.{untold, untold'}
 use mathlib.Core.List.{List, map}
-use lib.ListN.{length, get_or, get_or-map}
-use lib.Seq.{ext_get_or}
-use Rattle.laws.proofs.Flags.{flag_same, and_left, and_right}
-use Rattle.laws.proofs.Lists.{length_tabulate, get_d_tabulate, get_d_tabulate_out, all_done, all_not, all_on, asked_done, asked_on, pair_done, pair_found, pair_on}
+use lib.ListN.{length, length-drop, get_or, take, drop, get_or-map}
+use lib.Seq.{take_all, ext_get_or, length-take-le, get_or-take}
+use Rattle.laws.specs.Reading.{drop_here, drop_out}
+use Rattle.laws.proofs.Lists.{length_tabulate, get_d_tabulate, get_d_tabulate_out, all_done, all_not, all_on}
 use Rattle.table.specs.Table.{word_at, words_of, fields_of, rule_of}
-use Rattle.table.specs.Index.{key_of}
-use Rattle.table.specs.Judge.{fields_fit, word_fits, same_rule_key, keeps, rules_clash}
+use Rattle.table.specs.Judge.{fields_fit, word_fits, rules_clash}
 use Rattle.table.specs.declared.Fields.{Fields}
 use Rattle.table.specs.declared.Header.{Header}
 use Rattle.table.specs.declared.Rule.{Rule}
@@ -28,30 +25,6 @@ module _ (t : List ℕ) (h : Header) (i : ℕ) (r : Rule) where
 
   pub rule_outside : h.rules ≤ i → r ≡ rule_of 0 → r ≡ get_or (map rule_of (words_of t h)) i (rule_of 0)
   rule_outside l f = f ∙ ap rule_of (sym (get_d_tabulate_out (word_at t) 0 h.rules i 0 l)) ∙ sym (get_or-map rule_of (words_of t h) i 0)
-
--- "for one mode, kind, class": the bits above the action
-key_fields : (w : ℕ) → key_of w ≡ (fields_of w).mode * 512 + (fields_of w).kind * 256 + (fields_of w).class
-key_fields w = omega arith
-
-key_same : (v w : ℕ) → eqb (key_of v) (key_of w) ≡ same_rule_key (fields_of v) (fields_of w)
-key_same v w = flag_same _ _ fields key
-  where
-    fields : eqb (key_of v) (key_of w) ≡ true → same_rule_key (fields_of v) (fields_of w) ≡ true
-    fields e =
-        let k : key_of v ≡ key_of w = eqb-true (key_of v) (key_of w) e in
-        both _ _ (eq-eqb (fields_of v).mode (fields_of w).mode (omega arith))
-        (both _ _ (eq-eqb (fields_of v).kind (fields_of w).kind (omega arith)) (eq-eqb (fields_of v).class (fields_of w).class (omega arith)))
-
-    key : same_rule_key (fields_of v) (fields_of w) ≡ true → eqb (key_of v) (key_of w) ≡ true
-    key e =
-        let m = eqb-true (fields_of v).mode (fields_of w).mode (and_left _ _ e) in
-        let r = and_right (eqb (fields_of v).mode (fields_of w).mode) _ e in
-        let k = eqb-true (fields_of v).kind (fields_of w).kind (and_left _ _ r) in
-        let c = eqb-true (fields_of v).class (fields_of w).class (and_right (eqb (fields_of v).kind (fields_of w).kind) _ r) in
-        eq-eqb (key_of v) (key_of w) (key_fields v ∙ rw (m, k, c) (sym (key_fields w)))
-
-pub two_rules : (v w k l : ℕ) → k ≡ key_of v → l ≡ key_of w → (p q : Bool) → p ≡ keeps (fields_of v) → q ≡ keeps (fields_of w) → (eqb v w || eqb k l && (p && q)) ≡ rules_clash v w
-two_rules v w k l ek el p q ep eq = rw (ek, el, ep, eq, key_same v w)
 
 -- the loops that go through the rules: v is the answer
 module _ (t : List ℕ) (h : Header) (i : ℕ) (v : Bool) where
@@ -69,40 +42,49 @@ module _ (t : List ℕ) (h : Header) (i : ℕ) (v : Bool) where
       pub fit_on : not b ≡ false → all (word_fits h) (tabulate (word_at t) (i + 1) (h.rules - (i + 1))) ≡ v
       fit_on k = all_on (word_at t) i h.rules v (word_fits h) inv l (untold' b (word_fits h (word_at t i)) fits k)
 
--- the words in an array
-abbrev in_array : List ℕ → ℕ → ℕ
-in_array l k = get_or l k 0
+-- the loops that go through words, i of them behind us
+module _ (l : List ℕ) (i : ℕ) (v : Bool) where
+  module _ (w : ℕ) (a : Bool) (inv : (a || any (rules_clash w) (drop i l)) ≡ v) where
+    pub with_done : length l ≤ i → a ≡ v
+    unfolding any
+    with_done h = sym (or-false a) ∙ ap (λ (k : List ℕ). a || any (rules_clash w) k) (sym (drop_out l i h)) ∙ inv
 
--- the loops that go through them
-module _ (l : List ℕ) (n i : ℕ) (v : Bool) where
-  module _ (w : ℕ) (a : Bool) (inv : (a || any (rules_clash w) (tabulate (in_array l) i (n - i))) ≡ v) where
-    pub with_done : n ≤ i → a ≡ v
-    with_done = asked_done (in_array l) i n v (rules_clash w) a inv
+    pub with_on : i < length l → (b : Bool) → b ≡ rules_clash w (get_or l i 0) → ((a || b) || any (rules_clash w) (drop (i + 1) l)) ≡ v
+    unfolding any
+    with_on h b e = by a (ap (λ (x : Bool). a || (x || any (rules_clash w) (drop (i + 1) l))) e ∙ ap (λ (k : List ℕ). a || any (rules_clash w) k) (sym (drop_here l i h)) ∙ inv)
+      where
+        by : (c : Bool) → (c || (b || any (rules_clash w) (drop (i + 1) l))) ≡ v → ((c || b) || any (rules_clash w) (drop (i + 1) l)) ≡ v
+        by true q = q
+        by false q = q
 
-    pub with_on : i < n → (b : Bool) → b ≡ rules_clash w (get_or l i 0) → (a || b || any (rules_clash w) (tabulate (in_array l) (i + 1) (n - (i + 1)))) ≡ v
-    with_on h b e = rw e (asked_on (in_array l) i n v (rules_clash w) a inv h)
+  module _ (inv : any_pair rules_clash (drop i l) ≡ v) where
+    pub pairs_done : length l ≤ i → false ≡ v
+    unfolding any_pair
+    pairs_done h = simp (← inv, drop_out l i h)
 
-  module _ (inv : any_pair rules_clash (tabulate (in_array l) i (n - i)) ≡ v) where
-    pub pairs_done : n ≤ i → false ≡ v
-    pairs_done = pair_done (in_array l) i n v rules_clash inv
+    -- the slice behind it
+    module _ (h : i < length l) (b : Bool) (e' : b ≡ any (rules_clash (get_or l i 0)) (take (length l - (i + 1)) (drop (i + 1) l))) where
+      e : b ≡ any (rules_clash (get_or l i 0)) (drop (i + 1) l)
+      e = e' ∙ ap (any (rules_clash (get_or l i 0))) (take_all (length l - (i + 1)) (drop (i + 1) l) (omega (arith, length-drop (i + 1) l)))
 
-    module _ (h : i < n) (b : Bool) (e : b ≡ any (rules_clash (get_or l i 0)) (tabulate (in_array l) (i + 1) (n - (i + 1)))) where
       pub pairs_found : b ≡ true → true ≡ v
-      pairs_found k = pair_found (in_array l) i n v rules_clash inv h (sym e ∙ k)
+      unfolding any_pair
+      pairs_found k = simp (← inv, drop_here l i h, ← e, k)
 
-      pub pairs_on : b ≡ false → any_pair rules_clash (tabulate (in_array l) (i + 1) (n - (i + 1))) ≡ v
-      pairs_on k = pair_on (in_array l) i n v rules_clash inv h (sym e ∙ k)
+      pub pairs_on : b ≡ false → any_pair rules_clash (drop (i + 1) l) ≡ v
+      unfolding any_pair
+      pairs_on k = simp (← inv, drop_here l i h, ← e, k)
 
 -- where they begin
 module _ (t : List ℕ) (h : Header) where
   pub fit_start : all (word_fits h) (tabulate (word_at t) 0 (h.rules - 0)) ≡ all (word_fits h) (words_of t h)
   fit_start = simp sub-zero
 
-module _ (t l : List ℕ) (n : ℕ) (e : (k : ℕ) → k < n → get_or l k 0 ≡ word_at t k) where
-  pub pairs_start : any_pair rules_clash (tabulate (in_array l) 0 (n - 0)) ≡ any_pair rules_clash (tabulate (word_at t) 0 n)
-  pairs_start = simp sub-zero (ap (any_pair rules_clash) (ext_get_or 0 _ _ (length_tabulate (in_array l) 0 n ∙ sym (length_tabulate (word_at t) 0 n)) here))
-    where
-      here : (k : ℕ) → k < length (tabulate (in_array l) 0 n) → get_or (tabulate (in_array l) 0 n) k 0 ≡ get_or (tabulate (word_at t) 0 n) k 0
-      here k h =
-          let m : k < n = omega (arith, length_tabulate (in_array l) 0 n) in
-          get_d_tabulate (in_array l) 0 n k 0 m ∙ ap (in_array l) (zero-add k) ∙ e k m ∙ ap (word_at t) (sym (zero-add k)) ∙ sym (get_d_tabulate (word_at t) 0 n k 0 m)
+-- the words laid down in an array
+pub words_taken : (t l : List ℕ) (h : Header) → h.rules ≤ length l → ((k : ℕ) → k < h.rules → get_or l k 0 ≡ word_at t k) → take h.rules l ≡ words_of t h
+words_taken t l h m e = ext_get_or 0 _ _ (length-take-le h.rules l m ∙ sym (length_tabulate (word_at t) 0 h.rules)) here
+  where
+    here : (k : ℕ) → k < length (take h.rules l) → get_or (take h.rules l) k 0 ≡ get_or (words_of t h) k 0
+    here k q =
+        let n : k < h.rules = omega (arith, length-take-le h.rules l m) in
+        get_or-take h.rules l k 0 n ∙ e k n ∙ ap (word_at t) (sym (zero-add k)) ∙ sym (get_d_tabulate (word_at t) 0 h.rules k 0 n)

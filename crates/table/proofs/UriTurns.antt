@@ -3,23 +3,30 @@ use Prim.Native.Nat.{ℕ, suc, ◌+◌, ◌-◌, ◌*◌, ◌≤◌, ◌<◌}
 use mathlib.Core.Path.{◌≡◌, refl, sym, ap, ◌∙◌}
 use mathlib.Core.List.{List, [], ◌∷◌}
 use mathlib.Core.Bool.{Bool, true, false, cond, not, ◌||◌, or-true}
+use mathlib.Core.Logic.{⊎_elim}
 use native.Mathlib.Nat.{sub-zero}
 use native.Mathlib.Omega.{arith}
-use borrow.Author.Tests.{eq-eqb, ne_eqb, le-leb, lt-leb, lt-ltb}
-use lib.ListN.{length, get_or, drop, length-drop}
-use lib.Dec.{eqb}
+use borrow.Author.Tests.{eq-eqb, ne_eqb, le-leb, lt-leb, lt-ltb, le-ltb}
+use lib.ListN.{length, drop, length-drop}
+use lib.Dec.{eqb, ltb}
+use Rattle.std.specs.Prelude.{Option, None, Some, slice_get}
 use Rattle.laws.specs.Lists.{same_list, any, any_pair}
+use Rattle.laws.specs.Reading.{le_or_lt}
 use Rattle.laws.proofs.Flags.{eqb_same}
 use Rattle.laws.proofs.Lists.{any_same}
 use Rattle.compare.specs.Compare.{span_of, xml_uri}
 use Rattle.compare.proofs.Equal.{same_sym}
 use Rattle.table.specs.Table.{uris_from, uris_of, listed_from, class_of, table_of}
 use Rattle.table.specs.Judge.{uris_fill, uris_clash, length_fits, is_empty}
-use Rattle.table.specs.Places.{placed, places_from, place_of}
+use Rattle.table.specs.Places.{places_from, place_of}
 use Rattle.table.specs.declared.Header.{Header}
 use Rattle.table.specs.declared.Listed.{Listed}
 use Rattle.table.proofs.Namespaces.{uris_few}
 use Rattle.table.proofs.Walk.{uri_at, no_uri, one_uri, no_place, one_place, no_fill, one_fill}
+
+either_none : (b : Bool) (o : Option Listed) → None ≡ o → None ≡ cond b o None
+either_none true o e = e
+either_none false o e = refl
 
 module _ (t : List ℕ) (p n i : ℕ) where
   all_past : n ≤ i → uris_from (n - i) (drop p t) ≡ []
@@ -32,37 +39,42 @@ module _ (t : List ℕ) (p n i : ℕ) where
     unfolding listed_from
     listed_done h = simp (← inv, all_past h)
 
-    module _ (l : i < n) (u : Listed) (e : u ≡ uri_at t p) where
-      pub listed_none : u.at ≡ 0 → 255 ≡ v
+    module _ (l : i < n) where
+      pub listed_none : None ≡ uri_at t p → 255 ≡ v
       unfolding listed_from
-      listed_none z = simp (← inv, no_uri t p n i u l e z)
+      listed_none e = simp (← inv, no_uri t p n i l e)
 
-      module _ (z : u.at ≡ 0 → ⊥) (part : List ℕ) (f : part ≡ span_of t u.at u.len) (b : Bool) (g : b ≡ same_list part uri) where
+      module _ (u : Listed) (e : Some u ≡ uri_at t p) (part : List ℕ) (f : part ≡ span_of t u.at u.len) (b : Bool) (g : b ≡ same_list part uri) where
         pub listed_here : b ≡ true → i + 1 ≡ v
         unfolding listed_from
-        listed_here h = simp (← inv, one_uri t p n i u l e z, ← f, ← g, h)
+        listed_here h = simp (← inv, one_uri t p n i l u e, ← f, ← g, h)
 
         pub listed_on : b ≡ false → listed_from (uris_from (n - (i + 1)) (drop (u.at + u.len) t)) (i + 1 + 1) uri ≡ v
         unfolding listed_from
-        listed_on h = simp (← inv, one_uri t p n i u l e z, ← f, ← g, h)
+        listed_on h = simp (← inv, one_uri t p n i l u e, ← f, ← g, h)
 
   -- where does the URI of a class stand?
-  module _ (class : ℕ) (v : Listed) (inv : get_or (places_from (n - i) p (drop p t)) (class - (i + 1)) (placed 0 0) ≡ v) where
-    pub place_done : n ≤ i → placed 0 0 ≡ v
+  module _ (class : ℕ) (v : Option Listed) (inv : cond (ltb i class) (slice_get (places_from (n - i) p (drop p t)) (class - (i + 1))) None ≡ v) where
+    pub place_done : n ≤ i → None ≡ v
     unfolding places_from
-    place_done h = let z : n - i ≡ 0 = omega arith in simp (← inv, z)
+    place_done h = let z : n - i ≡ 0 = omega arith in either_none (ltb i class) _ (rw z refl) ∙ inv
 
-    module _ (l : i < n) (u : Listed) (e : u ≡ uri_at t p) where
-      pub place_none : u.at ≡ 0 → placed 0 0 ≡ v
-      place_none z = simp (← inv, no_place t p n i u l e z)
+    module _ (l : i < n) where
+      pub place_none : None ≡ uri_at t p → None ≡ v
+      place_none e = either_none (ltb i class) _ (rw (no_place t p n i l e) refl) ∙ inv
 
-      module _ (z : u.at ≡ 0 → ⊥) where
-        pub place_here : i + 1 ≡ class → u ≡ v
-        place_here h = let k : class - (i + 1) ≡ 0 = omega arith in simp (← inv, one_place t p n i u l e z, k)
+      module _ (u : Listed) (e : Some u ≡ uri_at t p) where
+        pub place_here : i + 1 ≡ class → Some u ≡ v
+        place_here h = let k : class - (i + 1) ≡ 0 = omega arith in simp (← inv, lt-ltb i class (omega arith), one_place t p n i l u e, k)
 
-        pub place_on : i < class → (i + 1 ≡ class → ⊥)
-            → get_or (places_from (n - (i + 1)) (u.at + u.len) (drop (u.at + u.len) t)) (class - (i + 1 + 1)) (placed 0 0) ≡ v
-        place_on m h = let k : class - (i + 1) ≡ suc (class - (i + 1 + 1)) = omega arith in simp (← inv, one_place t p n i u l e z, k)
+        pub place_on : (i + 1 ≡ class → ⊥) → cond (ltb (i + 1) class) (slice_get (places_from (n - (i + 1)) (u.at + u.len) (drop (u.at + u.len) t)) (class - (i + 1 + 1))) None ≡ v
+        place_on h = ⊎_elim past before (le_or_lt class i)
+          where
+            past : class ≤ i → cond (ltb (i + 1) class) (slice_get (places_from (n - (i + 1)) (u.at + u.len) (drop (u.at + u.len) t)) (class - (i + 1 + 1))) None ≡ v
+            past m = simp (← inv, le-ltb (i + 1) class (omega arith), le-ltb i class m)
+
+            before : i < class → cond (ltb (i + 1) class) (slice_get (places_from (n - (i + 1)) (u.at + u.len) (drop (u.at + u.len) t)) (class - (i + 1 + 1))) None ≡ v
+            before m = let k : class - (i + 1) ≡ suc (class - (i + 1 + 1)) = omega arith in simp (← inv, lt-ltb (i + 1) class (omega arith), lt-ltb i class m, one_place t p n i l u e, k)
 
   -- do the URIs fill the table?
   module _ (v : Bool) (inv : uris_fill (n - i) (drop p t) ≡ v) where
@@ -72,12 +84,12 @@ module _ (t : List ℕ) (p n i : ℕ) where
         let z : n - i ≡ 0 = omega arith in
         e ∙ sym (sym inv ∙ ap (λ (k : ℕ). uris_fill k (drop p t)) z ∙ ap (λ (k : ℕ). eqb k 0) (length-drop p t) ∙ eqb_same (length t - p) 0 p (length t) (λ x. omega arith) (λ x. omega arith))
 
-    module _ (l : i < n) (u : Listed) (e : u ≡ uri_at t p) where
-      pub fill_none : u.at ≡ 0 → false ≡ v
-      fill_none z = sym (no_fill t p n i u l e z) ∙ inv
+    module _ (l : i < n) where
+      pub fill_none : None ≡ uri_at t p → false ≡ v
+      fill_none e = sym (no_fill t p n i l e) ∙ inv
 
-      pub fill_on : (u.at ≡ 0 → ⊥) → uris_fill (n - (i + 1)) (drop (u.at + u.len) t) ≡ v
-      fill_on z = sym (one_fill t p n i u l e z) ∙ inv
+      pub fill_on : (u : Listed) → Some u ≡ uri_at t p → uris_fill (n - (i + 1)) (drop (u.at + u.len) t) ≡ v
+      fill_on u e = sym (one_fill t p n i l u e) ∙ inv
 
   -- is one of them listed twice, or that of xml?
   module _ (v : Bool) (inv : uris_clash (uris_from (n - i) (drop p t)) ≡ v) where
@@ -85,17 +97,17 @@ module _ (t : List ℕ) (p n i : ℕ) where
     unfolding any any_pair
     clash_done h = simp (← inv, all_past h)
 
-    module _ (l : i < n) (u : Listed) (e : u ≡ uri_at t p) where
-      pub clash_none : u.at ≡ 0 → false ≡ v
+    module _ (l : i < n) where
+      pub clash_none : None ≡ uri_at t p → false ≡ v
       unfolding any any_pair
-      clash_none z = simp (← inv, no_uri t p n i u l e z)
+      clash_none e = simp (← inv, no_uri t p n i l e)
 
-      module _ (z : u.at ≡ 0 → ⊥) (part : List ℕ) (f : part ≡ span_of t u.at u.len) where
+      module _ (u : Listed) (e : Some u ≡ uri_at t p) (part : List ℕ) (f : part ≡ span_of t u.at u.len) where
         abbrev rest : List (List ℕ)
         rest = uris_from (n - (i + 1)) (drop (u.at + u.len) t)
 
         opened : uris_clash (part ∷ rest) ≡ v
-        opened = ap (λ (k : List ℕ). uris_clash (k ∷ rest)) f ∙ ap uris_clash (sym (one_uri t p n i u l e z)) ∙ inv
+        opened = ap (λ (k : List ℕ). uris_clash (k ∷ rest)) f ∙ ap uris_clash (sym (one_uri t p n i l u e)) ∙ inv
 
         pub clash_xml : (b : Bool) → b ≡ same_list part xml_uri → b ≡ true → true ≡ v
         unfolding any
@@ -113,18 +125,14 @@ module _ (t : List ℕ) (p n i : ℕ) where
           unfolding any any_pair
           clash_on h k = sym (sym opened ∙ simp (← ga, h, ← twice, k))
 
-pub place_unlisted : (t : List ℕ) (h : Header) (class : ℕ) → class ≡ 0 → placed 0 0 ≡ place_of t h class
-unfolding place_of
-place_unlisted t h class z = simp z
-
 -- where the loops begin
 pub listed_start : (t : List ℕ) (p n : ℕ) (uri : List ℕ) → listed_from (uris_from (n - 0) (drop p t)) (0 + 1) uri ≡ listed_from (uris_from n (drop p t)) 1 uri
 listed_start t p n uri = simp sub-zero
 
 module _ (t : List ℕ) (h : Header) (p : ℕ) (e : p ≡ 4 + 4 * h.rules) where
-  pub place_start : (class : ℕ) → (class ≡ 0 → ⊥) → get_or (places_from (h.namespaces - 0) p (drop p t)) (class - (0 + 1)) (placed 0 0) ≡ place_of t h class
+  pub place_start : (class : ℕ) → cond (ltb 0 class) (slice_get (places_from (h.namespaces - 0) p (drop p t)) (class - (0 + 1))) None ≡ place_of t h class
   unfolding place_of
-  place_start class z = simp (sub-zero, e, lt-ltb 0 class (omega arith))
+  place_start class = simp (sub-zero, e)
 
   pub length_short : length t < p → false ≡ length_fits t h
   length_short l = simp (← e, lt-leb p (length t) l)

@@ -1,5 +1,5 @@
 -- Where the listed URIs stand: "the table's own bytes for a listed class". Definitions.
-use Rattle.std.specs.Prelude.{ℕ, zero, suc, ◌+◌, ◌*◌, ◌-◌, List, [], ◌∷◌, cond, length, drop, get_or, leb, ltb}
+use Rattle.std.specs.Prelude.{ℕ, zero, suc, ◌+◌, ◌*◌, ◌-◌, List, [], ◌∷◌, Option, None, cond, length, drop, slice_get, leb, ltb}
 use Rattle.table.specs.declared.Header.{Header}
 use Rattle.table.specs.declared.Listed.{Listed}
 
@@ -15,6 +15,6 @@ places_from (suc n) p (k ∷ l) = cond (leb k (length l)) (placed (p + 1) k ∷ 
 abbrev pub places_of : List ℕ → Header → List Listed
 places_of t h = places_from h.namespaces (4 + 4 * h.rules) (drop (4 + 4 * h.rules) t)
 
--- "1 to N listed": where the URI of a class stands; (0, 0) for a class that is not listed
-unfoldable pub place_of : List ℕ → Header → ℕ → Listed
-place_of t h class = cond (ltb 0 class) (get_or (places_of t h) (class - 1) (placed 0 0)) (placed 0 0)
+-- "1 to N listed": where the URI of a class stands; none for a class that is not listed
+unfoldable pub place_of : List ℕ → Header → ℕ → Option Listed
+place_of t h class = cond (ltb 0 class) (slice_get (places_of t h) (class - 1)) None

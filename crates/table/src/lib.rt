@@ -4,7 +4,7 @@
 pub mod uris;
 pub mod words;
 
-// What judge, step and run hand back, but for the session.
+// What judge, step and run hand back, but for the session: the numbers that document 01 names.
 #[derive(Clone, Copy)]
 pub struct Answer {
     pub number: u8,
@@ -30,7 +30,7 @@ pub enum Action {
     Validate,
 }
 
-// A rule's fields, as its 32 bits have them.
+// A rule's fields, as its 32 bits have them: the action is a number, of any bits.
 #[derive(Clone, Copy)]
 pub struct Fields {
     pub mode: u8,

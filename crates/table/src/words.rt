@@ -5,28 +5,21 @@ ghost use Rattle.table.specs.Index.{key_of};
 
 use crate::{Action, Fields, Header, Rule};
 
-// The i-th byte; 0 past the end.
+// The i-th byte; 0 past the end, as the definitions read a table.
 pub fn byte_at(table: &[u8], i: usize) -> u8
     ensures { result ≡ get_or table.now i 0 }
 {
-    if i < table.len() {
-        return table[i];
-    }
-    0
+    table.get(i).copied().unwrap_or(0)
 }
 
 pub fn header_of(table: &[u8]) -> Header
     ensures { result ≡ header_of table.now }
 {
-    let namespaces = byte_at(table, 0);
-    let modes = byte_at(table, 1);
-    let schemas = byte_at(table, 2);
-    let rules = byte_at(table, 3);
     Header {
-        namespaces,
-        modes,
-        schemas,
-        rules,
+        namespaces: byte_at(table, 0),
+        modes: byte_at(table, 1),
+        schemas: byte_at(table, 2),
+        rules: byte_at(table, 3),
     }
 }
 
@@ -34,19 +27,20 @@ pub fn header_of(table: &[u8]) -> Header
 pub fn word(a: u8, b: u8, c: u8, d: u8) -> u32
     ensures { result ≡ word_of a b c d }
 {
-    (a as u32) << 24 | (b as u32) << 16 | (c as u32) << 8 | (d as u32)
+    u32::from_be_bytes([a, b, c, d])
 }
 
 // The 32 bits of the i-th rule.
 pub fn word_at(table: &[u8], i: u8) -> u32
     ensures { result ≡ word_at table.now i }
 {
-    let at = 4 * (i as usize);
-    let a = byte_at(table, 4 + at);
-    let b = byte_at(table, 5 + at);
-    let c = byte_at(table, 6 + at);
-    let d = byte_at(table, 7 + at);
-    word(a, b, c, d)
+    let at = 4 * usize::from(i);
+    word(
+        byte_at(table, 4 + at),
+        byte_at(table, 5 + at),
+        byte_at(table, 6 + at),
+        byte_at(table, 7 + at),
+    )
 }
 
 // Mode, kind and class of a rule.
@@ -56,7 +50,7 @@ pub fn key_of(w: u32) -> u32
     w >> 18
 }
 
-// The fields of a rule.
+// The fields of a rule, by shifts and masks as document 01 packs them.
 pub fn unpack(w: u32) -> Fields
     ensures { result ≡ fields_of w }
 {
@@ -74,36 +68,34 @@ pub fn unpack(w: u32) -> Fields
 pub fn action_of(n: u8) -> Action
     ensures { result ≡ action_of n }
 {
-    if n == 0 {
-        return Action::Attach;
+    match n {
+        0 => Action::Attach,
+        1 => Action::Unwrap,
+        _ => Action::Validate,
     }
-    if n == 1 {
-        return Action::Unwrap;
-    }
-    Action::Validate
 }
 
 pub fn rule_of(w: u32) -> Rule
     ensures { result ≡ rule_of w }
 {
     let f = unpack(w);
-    let action = action_of(f.action);
     Rule {
         mode: f.mode,
         kind: f.kind,
         class: f.class,
-        action,
+        action: action_of(f.action),
         schema: f.schema,
         next: f.next,
     }
 }
 
-// The i-th rule; that of a word of zeros past the last.
+// The i-th rule; past the last that of a word of zeros, as the definitions read them.
 pub fn rule_at(table: &[u8], header: Header, i: u8) -> Rule
     ensures { result ≡ get_or (all_rules table.now header) i (rule_of 0) }
 {
     if i < header.rules {
-        return rule_of(word_at(table, i));
+        rule_of(word_at(table, i))
+    } else {
+        rule_of(0)
     }
-    rule_of(0)
 }

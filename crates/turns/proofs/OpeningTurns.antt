@@ -92,13 +92,13 @@ module _ (table index s own words schemas attributes : List ℕ) (o : Started) (
     rs = written (dispatch (decode table)) (state_of (decode table) s z) (start element)
 
     made : Made (decode table) s z element decided words schemas (attributes_in attributes) (sections_in attributes)
-    made = as-planned.as_decided.made as-planned.passed
+    made = as-planned.as_decided.1
 
     event_planned : p ≡ event o.at rs next
     event_planned =
         as-planned.plan_is
         ∙ plan_passed (decode table) s z e (open_of o.tag as-planned.ds) o.tag.next as-planned.shallow
-        (omega (arith, as-planned.few_bound, as-planned.told.owned_is)) decided.number as-planned.as_decided.number_is as-planned.passed
+        (omega (arith, as-planned.few_bound, as-planned.told.owned_is)) 0 (sym as-planned.as_decided.0) refl
 
     session_is : (levels' bindings' spaces' strands' : List ℕ)
         → levels' ≡ overwrite levels (3 * head.depth) (level_numbers (whole_span o.tag.name) o.owned)

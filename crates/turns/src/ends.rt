@@ -1,23 +1,22 @@
 // A text and an end that come next: written, or counted, and the session's numbers behind them.
-ghost use Rattle.std.specs.Prelude.{◌≡◌, List, [], true, ℕ, ◌*◌, ◌+◌, ◌-◌, ◌/◌, ◌≤◌, ◌<◌, get_or, eqb, ltb};
+ghost use Rattle.std.specs.Prelude.{◌≡◌, List, [], ℕ, ◌*◌, ◌-◌, ◌/◌, ◌≤◌, ◌<◌, get_or, eqb, ltb};
 ghost use Rattle.laws.specs.Gather.{total};
 ghost use Rattle.table.specs.Table.{Table};
 ghost use Rattle.reader.specs.Spans.{between};
 ghost use Rattle.model.specs.Tree.{text, end};
 ghost use Rattle.model.specs.Stream.{written};
-ghost use Rattle.model.specs.Records.{text_body};
+ghost use Rattle.model.specs.Records.{Body, text_body};
 ghost use Rattle.model.specs.Dispatch.{dispatch};
+ghost use Rattle.records.specs.Rows.{body_of};
 ghost use Rattle.strands.specs.Packed.{words_at};
 ghost use Rattle.strands.specs.Writing.{row_for, event_count};
 ghost use Rattle.strands.specs.Levels.{level_names, level_spaces, level_strands};
 ghost use Rattle.sessions.specs.Sessions.{session_at, state_of, with_place, with_end};
 ghost use Rattle.sessions.specs.Stepping.{event_step};
-ghost use Rattle.sessions.specs.Turns.{end_row, text_head, closed_head, step_in, weighed_event};
+ghost use Rattle.sessions.specs.Turns.{InnerLevel, inner_records, end_row, text_head, closed_head, step_in, weighed_event};
 
 use crate::stop;
-use attributes::held::narrow;
 use reader::Span;
-use reader::kinds::minus;
 use records::Row;
 use sessions::{Head, Turn};
 use strands::LEVELS;
@@ -29,10 +28,51 @@ fn is_full(len: usize, levels: &[u32; LEVELS], level: usize, n: usize, closes: b
     requires { (level < 64) × (n ≤ 16) }
     ensures { result ≡ ltb (len / 16) (total (event_count closes) (words_at (level_strands levels.now) level n)) }
 {
-    if len >= 32 * n {
-        return false;
+    len < 32 * n && len / 16 < event_count(levels, level, n, closes)
+}
+
+// An event of the innermost level: 25, or its row for each strand, and the session's numbers behind it.
+fn write_turn(
+    at: usize,
+    row: Row,
+    closes: bool,
+    head: Head,
+    behind: Head,
+    levels: &[u32; LEVELS],
+    out: &mut [u8],
+) -> Turn
+    requires { InnerLevel head levels.now }
+    ensures { (bindings : List ℕ) → (
+        step_in result levels.now bindings out.new
+        ≡ event_step at (inner_records (body_of row) closes head levels.now) (session_at behind levels.now bindings) (session_at head levels.now bindings) out.old
+        ) }
+{
+    let level = head.depth - 1;
+    let n = count_at(levels, level);
+    if is_full(out.len(), levels, level, n, closes) {
+        return stop(25, at, head);
     }
-    len / 16 < event_count(levels, level, n, closes)
+    let used = write_event(levels, level, n, row, closes, out);
+    Turn {
+        number: 0,
+        place: behind.place,
+        records: used / 16,
+        head: behind,
+    }
+}
+
+// An event of the innermost level, its records counted.
+fn count_turn(closes: bool, head: Head, behind: Head, levels: &[u32; LEVELS]) -> Turn
+    requires { InnerLevel head levels.now }
+    ensures { (b : Body) (bindings : List ℕ) → step_in result levels.now bindings [] ≡ weighed_event (inner_records b closes head levels.now) (session_at behind levels.now bindings) }
+{
+    let level = head.depth - 1;
+    Turn {
+        number: 0,
+        place: behind.place,
+        records: event_count(levels, level, count_at(levels, level), closes),
+        head: behind,
+    }
 }
 
 fn text_row(at: usize, end: usize) -> Row
@@ -43,8 +83,8 @@ fn text_row(at: usize, end: usize) -> Row
         unit: 0,
         kind: 4,
         class: 0,
-        at: narrow(at),
-        len: narrow(minus(end, at)),
+        at: at as u32,
+        len: end.saturating_sub(at) as u32,
         uri_at: 0,
         uri_len: 0,
     }
@@ -54,67 +94,44 @@ fn text_row(at: usize, end: usize) -> Row
 fn text_head(head: Head, end: usize) -> Head
     ensures { result ≡ text_head head end }
 {
-    Head {
-        place: end,
-        units: head.units,
-        closed: head.closed,
-        awaited: head.awaited,
-        depth: head.depth,
-        bound: head.bound,
-    }
+    Head { place: end, ..head }
 }
 
 // A text: 25, or its records.
 pub fn text_event(at: usize, end: usize, head: Head, levels: &[u32; LEVELS], out: &mut [u8]) -> Turn
-    requires { (1 ≤ head.depth) × (head.depth ≤ 64) × (get_or (level_spaces levels.now) (4 * (head.depth - 1) + 3) 0 ≤ 16) × (at < 4294967296) × (end < 4294967296) }
+    requires { InnerLevel head levels.now × (at < 4294967296) × (end < 4294967296) }
     ensures { (t : Table) (s bindings : List ℕ) → (
         let z = session_at head levels.now bindings in
         step_in result levels.now bindings out.new
         ≡ event_step at (written (dispatch t) (state_of t s z) (text (between at end))) (with_place z end) z out.old
         ) }
 {
-    let level = head.depth - 1;
-    let n = count_at(levels, level);
-    if is_full(out.len(), levels, level, n, false) {
-        return stop(25, at, head);
-    }
-    let used = write_event(levels, level, n, text_row(at, end), false, out);
-    Turn {
-        number: 0,
-        place: end,
-        records: used / 16,
-        head: text_head(head, end),
-    }
+    let row = text_row(at, end);
+    write_turn(at, row, false, head, text_head(head, end), levels, out)
 }
 
 // A text, its records counted.
 pub fn weigh_text(end: usize, head: Head, levels: &[u32; LEVELS]) -> Turn
-    requires { (1 ≤ head.depth) × (head.depth ≤ 64) × (get_or (level_spaces levels.now) (4 * (head.depth - 1) + 3) 0 ≤ 16) }
+    requires { InnerLevel head levels.now }
     ensures { (t : Table) (s bindings : List ℕ) (at : ℕ) → (
         let z = session_at head levels.now bindings in
         step_in result levels.now bindings []
         ≡ weighed_event (written (dispatch t) (state_of t s z) (text (between at end))) (with_place z end)
         ) }
 {
-    let level = head.depth - 1;
-    Turn {
-        number: 0,
-        place: end,
-        records: event_count(levels, level, count_at(levels, level), false),
-        head: text_head(head, end),
-    }
+    count_turn(false, head, text_head(head, end), levels)
 }
 
 fn end_row(part: Span, levels: &[u32; LEVELS], level: usize) -> Row
-    requires { level < 64 }
+    requires { (level < 64) × (get_or (level_spaces levels.now) (4 * level) 0 < 256) × (part.at < 4294967296) × (part.len < 4294967296) }
     ensures { result ≡ end_row part (level_spaces levels.now) level }
 {
     Row {
         unit: 0,
         kind: 5,
-        class: (space_at(levels, level, 0) % 256) as u8,
-        at: narrow(part.at),
-        len: narrow(part.len),
+        class: space_at(levels, level, 0) as u8,
+        at: part.at as u32,
+        len: part.len as u32,
         uri_at: space_at(levels, level, 1),
         uri_len: space_at(levels, level, 2),
     }
@@ -128,11 +145,11 @@ fn closed_head(head: Head, place: usize, levels: &[u32; LEVELS]) -> Head
     let level = head.depth - 1;
     Head {
         place,
-        units: head.units,
         closed: level == 0,
         awaited: false,
         depth: level,
-        bound: minus(head.bound, owned_at(levels, level)),
+        bound: head.bound.saturating_sub(owned_at(levels, level)),
+        ..head
     }
 }
 
@@ -145,41 +162,33 @@ pub fn end_event(
     levels: &[u32; LEVELS],
     out: &mut [u8],
 ) -> Turn
-    requires { (1 ≤ head.depth) × (head.depth ≤ 64) × (get_or (level_spaces levels.now) (4 * (head.depth - 1) + 3) 0 ≤ 16) × (get_or (level_spaces levels.now) (4 * (head.depth - 1)) 0 < 256) × (part.at < 4294967296) × (part.len < 4294967296) }
+    requires { InnerLevel head levels.now × (get_or (level_spaces levels.now) (4 * (head.depth - 1)) 0 < 256) × (part.at < 4294967296) × (part.len < 4294967296) }
     ensures { (t : Table) (s bindings : List ℕ) → (
         let z = session_at head levels.now bindings in
         step_in result levels.now bindings out.new
         ≡ event_step at (written (dispatch t) (state_of t s z) (end part)) (with_end z place (eqb head.depth 1)) z out.old
         ) }
 {
-    let level = head.depth - 1;
-    let n = count_at(levels, level);
-    if is_full(out.len(), levels, level, n, true) {
-        return stop(25, at, head);
-    }
-    let used = write_event(levels, level, n, end_row(part, levels, level), true, out);
-    Turn {
-        number: 0,
-        place,
-        records: used / 16,
-        head: closed_head(head, place, levels),
-    }
+    let row = end_row(part, levels, head.depth - 1);
+    write_turn(
+        at,
+        row,
+        true,
+        head,
+        closed_head(head, place, levels),
+        levels,
+        out,
+    )
 }
 
 // The end of the innermost level, its records counted.
 pub fn weigh_end(place: usize, head: Head, levels: &[u32; LEVELS]) -> Turn
-    requires { (1 ≤ head.depth) × (head.depth ≤ 64) × (get_or (level_spaces levels.now) (4 * (head.depth - 1) + 3) 0 ≤ 16) }
+    requires { InnerLevel head levels.now }
     ensures { (t : Table) (s bindings : List ℕ) (part : Span) → (
         let z = session_at head levels.now bindings in
         step_in result levels.now bindings []
         ≡ weighed_event (written (dispatch t) (state_of t s z) (end part)) (with_end z place (eqb head.depth 1))
         ) }
 {
-    let level = head.depth - 1;
-    Turn {
-        number: 0,
-        place,
-        records: event_count(levels, level, count_at(levels, level), true),
-        head: closed_head(head, place, levels),
-    }
+    count_turn(true, head, closed_head(head, place, levels), levels)
 }

@@ -1,42 +1,29 @@
 // A text and an end, as they come next: read, and decided without an output.
-ghost use Rattle.std.specs.Prelude.{◌≡◌, List, true, ℕ, ◌+◌, ◌≤◌, ◌<◌, length};
+ghost use Rattle.std.specs.Prelude.{◌≡◌, List, true, ℕ, Ok, ◌+◌, ◌≤◌, ◌<◌, length};
 ghost use Rattle.table.specs.Table.{decode};
-ghost use Rattle.reader.specs.Spans.{between};
 ghost use Rattle.reader.specs.Scope.{opens_of};
 ghost use Rattle.reader.specs.Held.{SpanHeld};
 ghost use Rattle.reader.specs.Events.{text_read, end_read};
-ghost use Rattle.lexer.specs.Stops.{number_of, stop_place};
 ghost use Rattle.lexer.specs.Values.{text_end};
 ghost use Rattle.lexer.specs.Tags.{end_tag_at};
-ghost use Rattle.lexer.specs.declared.Ended.TheVariants as ended;
 ghost use Rattle.strands.specs.Levels.{level_names, level_spaces};
 ghost use Rattle.sessions.specs.Sessions.{session_at, reader_of};
 ghost use Rattle.sessions.specs.Stepping.{plan_by, plan_of};
 ghost use Rattle.sessions.specs.Session.{Session};
-ghost use Rattle.sessions.specs.declared.Planned.TheVariants as planned;
 ghost use Rattle.sessions.specs.Turns.{Innermost, closes_at, PlannedAs};
 
 use compare::same;
-use lexer::stops::{number_of, place_of};
-use lexer::{EndTag, Ended, Read, Stop};
+use lexer::EndTag;
 use reader::Span;
-use reader::kinds::minus;
 use reader::scopes::{part_in, same_name};
-use sessions::{Head, Planned};
+use sessions::{Head, Planned, Refusal};
 use strands::LEVELS;
 use strands::levels::name_at;
 use tags::end_tag;
 use values::text_end;
 
-// Reading stopped.
-pub fn stopped(scene: &[u8], x: Stop) -> Planned
-    ensures { result ≡ planned.Refused (number_of x) (stop_place scene.now x) }
-{
-    Planned::Refused(number_of(x), place_of(scene, x))
-}
-
 // The text whose first byte stands at a place.
-pub fn plan_text(scene: &[u8], at: usize) -> Planned
+pub fn plan_text(scene: &[u8], at: usize) -> Result<Planned, Refusal>
     requires { (length scene.now ≤ 16777215) × (at ≤ length scene.now) }
     ensures { (table index own words schemas attributes : List ℕ) (z : Session) → (
         let s = scene.now in
@@ -44,8 +31,8 @@ pub fn plan_text(scene: &[u8], at: usize) -> Planned
         ) }
 {
     match text_end(scene, at) {
-        Read::End(end) => Planned::Text(at, end),
-        Read::Stopped(x) => stopped(scene, x),
+        Ok(end) => Ok(Planned::Text { at, end }),
+        Err(x) => Err(Refusal::stopped(scene, x)),
     }
 }
 
@@ -55,37 +42,44 @@ pub fn plan_awaited(scene: &[u8], head: Head, levels: &[u32; LEVELS]) -> Planned
     ensures { (table index own words schemas attributes bindings : List ℕ) → (
         let s = scene.now in
         let z = session_at head levels.now bindings in
-        PlannedAs table index s z own words schemas attributes result (plan_of (decode table) s z)
+        PlannedAs table index s z own words schemas attributes (Ok result) (plan_of (decode table) s z)
         ) }
 {
     let name = name_at(levels, head.depth - 1);
-    Planned::Awaited(part_in(scene, name), minus(name.at, 1))
-}
-
-fn span_between(from: usize, to: usize) -> Span
-    ensures { result ≡ between from to }
-{
-    Span {
-        at: from,
-        len: minus(to, from),
+    Planned::Awaited {
+        part: part_in(scene, name),
+        at: name.at.saturating_sub(1),
     }
 }
 
 // An end tag that was read: 4, or its end.
-fn plan_named(scene: &[u8], at: usize, tag: EndTag, head: Head, levels: &[u32; LEVELS]) -> Planned
+fn plan_named(
+    scene: &[u8],
+    at: usize,
+    tag: EndTag,
+    head: Head,
+    levels: &[u32; LEVELS],
+) -> Result<Planned, Refusal>
     requires { Innermost scene.now head (level_names levels.now) (level_spaces levels.now) × (tag.name.end < 4294967296) × (tag.name.part < 4294967296) }
     ensures { (table index own words schemas attributes bindings : List ℕ) → (
         let s = scene.now in
         let z = session_at head levels.now bindings in
-        PlannedAs table index s z own words schemas attributes result (plan_by (decode table) s z (end_read s at (opens_of z.scope) (ended.Got tag)))
+        PlannedAs table index s z own words schemas attributes result (plan_by (decode table) s z (end_read s at (opens_of z.scope) (Ok tag)))
         ) }
 {
     let name = tag.name;
-    let whole = span_between(name.at, name.end);
+    let whole = Span::between(name.at, name.end);
     if !same_name(scene, whole, name_at(levels, head.depth - 1)) {
-        return Planned::Refused(4, at);
+        return Err(Refusal {
+            number: 4,
+            place: at,
+        });
     }
-    Planned::End(span_between(name.part, name.end), at, tag.next)
+    Ok(Planned::End {
+        part: Span::between(name.part, name.end),
+        at,
+        place: tag.next,
+    })
 }
 
 // Do the bytes of a name of the scene and a > stand at a place?
@@ -94,19 +88,17 @@ fn closes(scene: &[u8], at: usize, name: Span) -> bool
     ensures { result ≡ closes_at scene.now at name }
 {
     let end = at + name.len;
-    if scene.len() <= end {
-        return false;
-    }
-    if scene[end] != b'>' {
-        return false;
-    }
-    let from = name.at;
-    let to = from + name.len;
-    same(&scene[at..end], &scene[from..to])
+    let name = &scene[name.at..name.at + name.len];
+    end < scene.len() && scene[end] == b'>' && same(&scene[at..end], name)
 }
 
 // The end tag whose < stands at a place: the innermost open name and a >, or what is read there.
-pub fn plan_end(scene: &[u8], at: usize, head: Head, levels: &[u32; LEVELS]) -> Planned
+pub fn plan_end(
+    scene: &[u8],
+    at: usize,
+    head: Head,
+    levels: &[u32; LEVELS],
+) -> Result<Planned, Refusal>
     requires { Innermost scene.now head (level_names levels.now) (level_spaces levels.now) × (at + 2 ≤ length scene.now) }
     ensures { (table index own words schemas attributes bindings : List ℕ) → (
         let s = scene.now in
@@ -120,10 +112,14 @@ pub fn plan_end(scene: &[u8], at: usize, head: Head, levels: &[u32; LEVELS]) -> 
             at: at + 2,
             len: open.len,
         };
-        return Planned::End(part_in(scene, name), at, at + 3 + open.len);
+        return Ok(Planned::End {
+            part: part_in(scene, name),
+            at,
+            place: at + 3 + open.len,
+        });
     }
     match end_tag(scene, at + 2) {
-        Ended::Got(tag) => plan_named(scene, at, tag, head, levels),
-        Ended::Stopped(x) => stopped(scene, x),
+        Ok(tag) => plan_named(scene, at, tag, head, levels),
+        Err(x) => Err(Refusal::stopped(scene, x)),
     }
 }

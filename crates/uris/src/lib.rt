@@ -27,45 +27,36 @@ pub enum Source {
 fn lies_in(s: &[u8], at: usize, len: usize) -> bool
     ensures { result ≡ leb (at + len) (length s.now) }
 {
-    if s.len() < len {
-        return false;
-    }
-    at <= s.len() - len
+    len <= s.len() && at <= s.len() - len
 }
 
 // Where the URI stands: in the table for a listed class, in the scene for 255 with a span inside it; else it is empty, at the scene's start.
 pub fn uri_span(table: &[u8], scene: &[u8], class: u8, at: usize, len: usize) -> UriSpan
     ensures { result ≡ uri_span_of table.now scene.now class at len }
 {
-    let judged = judge(table);
-    if judged.number != 0 {
-        return UriSpan {
-            source: Source::Scene,
-            at: 0,
-            len: 0,
-        };
+    let nowhere = UriSpan {
+        source: Source::Scene,
+        at: 0,
+        len: 0,
+    };
+    if judge(table).number != 0 {
+        return nowhere;
     }
-    let header = header_of(table);
-    if (1 <= class) & (class <= header.namespaces) {
-        let u = place_of(table, header, class);
+    if let Some(u) = place_of(table, header_of(table), class) {
         return UriSpan {
             source: Source::Table,
             at: u.at,
             len: u.len,
         };
     }
-    if (class == 255) & lies_in(scene, at, len) {
+    if class == 255 && lies_in(scene, at, len) {
         return UriSpan {
             source: Source::Scene,
             at,
             len,
         };
     }
-    UriSpan {
-        source: Source::Scene,
-        at: 0,
-        len: 0,
-    }
+    nowhere
 }
 
 // The URI: the part of the table or of the scene that uri_span names, at its place and of its length.
@@ -74,8 +65,7 @@ pub fn uri<'a>(table: &'a [u8], scene: &'a [u8], class: u8, at: usize, len: usiz
     ensures bytes { result.now ≡ uri_part table.now scene.now class at len }
 {
     let span = uri_span(table, scene, class, at, len);
-    let source = span.source;
-    match source {
+    match span.source {
         Source::Table => part_of(table, span.at, span.len),
         Source::Scene => part_of(scene, span.at, span.len),
     }

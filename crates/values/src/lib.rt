@@ -6,16 +6,15 @@ ghost use Rattle.lexer.specs.Shortcuts.{is_char};
 ghost use Rattle.lexer.specs.Values.{references, common, furthest, no_reference, reference_end, closes, value_from, value_end, text_end};
 
 use lanes::plain::plain_end;
+use lexer::Stop;
 use lexer::chars::{char_end, is_char};
-use lexer::{Read, Stop};
 use utf8::Set;
 
 // How many bytes from at on are those that the word begins with.
 fn common_at(s: &[u8], at: usize, word: &[u8]) -> usize
     ensures { result ≡ common (drop at s.now) word.now }
 {
-    let mut k = 0;
-    while k < word.len() {
+    for k in 0..word.len() {
         if s.len() <= at {
             return k;
         }
@@ -25,63 +24,53 @@ fn common_at(s: &[u8], at: usize, word: &[u8]) -> usize
         if s[at + k] != word[k] {
             return k;
         }
-        k += 1;
     }
-    k
-}
-
-fn larger(a: usize, b: usize) -> usize
-    ensures { result ≡ cond (ltb b a) a b }
-{
-    if b < a {
-        return a;
-    }
-    b
+    word.len()
 }
 
 // The most bytes from at on that one of the five references begins with.
 fn furthest_at(s: &[u8], at: usize) -> usize
     ensures { result ≡ furthest (drop at s.now) references }
 {
-    let e = larger(common_at(s, at, b"&apos;"), 0);
-    let d = larger(common_at(s, at, b"&quot;"), e);
-    let c = larger(common_at(s, at, b"&amp;"), d);
-    let b = larger(common_at(s, at, b"&gt;"), c);
-    larger(common_at(s, at, b"&lt;"), b)
+    let apos = common_at(s, at, b"&apos;");
+    let quot = common_at(s, at, b"&quot;").max(apos);
+    let amp = common_at(s, at, b"&amp;").max(quot);
+    let gt = common_at(s, at, b"&gt;").max(amp);
+    common_at(s, at, b"&lt;").max(gt)
 }
 
 // None of the five references stands whole at a place.
-fn no_reference(s: &[u8], at: usize) -> Read
+fn no_reference(s: &[u8], at: usize) -> Result<usize, Stop>
     ensures { result ≡ no_reference s.now at }
 {
     let k = furthest_at(s, at);
     if s.len() <= at {
-        return Read::Stopped(Stop::Cut);
+        return Err(Stop::Cut);
     }
     if s.len() - at <= k {
-        return Read::Stopped(Stop::Cut);
+        return Err(Stop::Cut);
     }
-    Read::Stopped(Stop::Bad(at + k))
+    Err(Stop::Bad(at + k))
 }
 
 // Where a reference whose & stands at a place ends.
-pub fn reference_end(s: &[u8], at: usize) -> Read
+pub fn reference_end(s: &[u8], at: usize) -> Result<usize, Stop>
     ensures { result ≡ reference_end s.now at }
 {
     if common_at(s, at, b"&lt;") == 4 {
-        return Read::End(at + 4);
+        return Ok(at + 4);
     }
     if common_at(s, at, b"&gt;") == 4 {
-        return Read::End(at + 4);
+        return Ok(at + 4);
     }
     if common_at(s, at, b"&amp;") == 5 {
-        return Read::End(at + 5);
+        return Ok(at + 5);
     }
     if common_at(s, at, b"&quot;") == 6 {
-        return Read::End(at + 6);
+        return Ok(at + 6);
     }
     if common_at(s, at, b"&apos;") == 6 {
-        return Read::End(at + 6);
+        return Ok(at + 6);
     }
     no_reference(s, at)
 }
@@ -123,10 +112,10 @@ fn high_end(s: &[u8], at: usize, quote: u8, from: usize) -> usize
             return i;
         }
         match char_end(s, i, Set::Char) {
-            Read::End(j) => {
+            Ok(j) => {
                 i = j;
             }
-            Read::Stopped(_) => {
+            Err(_) => {
                 return i;
             }
         }
@@ -135,56 +124,44 @@ fn high_end(s: &[u8], at: usize, quote: u8, from: usize) -> usize
 }
 
 // The same as value_end from a place on, byte by byte where a byte is not plain.
-fn value_rest(s: &[u8], at: usize, quote: u8, from: usize) -> Read
+fn value_rest(s: &[u8], at: usize, quote: u8, from: usize) -> Result<usize, Stop>
     ensures { result ≡ value_from s.now at quote from }
 {
     let mut i = from;
     while i < s.len() {
         let b = s[i];
         if b == quote {
-            return Read::End(i);
+            return Ok(i);
         }
         if b == b'&' {
-            match reference_end(s, i) {
-                Read::End(j) => {
-                    i = plain_end(s, j, quote);
-                }
-                Read::Stopped(x) => {
-                    return Read::Stopped(x);
-                }
-            }
+            let j = reference_end(s, i)?;
+            i = plain_end(s, j, quote);
         } else {
             if is_closing(s, at, quote, b, i) {
-                return Read::Stopped(Stop::Bad(i - 2));
+                return Err(Stop::Bad(i - 2));
             }
             if b < 0x80 {
                 if !is_text(b) {
-                    return Read::Stopped(Stop::Bad(i));
+                    return Err(Stop::Bad(i));
                 }
                 i = plain_end(s, i + 1, quote);
             } else {
-                match char_end(s, i, Set::Char) {
-                    Read::End(j) => {
-                        i = plain_end(s, high_end(s, at, quote, j), quote);
-                    }
-                    Read::Stopped(x) => {
-                        return Read::Stopped(x);
-                    }
-                }
+                let j = char_end(s, i, Set::Char)?;
+                i = plain_end(s, high_end(s, at, quote, j), quote);
             }
         }
     }
-    Read::Stopped(Stop::Cut)
+    Err(Stop::Cut)
 }
 
 // The place of the quote that ends a value, which begins at a place.
-pub fn value_end(s: &[u8], at: usize, quote: u8) -> Read
+pub fn value_end(s: &[u8], at: usize, quote: u8) -> Result<usize, Stop>
     ensures { result ≡ value_end s.now at quote }
 {
     let i = plain_end(s, at, quote);
     if i < s.len() {
         if s[i] == quote {
-            return Read::End(i);
+            return Ok(i);
         }
     }
     value_rest(s, at, quote, i)
@@ -203,13 +180,13 @@ fn line_passed(s: &[u8], at: usize) -> usize
 }
 
 // The place of the < that ends a text, which begins at a place.
-pub fn text_end(s: &[u8], at: usize) -> Read
+pub fn text_end(s: &[u8], at: usize) -> Result<usize, Stop>
     ensures { result ≡ text_end s.now at }
 {
     let i = plain_end(s, line_passed(s, at), b'<');
     if i < s.len() {
         if s[i] == b'<' {
-            return Read::End(i);
+            return Ok(i);
         }
     }
     value_rest(s, at, b'<', i)

@@ -1,6 +1,6 @@
 -- `steps::judged_steps` meets its contract: what is left to do is what was asked.
-use Prim.Native.Nat.{◌-◌}
-use mathlib.Core.Path.{refl, ◌∙◌}
+use Prim.Native.Nat.{ℕ, ◌-◌}
+use mathlib.Core.Path.{◌≡◌, refl, sym, ap, ◌∙◌}
 use native.Mathlib.Omega.{arith}
 use lib.ListN.{length, take, drop}
 use Rattle.laws.proofs.Over.{part_whole_lem, part_back}
@@ -8,6 +8,7 @@ use Rattle.table.specs.Table.{decode}
 use Rattle.sessions.specs.Sessions.{session_at}
 use Rattle.sessions.specs.Stepping.{Step}
 use Rattle.sessions.specs.Turns.{step_in}
+use Rattle.sessions.proofs.Advancing.{so_far}
 use Rattle.sessions.proofs.SoundCoherent.{sound_coherent}
 use Rattle.advances.proofs.RunTurns.{Turned, loop_sound, going_first, going_turned, going_last}
 use Rattle.advances.proofs.judged_steps.Goals as goal
@@ -73,12 +74,6 @@ overflow_add-used c = omega (arith, (turned (goal.at.overflow_add-used c).After-
 pub overflow_add-records : goal.overflow_add-records
 overflow_add-records c = omega (arith, (turned (goal.at.overflow_add-records c).After-judged_step-turn).room, c.loop-events.invariant.0.same_length, c.loop-events.invariant.0.counted, c.well_formed)
 
-pub overflow_add-events : goal.overflow_add-events
-overflow_add-events c = omega (arith, c.loop-events-test.true, c.well_formed)
-
-pub loop-events-smaller : goal.loop-events-smaller
-loop-events-smaller c = omega (arith, c.loop-events-test.true)
-
 pub loop-events-preserved : goal.loop-events-preserved
 loop-events-preserved c =
     let l = c.loop-events in
@@ -88,7 +83,12 @@ pub returns : goal.returns
 returns c =
     let a = c.args in
     let l = c.loop-events in
-    let z₀ = session_at a.from a.levels.now a.bindings.now in record {
-      out_after = going_last a.table.now a.scene.now z₀ a.out.now a.most (session_at l.head l.levels l.bindings) l.out l.used l.events l.records l.invariant.0 (omega (arith, c.loop-events-test.false));
+    let z₀ = session_at a.from a.levels.now a.bindings.now in
+    let z = session_at l.head l.levels l.bindings in
+    let e : l.events ≡ a.most = omega arith in
+    record {
+      out_after =
+          ap (λ (n : ℕ). so_far z n l.records l.out) (sym e)
+          ∙ going_last a.table.now a.scene.now z₀ a.out.now a.most z l.out l.used l.events l.records l.invariant.0 (omega arith);
       levels_unchanged = l.invariant.2;
     }

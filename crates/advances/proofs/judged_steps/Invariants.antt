@@ -1,5 +1,4 @@
 -- `steps::judged_steps` meets its contract: what is left to do is what was asked.
-use Prim.Native.Nat.{◌-◌}
 use mathlib.Core.Path.{◌≡◌}
 use Rattle.strands.specs.Levels.{level_free}
 use Rattle.sessions.specs.Sessions.{session_at}
@@ -12,7 +11,3 @@ invariant-loop-events l =
     Going l.table l.scene (session_at l.initial.head l.initial.levels l.initial.bindings) l.initial.out l.most (session_at l.head l.levels l.bindings) l.out l.used l.events l.records
     × Beside l.table l.scene l.known (session_at l.head l.levels l.bindings)
     × (level_free l.levels ≡ level_free l.initial.levels)
-
-abbrev pub decreases-loop-events : goal.decreases-loop-events
-decreases-loop-events l =
-    l.most - l.events

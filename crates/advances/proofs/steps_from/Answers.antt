@@ -1,5 +1,5 @@
 -- `steps::steps_from` meets its contract: 20, or the steps of a coherent session.
-use mathlib.Core.Path.{refl}
+use mathlib.Core.Path.{refl, ap}
 use native.Mathlib.Omega.{arith}
 use Rattle.strands.specs.Levels.{level_names, level_spaces, level_strands}
 use Rattle.sessions.specs.Sessions.{session_at}
@@ -7,7 +7,6 @@ use Rattle.advances.proofs.RunTurns.{from_refused, from_ready}
 use Rattle.starts.proofs.Classed.{from_loop}
 use Rattle.starts.proofs.StartTurns.{few_bound}
 use mathlib.Core.Bool.{not}
-use mathlib.Core.Path.{ap}
 use Rattle.advances.proofs.steps_from.Goals as goal
 
 pub returns-then-not-coherent : goal.returns-then-not-coherent

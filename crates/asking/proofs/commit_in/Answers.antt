@@ -20,8 +20,8 @@ returns-then-same c =
       levels_unchanged = s.ensures.levels_unchanged;
     }
 
-pub returns : goal.returns
-returns c =
+pub returns-else-same : goal.returns-else-same
+returns-else-same c =
     let a = c.args in
     let z = session_at a.head a.levels.now a.bindings.now in record {
       out_after = c.withheld.ensures a.out.now ∙ ap (λ (b : Bool). step_where b standard a.table.now a.scene.now z a.out.now) (sym c.if-same.false);

@@ -1,12 +1,13 @@
 -- `arrays_fit` meets its contract.
-use Rattle.coherence.proofs.CheckWays.{arrays_counts, arrays_bindings, arrays_levels}
+use Rattle.std.proofs.Common.{arith}
+use Rattle.std.proofs.lemmas.Grind.{common_steps}
+use Rattle.coherence.specs.Checks.{arrays_fit}
 use Rattle.coherence.proofs.arrays_fit.Goals as goal
 
-pub returns-then-not-counts_add_up : goal.returns-then-not-counts_add_up
-returns-then-not-counts_add_up c = search arrays_counts
+pub returns-then-bindings_fit : goal.returns-then-bindings_fit
+unfolding arrays_fit
+returns-then-bindings_fit c = grind (arith, common_steps)
 
-pub returns-then-not-bindings_fit : goal.returns-then-not-bindings_fit
-returns-then-not-bindings_fit c = search arrays_bindings
-
-pub returns : goal.returns
-returns c = search arrays_levels
+pub returns-else-bindings_fit : goal.returns-else-bindings_fit
+unfolding arrays_fit
+returns-else-bindings_fit c = grind (arith, common_steps)

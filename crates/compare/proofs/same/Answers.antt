@@ -1,6 +1,7 @@
--- `compare::same` meets its contract: lists of two lengths differ.
-use Rattle.compare.proofs.Equal.{unequal}
+-- `compare::same` meets its contract.
+use mathlib.Core.Path.{◌∙◌}
+use Rattle.compare.proofs.Equal.{same_pairs}
 use Rattle.compare.proofs.same.Goals as goal
 
-pub returns-then-a-b : goal.returns-then-a-b
-returns-then-a-b c = search unequal
+pub returns : goal.returns
+returns c = c.eq.ensures ∙ same_pairs _ _

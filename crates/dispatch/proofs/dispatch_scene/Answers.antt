@@ -8,5 +8,4 @@ pub overflow_add-records : goal.overflow_add-records
 overflow_add-records g c = omega (arith, step_room _ _ _ _ _ _ c.step-stepped.ensures, c.loop-events.invariant, c.loop-events-test.true)
 
 pub loop-events-preserved : goal.loop-events-preserved
-loop-events-preserved g c =
-    (search rules, search rules, search rules, search rules, omega (arith, step_room _ _ _ _ _ _ c.step-stepped.ensures, c.loop-events.invariant, c.loop-events-test.true))
+loop-events-preserved g c = (search rules, omega (arith, step_room _ _ _ _ _ _ c.step-stepped.ensures, c.loop-events.invariant))

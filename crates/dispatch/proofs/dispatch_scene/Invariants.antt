@@ -1,12 +1,8 @@
 -- `dispatch_scene` meets its contract: a step writes at most 4096 records, so their count fits.
 use mathlib.Core.Path.{◌≡◌}
-use Prim.Native.Nat.{◌+◌, ◌-◌, ◌*◌, ◌≤◌}
+use Prim.Native.Nat.{◌*◌, ◌≤◌}
 use lib.ListN.{length}
 use Rattle.dispatch.proofs.dispatch_scene.Given as goal
 
 abbrev pub invariant-loop-events : goal.invariant-loop-events
-invariant-loop-events g l =
-    (length l.scene ≤ 65536) × (length l.initial.out ≤ 65536) × (length l.out ≡ length l.initial.out) × (l.events ≤ 2 * length l.scene + 2) × (l.records ≤ 4096 * l.events)
-
-abbrev pub decreases-loop-events : goal.decreases-loop-events
-decreases-loop-events g l = 2 * length l.scene + 2 - l.events
+invariant-loop-events g l = (length l.out ≡ length l.initial.out) × (l.records ≤ 4096 * l.events)

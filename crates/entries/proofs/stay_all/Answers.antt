@@ -24,13 +24,13 @@ loop-j-preserved c =
       l.invariant.2,
       l.invariant.3,
       l.invariant.4,
-      length-set l.strand_words l.j v.result ∙ l.invariant.5,
-      length-set l.schema_words l.j 0 ∙ l.invariant.6,
-      stay_one (level_strands a.levels.now) a.level a.n a.words.now a.schemas.now l.strand_words l.schema_words l.j l.invariant.7 t l.invariant.1 l.invariant.3 l.invariant.4 w.result v.result w.ensures v.ensures,
+      length-set l.words l.j v.result ∙ l.invariant.5,
+      length-set l.schemas l.j 0 ∙ l.invariant.6,
+      stay_one (level_strands a.levels.now) a.level a.n a.words.now a.schemas.now l.words l.schemas l.j l.invariant.7 t l.invariant.1 l.invariant.3 l.invariant.4 w.result v.result w.ensures v.ensures,
     )
 
 pub returns : goal.returns
 returns c =
     let a = c.args in
     let l = c.loop-j in
-    stay_end (level_strands a.levels.now) a.level a.n a.words.now a.schemas.now l.strand_words l.schema_words l.j l.invariant.7 c.loop-j-test.false (omega (arith, l.invariant.0, l.invariant.1))
+    stay_end (level_strands a.levels.now) a.level a.n a.words.now a.schemas.now l.words l.schemas l.j l.invariant.7 c.loop-j-test.false (omega (arith, l.invariant.0, l.invariant.1))

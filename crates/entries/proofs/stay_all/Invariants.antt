@@ -1,7 +1,7 @@
 -- `strands::entries::stay_all` meets its contract: what is laid and what is left are the level's strands, which stay.
 use mathlib.Core.Path.{◌≡◌}
 use mathlib.Core.List.{map}
-use Prim.Native.Nat.{◌-◌, ◌≤◌, ◌<◌}
+use Prim.Native.Nat.{◌≤◌, ◌<◌}
 use lib.ListN.{length}
 use Rattle.strands.specs.Packed.{words_at}
 use Rattle.strands.specs.Levels.{level_strands}
@@ -10,7 +10,4 @@ use Rattle.entries.proofs.Laying.{Laying, row_from}
 use Rattle.entries.proofs.stay_all.Given as goal
 
 abbrev pub invariant-loop-j : goal.invariant-loop-j
-invariant-loop-j l = (l.j ≤ l.n) × (l.n ≤ 16) × (l.level < 64) × (length l.initial.strand_words ≡ 16) × (length l.initial.schema_words ≡ 16) × (length l.strand_words ≡ 16) × (length l.schema_words ≡ 16) × Laying (map stay_entry (words_at (level_strands l.levels) l.level l.n)) l.initial.strand_words l.initial.schema_words 0 l.strand_words l.schema_words l.j (map stay_entry (row_from (level_strands l.levels) l.level l.n l.j))
-
-abbrev pub decreases-loop-j : goal.decreases-loop-j
-decreases-loop-j l = l.n - l.j
+invariant-loop-j l = (l.j ≤ l.n) × (l.n ≤ 16) × (l.level < 64) × (length l.initial.words ≡ 16) × (length l.initial.schemas ≡ 16) × (length l.words ≡ 16) × (length l.schemas ≡ 16) × Laying (map stay_entry (words_at (level_strands l.levels) l.level l.n)) l.initial.words l.initial.schemas 0 l.words l.schemas l.j (map stay_entry (row_from (level_strands l.levels) l.level l.n l.j))

@@ -1,81 +1,67 @@
--- `strands::entries::take_rules` meets its contract: what is laid and what the rules that are left make are all that the strand makes.
-use mathlib.Core.Path.{◌≡◌, ◌∙◌}
+-- `entries::take_rules` meets its contract: what is laid and what the rules that are left make are all that the rules make.
+use mathlib.Core.Path.{◌≡◌, sym, ◌∙◌, ap}
+use mathlib.Core.List.{map}
 use native.Mathlib.Omega.{arith}
-use borrow.Author.Rules.{rules}
-use lib.ListN.{length, length-set}
-use Rattle.strands.proofs.Ruled.{at_first, at_next, next_on}
-use Rattle.entries.proofs.Taking.{rule_next, none_taken, some_start, some_full, some_end, some_one}
+use Rattle.strands.specs.Packed.{strand_in}
+use Rattle.strands.specs.Rules.{rules_in, rules_left}
+use Rattle.strands.specs.Entries.{made_by}
+use Rattle.strands.proofs.Ruled.{left_small}
+use Rattle.entries.proofs.Laying.{counted_few, laying_start}
+use Rattle.entries.proofs.Taking.{fallback_next, rule_laid, rule_over, rules_laid, fallback_laid}
 use Rattle.entries.proofs.take_rules.Goals as goal
 
-pub take_fallback-requires : goal.take_fallback-requires
-take_fallback-requires c = (c.requires, c.mode_of-mode.ensures.1)
-
-pub returns-then-c-i : goal.returns-then-c-i
-returns-then-c-i c =
+pub loop-rule-init : goal.loop-rule-init
+loop-rule-init c =
     let a = c.args in
-    let m = c.mode_of-mode in
-    let q = c.choose-c in
-    let f = c.take_fallback in
-    let s : length a.index.now ≡ 256 = omega arith in
-    let z = none_taken a.index.now a.class a.w m.result m.ensures.0 q.result s q.ensures a.words.now a.schemas.now a.n c.if-c-i.true f.new.words f.new.schemas f.result (record { number = f.ensures.0; strands = f.ensures.1; marks = f.ensures.2 }) in
-    (z.number, z.strands, z.marks)
+    let made = made_by (strand_in a.w) in
+    let rs = rules_in a.index.now c.mode_of-mode.result 0 a.class in
+    let e : rules_left c.into_iter-rule-iterator.result ≡ rules_in a.index.now c.mode_of-mode.result 0 a.class = ap rules_left c.into_iter-rule-iterator.ensures.into_iter_gives ∙ c.rules_in-rule-items.ensures in
+    (c.requires, rw e (laying_start (map made rs) a.words.now a.schemas.now a.n))
 
-pub loop-i-init : goal.loop-i-init
-loop-i-init c =
+pub take_rule-requires : goal.take_rule-requires
+take_rule-requires c = (c.loop-rule.invariant.0, left_small c.loop-rule.rule-iterator c.in-Some.rule (rules_left c.next.new.self) c.in-Some.ensures.steps)
+
+pub returns-in_err-k : goal.returns-in_err-k
+returns-in_err-k c =
     let a = c.args in
-    let s : length a.index.now ≡ 256 = omega arith in
+    let l = c.loop-rule in
     let m = c.mode_of-mode in
-    let q = c.choose-c in
-    let p = at_first a.index.now m.result 0 a.class q.result s q.ensures in
-    let lw : length a.words.now ≡ 16 = omega arith in
-    let ls : length a.schemas.now ≡ 16 = omega arith in
-    (p.few, p.inside, s, lw, ls, lw, ls, search rules, p, some_start a.index.now a.class a.w m.result m.ensures.0 q.result s q.ensures a.words.now a.schemas.now a.n c.if-c-i.false)
+    let r = c.take_rule in
+    let z =
+    rule_over a.index.now a.class a.w m.result m.ensures.0 a.words.now a.schemas.now a.n l.words l.schemas l.k (rules_left l.rule-iterator) l.invariant.1 c.in-Some.rule (rules_left c.next.new.self) c.in-Some.ensures.steps r.new.words r.new.schemas
+    (record { number = sym c.in_err-k.was ∙ r.ensures.0; strands = r.ensures.1; marks = r.ensures.2 }) in
+    (c.from_residual.ensures ∙ z.number, z.strands, z.marks)
 
-pub returns-then-k-ge16 : goal.returns-then-k-ge16
-returns-then-k-ge16 c =
+pub loop-rule-preserved : goal.loop-rule-preserved
+loop-rule-preserved c =
     let a = c.args in
-    let l = c.loop-i in
+    let l = c.loop-rule in
     let m = c.mode_of-mode in
-    let z = some_full a.index.now a.class a.w m.result m.ensures.0 c.choose-c.result a.words.now a.schemas.now a.n l.strand_words l.schema_words l.k l.i l.invariant.9 l.invariant.8 c.loop-i-test.true c.if-k-ge16.true in
-    (z.number, z.strands, z.marks)
-
-pub made_by-requires : goal.made_by-requires
-made_by-requires c = rule_next c.rule_of-rule.result _ c.rule_of-rule.ensures
-
-pub loop-i-smaller : goal.loop-i-smaller
-loop-i-smaller c =
-    let l = c.loop-i in
-    let t = c.loop-i-test.true in
-    omega (arith, l.invariant.1, t, next_on c.args.index.now c.choose-c.result l.i c.next_rule-i.result l.invariant.8 t c.next_rule-i.ensures)
-
-pub loop-i-preserved : goal.loop-i-preserved
-loop-i-preserved c =
-    let a = c.args in
-    let l = c.loop-i in
-    let m = c.mode_of-mode in
-    let q = c.choose-c in
-    let t = c.loop-i-test.true in
-    let f = c.if-k-ge16.false in
-    let v = c.made_by in
-    let r = c.rule_of-rule in
-    let j = c.next_rule-i.result in
-    let p = at_next a.index.now q.result l.i j l.invariant.8 t c.next_rule-i.ensures in (
-      p.few,
-      p.inside,
-      p.size,
-      l.invariant.3,
-      l.invariant.4,
-      length-set l.strand_words l.k v.result ∙ l.invariant.5,
-      length-set l.schema_words l.k r.result.schema ∙ l.invariant.6,
-      omega arith,
-      p,
-      some_one a.index.now a.class a.w m.result m.ensures.0 q.result a.words.now a.schemas.now a.n l.strand_words l.schema_words l.k l.i l.invariant.9 l.invariant.8 t f l.invariant.3 l.invariant.4 r.result r.ensures v.result v.ensures j c.next_rule-i.ensures,
+    let r = c.take_rule in
+    let e = sym c.in_ok-k.was ∙ r.ensures.0 in (
+      counted_few _ _ e,
+      rule_laid a.index.now a.class a.w m.result m.ensures.0 a.words.now a.schemas.now a.n l.words l.schemas l.k (rules_left l.rule-iterator) l.invariant.1 c.in-Some.rule (rules_left c.next.new.self) c.in-Some.ensures.steps r.new.words r.new.schemas
+          c.in_ok-k.k (omega arith) (omega arith) (record { number = e; strands = r.ensures.1; marks = r.ensures.2 }),
     )
+
+pub take_rule-requires-then-k-n : goal.take_rule-requires-then-k-n
+take_rule-requires-then-k-n c = (c.loop-rule.invariant.0, fallback_next c.fallback_of.result c.mode_of-mode.result c.fallback_of.ensures c.mode_of-mode.ensures.1)
+
+pub returns-then-k-n : goal.returns-then-k-n
+returns-then-k-n c =
+    let a = c.args in
+    let l = c.loop-rule in
+    let m = c.mode_of-mode in
+    let r = c.take_rule-then-k-n in
+    let z =
+    fallback_laid a.index.now a.class a.w m.result m.ensures.0 a.words.now a.schemas.now a.n l.words l.schemas l.k (rules_left l.rule-iterator) l.invariant.1 c.in-None.ensures.steps.0 c.if-k-n.true c.fallback_of.result c.fallback_of.ensures r.new.words r.new.schemas r.result
+    (record { number = r.ensures.0; strands = r.ensures.1; marks = r.ensures.2 }) in
+    (z.number, z.strands, z.marks)
 
 pub returns : goal.returns
 returns c =
     let a = c.args in
-    let l = c.loop-i in
+    let l = c.loop-rule in
     let m = c.mode_of-mode in
-    let z = some_end a.index.now a.class a.w m.result m.ensures.0 c.choose-c.result a.words.now a.schemas.now a.n l.strand_words l.schema_words l.k l.i l.invariant.9 l.invariant.8 c.loop-i-test.false l.invariant.7 in
+    let z = rules_laid a.index.now a.class a.w m.result m.ensures.0 a.words.now a.schemas.now a.n l.words l.schemas l.k (rules_left l.rule-iterator) l.invariant.1 c.in-None.ensures.steps.0 l.invariant.0 c.if-k-n.false in
     (z.number, z.strands, z.marks)

@@ -2,10 +2,11 @@
 use Rattle.table.proofs.Scan.{choose_naming, choose_any}
 use Rattle.index.proofs.choose.Goals as goal
 
-pub returns-then-i-end : goal.returns-then-i-end
-returns-then-i-end c = search choose_naming
+pub returns-then-first-end : goal.returns-then-first-end
+returns-then-first-end c =
+    choose_naming c.args.index.now _ _ _ _ _ _ _ c.from-at.ensures c.from-key.ensures c.from.ensures c.min-end.ensures _ c.next_rule-first.ensures c.if-first-end.true
 
 pub returns : goal.returns
 returns c =
-    let a = c.args in
-    choose_any a.index.now a.mode a.kind a.class _ _ _ _ c.bucket_for-b.ensures c.wide-from.ensures c.wide.ensures c.up_to-end.ensures _ c.next_rule-i.ensures c.if-i-end.false _ c.next_rule-j.ensures
+    choose_any c.args.index.now _ _ _ _ _ _ _ c.from-at.ensures c.from-key.ensures c.from.ensures c.min-end.ensures _ c.next_rule-first.ensures c.if-first-end.false
+    _ c.next_rule.ensures

@@ -6,6 +6,3 @@ use Rattle.index.proofs.next_rule.Given as goal
 
 abbrev pub invariant-loop-i : goal.invariant-loop-i
 invariant-loop-i l = (l.last ≤ 128) × (next_from l.index l.last l.key l.i (l.last - l.i) ≡ next_rule l.index l.from l.end l.key)
-
-abbrev pub decreases-loop-i : goal.decreases-loop-i
-decreases-loop-i l = l.last - l.i

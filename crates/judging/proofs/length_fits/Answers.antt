@@ -8,16 +8,16 @@ pub returns-then-table-p : goal.returns-then-table-p
 returns-then-table-p c = search length_short
 
 pub loop-i-init : goal.loop-i-init
-loop-i-init c = (omega arith, omega arith, search fill_start)
+loop-i-init c = (omega arith, search fill_start)
 
-pub returns-then-u-eq0 : goal.returns-then-u-eq0
-returns-then-u-eq0 c = search fill_none
+pub returns-in_default : goal.returns-in_default
+returns-in_default c = search (fill_none, c.in_default.ensures)
 
 pub overflow_add-p : goal.overflow_add-p
-overflow_add-p c = omega (arith, inside _ _ _ _ _ c.loop-i-test.true c.uri_at-u.ensures c.if-u-eq0.false)
+overflow_add-p c = omega (arith, inside _ _ _ _ c.loop-i-test.true _ c.in-Some.ensures)
 
 pub loop-i-preserved : goal.loop-i-preserved
-loop-i-preserved c = (omega arith, inside _ _ _ _ _ c.loop-i-test.true c.uri_at-u.ensures c.if-u-eq0.false, search fill_on)
+loop-i-preserved c = (inside _ _ _ _ c.loop-i-test.true _ c.in-Some.ensures, search (fill_on, c.in-Some.ensures))
 
 pub returns : goal.returns
 returns c = search fill_done

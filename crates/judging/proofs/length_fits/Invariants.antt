@@ -6,7 +6,4 @@ use Rattle.table.specs.Judge.{uris_fill, length_fits}
 use Rattle.judging.proofs.length_fits.Given as goal
 
 abbrev pub invariant-loop-i : goal.invariant-loop-i
-invariant-loop-i l = (l.i ≤ l.header.namespaces) × (l.p ≤ length l.table) × (uris_fill (l.header.namespaces - l.i) (drop l.p l.table) ≡ length_fits l.table l.header)
-
-abbrev pub decreases-loop-i : goal.decreases-loop-i
-decreases-loop-i l = l.header.namespaces - l.i
+invariant-loop-i l = (l.p ≤ length l.table) × (uris_fill (l.fn.header.namespaces - l._i) (drop l.p l.table) ≡ length_fits l.table l.fn.header)

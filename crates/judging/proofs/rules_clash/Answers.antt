@@ -1,28 +1,19 @@
 -- `judging::rules_clash` meets its contract: at each turn the answer is that of the rules from the i-th on.
+use mathlib.Core.Path.{ap}
 use native.Mathlib.Omega.{arith}
-use Rattle.table.proofs.RuleTurns.{pairs_start, pairs_done, pairs_found, pairs_on}
+use Rattle.laws.specs.Lists.{any_pair}
+use Rattle.table.specs.Judge.{rules_clash}
+use Rattle.table.proofs.RuleTurns.{words_taken, pairs_done, pairs_found, pairs_on}
 use Rattle.judging.proofs.rules_clash.Goals as goal
 
 pub loop-i-init : goal.loop-i-init
-loop-i-init c =
-    let a = c.args in
-    (omega arith, pairs_start a.table.now c.words_of-words.result a.header.rules c.words_of-words.ensures)
+loop-i-init c = rw c.from.ensures (ap (any_pair rules_clash) (words_taken c.args.table.now _ c.args.header (omega arith) c.words_of-all.ensures))
 
-pub returns-then-clash_from : goal.returns-then-clash_from
-returns-then-clash_from c =
-    let l = c in
-    let words = l.words_of-words.result in
-    let rules = l.args.header.rules in
-    pairs_found words rules l.loop-i.i _ l.loop-i.invariant.1 c.loop-i-test.true c.clash_from.result c.clash_from.ensures c.if-clash_from.true
+pub returns-then-clash_in : goal.returns-then-clash_in
+returns-then-clash_in c = pairs_found _ c.loop-i.i _ c.loop-i.invariant c.loop-i-test.true _ c.clash_in.ensures c.if-clash_in.true
 
 pub loop-i-preserved : goal.loop-i-preserved
-loop-i-preserved c =
-    let l = c in
-    let words = l.words_of-words.result in
-    let rules = l.args.header.rules in
-    (l.loop-i.invariant.0, pairs_on words rules l.loop-i.i _ l.loop-i.invariant.1 c.loop-i-test.true c.clash_from.result c.clash_from.ensures c.if-clash_from.false)
+loop-i-preserved c = pairs_on _ c.loop-i.i _ c.loop-i.invariant c.loop-i-test.true _ c.clash_in.ensures c.if-clash_in.false
 
 pub returns : goal.returns
-returns c =
-    let l = c in
-    pairs_done l.words_of-words.result l.args.header.rules l.loop-i.i _ l.loop-i.invariant.1 c.loop-i-test.false
+returns c = pairs_done _ c.loop-i.i _ c.loop-i.invariant c.loop-i-test.false

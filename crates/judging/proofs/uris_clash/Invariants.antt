@@ -8,6 +8,3 @@ use Rattle.judging.proofs.uris_clash.Given as goal
 
 abbrev pub invariant-loop-i : goal.invariant-loop-i
 invariant-loop-i l = uris_clash (uris_from (l.header.namespaces - l.i) (drop l.p l.table)) ≡ uris_clash (uris_of l.table l.header)
-
-abbrev pub decreases-loop-i : goal.decreases-loop-i
-decreases-loop-i l = l.header.namespaces - l.i

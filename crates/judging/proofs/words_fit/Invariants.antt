@@ -8,6 +8,3 @@ use Rattle.judging.proofs.words_fit.Given as goal
 
 abbrev pub invariant-loop-i : goal.invariant-loop-i
 invariant-loop-i l = all (word_fits l.header) (tabulate (word_at l.table) l.i (l.header.rules - l.i)) ≡ all (word_fits l.header) (words_of l.table l.header)
-
-abbrev pub decreases-loop-i : goal.decreases-loop-i
-decreases-loop-i l = l.header.rules - l.i

@@ -16,7 +16,7 @@ loop-k-preserved c =
     let l = c in
     let t = l.args.table.now in
     let more = filled_more (λ (j w : ℕ). w ≡ word_at t j) l.loop-k.words l.loop-k.k c.word_at.result 0 (omega arith) l.loop-k.invariant.1 c.word_at.ensures in
-    (simp length-set l.loop-k.invariant.0, more)
+    rw c.from.ensures (simp length-set l.loop-k.invariant.0, more)
 
 pub returns : goal.returns
 returns c = λ j h. c.loop-k.invariant.1 j (omega arith)

@@ -1,5 +1,5 @@
 -- `judging::words_of` meets its contract: at each turn the words before the k-th are laid down.
-use Prim.Native.Nat.{ℕ, ◌-◌, ◌<◌}
+use Prim.Native.Nat.{ℕ, ◌<◌}
 use mathlib.Core.Path.{◌≡◌}
 use lib.ListN.{length, get_or}
 use Rattle.table.specs.Table.{word_at}
@@ -7,6 +7,3 @@ use Rattle.judging.proofs.words_of.Given as goal
 
 abbrev pub invariant-loop-k : goal.invariant-loop-k
 invariant-loop-k l = (length l.words ≡ 256) × ((j : ℕ) → j < l.k → get_or l.words j 0 ≡ word_at l.table j)
-
-abbrev pub decreases-loop-k : goal.decreases-loop-k
-decreases-loop-k l = l.header.rules - l.k

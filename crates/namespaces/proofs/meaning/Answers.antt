@@ -1,4 +1,5 @@
--- `reader::namespaces::meaning` meets its contract, declarations refused or not.
+-- `namespaces::meaning` meets its contract, declarations refused or not.
+use Rattle.std.proofs.lemmas.Result.{err_from_is_err_and}
 use Rattle.reader.proofs.Declaring.{declarations_few}
 use Rattle.reader.proofs.Whole.{keys_found, undeclared, declared}
 use Rattle.namespaces.proofs.meaning.Goals as goal
@@ -7,15 +8,16 @@ pub meant_by-requires : goal.meant_by-requires
 meant_by-requires c =
     let d = c.declare_keys in
     let z = c in
-    let k = keys_found _ _ d.result d.ensures.0 _ _ d.ensures.1 _ z.args.bound _ d.ensures.2 _ _ c.in-Own.is (declarations_few _ _ z.args.count) z.requires.0 d.ensures.3 z.requires.1 in
-    (z.requires.0, k.0, k.1, k.2, z.requires.2)
+    let k = keys_found _ _ d.result d.ensures.0 _ _ d.ensures.1 _ z.args.bound _ d.ensures.2 _ _ c.in_ok-owned.was (declarations_few _ _ z.args.count) z.requires.0 c.told-known z.requires.1 in
+    (record { bound = z.requires.0; owned = k.0; outer = k.1; own = k.2 }, z.requires.2)
 
-pub returns-in-Own : goal.returns-in-Own
-returns-in-Own c =
+pub returns : goal.returns
+returns c =
     let d = c.declare_keys in
-    declared _ _ d.result d.ensures.0 _ _ d.ensures.1 _ c.args.bound _ d.ensures.2 _ _ _ _ _ _ _ c.in-Own.is c.meant_by.ensures.0 c.meant_by.ensures.1
+    declared _ _ d.result d.ensures.0 _ _ d.ensures.1 _ c.args.bound _ d.ensures.2 _ _ _ _ _ _ _ c.in_ok-owned.was c.meant_by.ensures.0 c.meant_by.ensures.1
 
-pub returns-in-Refused : goal.returns-in-Refused
-returns-in-Refused c =
+pub returns-in_err-owned : goal.returns-in_err-owned
+returns-in_err-owned c =
     let d = c.declare_keys in
-    undeclared _ _ d.result d.ensures.0 _ _ d.ensures.1 _ c.args.bound _ d.ensures.2 _ _ _ _ c.in-Refused.is
+    let e = err_from_is_err_and c.from_residual.result c.from_residual.ensures.1 in
+    rw (e.1, e.2) (undeclared _ _ d.result d.ensures.0 _ _ d.ensures.1 _ c.args.bound _ d.ensures.2 _ _ _ _ _ c.in_err-owned.was)

@@ -1,32 +1,9 @@
 -- `put8` lays a word's bytes.
-use native.Mathlib.Omega.{arith}
-use lib.ListN.{length-set}
-use Rattle.records.proofs.Words.{word_stored}
+use mathlib.Core.Path.{ap, ◌∙◌}
+use Rattle.laws.specs.Over.{overwrite}
+use Rattle.records.specs.Rows.{bytes8}
 use Rattle.records.proofs.put8.Goals as goal
 
-pub bounds-out-at-2 : goal.bounds-out-at-2
-bounds-out-at-2 c = simp length-set (omega arith)
-
-pub bounds-out-at-3 : goal.bounds-out-at-3
-bounds-out-at-3 c = simp length-set (omega arith)
-
-pub bounds-out-at-4 : goal.bounds-out-at-4
-bounds-out-at-4 c = simp length-set (omega arith)
-
-pub bounds-out-at-5 : goal.bounds-out-at-5
-bounds-out-at-5 c = simp length-set (omega arith)
-
-pub bounds-out-at-6 : goal.bounds-out-at-6
-bounds-out-at-6 c = simp length-set (omega arith)
-
-pub bounds-out-at-7 : goal.bounds-out-at-7
-bounds-out-at-7 c = simp length-set (omega arith)
-
-pub bounds-out-at-8 : goal.bounds-out-at-8
-bounds-out-at-8 c = simp length-set (omega arith)
-
-pub shape_of-out : goal.shape_of-out
-shape_of-out c = simp length-set
-
 pub returns : goal.returns
-returns c = let a = c.args in word_stored a.out.now a.at a.w c.requires
+unfolding bytes8
+returns c = c.lay.ensures ∙ ap (overwrite c.args.out.now c.args.at) c.to_be_bytes.ensures

@@ -6,4 +6,4 @@ use Rattle.records.proofs.put_pair.Goals as goal
 pub returns : goal.returns
 returns c =
     let a = c.args in
-    pair_laid a.words.now a.unit a.out.now a.at _ _ _ _ a.j (omega arith) c.put8.ensures c.put8-2.ensures c.put8-3.ensures c.put8-4.ensures
+    pair_laid a.words.now a.unit a.out.now a.at _ _ a.j (omega arith) c.put_kept.ensures c.put_kept-2.ensures

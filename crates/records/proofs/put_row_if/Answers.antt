@@ -6,9 +6,8 @@ use Rattle.records.proofs.put_row_if.Goals as goal
 
 pub returns-then-due : goal.returns-then-due
 returns-then-due c =
-    let d = c in
-    let a = d.args in
-    d.put_row.ensures ∙ sym (if_due (laid a.out.now a.at) a.due a.r d.if-due.true)
+    let a = c.args in
+    c.put_row.ensures ∙ sym (if_due (laid a.out.now a.at) a.due a.r c.if-due.true)
 
-pub returns : goal.returns
-returns c = let a = c.args in sym (if_not (laid a.out.now a.at) a.due a.r c.if-due.false)
+pub returns-else-due : goal.returns-else-due
+returns-else-due c = let a = c.args in sym (if_not (laid a.out.now a.at) a.due a.r c.if-due.false)

@@ -1,12 +1,14 @@
 -- `starts::plan_element` meets its contract: 21, 22, or what is decided.
 use Prim.Native.Nat.{ℕ, ◌+◌, ◌<◌}
-use mathlib.Core.Path.{subst, ◌∙◌}
+use mathlib.Core.Path.{ap, subst, ◌∙◌}
 use native.Mathlib.Omega.{arith}
+use Rattle.std.specs.Prelude.{Err}
+use Rattle.std.proofs.lemmas.Result.{err_from_is_err_and}
 use Rattle.table.specs.Table.{decode, header_of}
 use Rattle.strands.specs.Levels.{level_names, level_spaces, level_strands}
 use Rattle.sessions.specs.Sessions.{session_at}
 use Rattle.starts.proofs.StartTurns.{few_bound, decidable, deep_plan, bound_plan}
-use Rattle.starts.proofs.Classed.{Classed, classed, unclassed, refused_planned, decided_refused, decided_start, found_few, names_few}
+use Rattle.starts.proofs.Classed.{Classed, classed, unclassed, refused_planned, by_result, decided_refused, decided_start, found_few, names_few}
 use Rattle.starts.proofs.plan_element.Goals as goal
 use Rattle.starts.proofs.plan_element.Goals.{Joined-owned-ne0, then-owned-ne0, else-owned-ne0}
 
@@ -50,8 +52,8 @@ space_of-placing-requires c =
     let h = c.requires in
     found_few a.table.now a.index.now a.scene.now a.known.now a.own.now a.attrs.now a.codes.now a.head (level_names a.levels.now) a.bindings.now (level_spaces a.levels.now) (level_strands a.levels.now) a.started h.0 h.1
 
-pub decide-decided-requires : goal.decide-decided-requires
-decide-decided-requires c =
+pub decide-requires : goal.decide-requires
+decide-requires c =
     let a = c.args in
     let h = c.requires in
     let d = decidable a.table.now (header_of a.table.now) a.index.now a.scene.now a.head (level_names a.levels.now) a.bindings.now (level_spaces a.levels.now) (level_strands a.levels.now) h.0.ready c.if-head-ge-DEPTH.false in (
@@ -63,17 +65,20 @@ decide-decided-requires c =
       h.1.plain_names,
     )
 
-pub returns-then-decided-ne0 : goal.returns-then-decided-ne0
-returns-then-decided-ne0 c =
+pub returns-in_err-decided : goal.returns-in_err-decided
+returns-in_err-decided c =
     let a = c.args in
     let h = c.requires in
     let z = session_at a.head a.levels.now a.bindings.now in
-    let k = known_classed (goal.at.returns-then-decided-ne0 c).Joined-owned-ne0 in
+    let k = known_classed (goal.at.returns-in_err-decided c).Joined-owned-ne0 in
     let w = c.space_of-placing.ensures a.table.now (header_of a.table.now) a.scene.now a.started.owned (names_few a.table.now h.0.ready.accepted) k.beside.classes k.own_classes h.1.found_within in
-    let d = c.decide-decided.ensures a.table.now (header_of a.table.now) h.0.ready k.beside k.own_classes k.met w in
-    decided_refused a.table.now a.scene.now a.own.now a.attrs.now a.codes.now _ z a.started k
-    c.if-head-ge-DEPTH.false c.if-head-owned-gt-BINDINGS.false
-    c.decide-decided.result.number d.number_is c.if-decided-ne0.true
+    let d = c.decide.ensures a.table.now (header_of a.table.now) h.0.ready k.beside k.own_classes k.met w in
+    let l = c.decide.new in
+    let f = err_from_is_err_and c.from_residual.result c.from_residual.ensures.1 in
+    let e = f.1 ∙ ap Err f.2 in
+    rw e
+    (decided_refused a.table.now a.scene.now a.own.now a.attrs.now a.codes.now _ z a.started k c.if-head-ge-DEPTH.false c.if-head-owned-gt-BINDINGS.false l.words l.schemas l.attributes _
+    (by_result a.table.now a.scene.now z _ _ _ l.words l.schemas l.attributes c.in_err-decided.was d))
 
 pub returns : goal.returns
 returns c =
@@ -82,8 +87,8 @@ returns c =
     let z = session_at a.head a.levels.now a.bindings.now in
     let k = known_classed (goal.at.returns c).Joined-owned-ne0 in
     let w = c.space_of-placing.ensures a.table.now (header_of a.table.now) a.scene.now a.started.owned (names_few a.table.now h.0.ready.accepted) k.beside.classes k.own_classes h.1.found_within in
-    let d = c.decide-decided.ensures a.table.now (header_of a.table.now) h.0.ready k.beside k.own_classes k.met w in
-    let l = c.decide-decided.new in
+    let d = c.decide.ensures a.table.now (header_of a.table.now) h.0.ready k.beside k.own_classes k.met w in
+    let l = c.decide.new in
     decided_start a.table.now a.scene.now a.own.now a.attrs.now a.codes.now _ z a.started k
     c.if-head-ge-DEPTH.false c.if-head-owned-gt-BINDINGS.false
-    a.index.now l.words l.schemas _ _ c.decide-decided.result h.0.ready w d c.if-decided-ne0.false
+    a.index.now l.words l.schemas _ _ c.in_ok-decided.decided h.0.ready w (by_result a.table.now a.scene.now z _ _ _ l.words l.schemas l.attributes c.in_ok-decided.was d)

@@ -1,5 +1,8 @@
 -- `starts::plan_start` meets its contract, by what reading the tag comes to.
 use Prim.Native.Nat.{◌+◌}
+use mathlib.Core.Path.{ap, ◌∙◌}
+use Rattle.std.specs.Prelude.{Err}
+use Rattle.std.proofs.lemmas.Result.{err_from_is_err_and}
 use Rattle.table.specs.Table.{header_of}
 use Rattle.lexer.specs.Tags.{tag_at}
 use Rattle.strands.specs.Levels.{level_names, level_spaces, level_strands}
@@ -21,23 +24,25 @@ plan_element-requires c =
     let z = session_at a.head a.levels.now a.bindings.now in
     let w = c.read_start in
     let r = w.ensures a.table.now a.index.now (level_names a.levels.now) (level_spaces a.levels.now) (level_strands a.levels.now) (header_of a.table.now) h.0.ready h.0.beside in
-    start_met a.table.now a.index.now a.scene.now z a.at (tag_at a.scene.now (a.at + 1)).answer _ _ _ _ w.result h.0.ready r _ c.in-Start.is
+    start_met a.table.now a.index.now a.scene.now z a.at (tag_at a.scene.now (a.at + 1)).answer _ _ _ _ w.result h.0.ready r _ c.in_ok-started.was
 
-pub returns-in-Start : goal.returns-in-Start
-returns-in-Start c =
+pub returns : goal.returns
+returns c =
     let a = c.args in
     let h = c.requires in
     let z = session_at a.head a.levels.now a.bindings.now in
     let w = c.read_start in
     let r = w.ensures a.table.now a.index.now (level_names a.levels.now) (level_spaces a.levels.now) (level_strands a.levels.now) (header_of a.table.now) h.0.ready h.0.beside in
     let l = c.plan_element.new in
-    start_read_lem a.table.now a.scene.now z a.at (tag_at a.scene.now (a.at + 1)).answer _ _ _ _ w.result r a.index.now l.words l.schemas l.attributes l.known _ c.in-Start.is c.plan_element.result c.plan_element.ensures
+    start_read_lem a.table.now a.scene.now z a.at (tag_at a.scene.now (a.at + 1)).answer _ _ _ _ w.result r a.index.now l.words l.schemas l.attributes l.known _ c.in_ok-started.was c.plan_element.result c.plan_element.ensures
 
-pub returns-in-Refused : goal.returns-in-Refused
-returns-in-Refused c =
+pub returns-in_err-started : goal.returns-in_err-started
+returns-in_err-started c =
     let a = c.args in
     let h = c.requires in
     let z = session_at a.head a.levels.now a.bindings.now in
     let w = c.read_start in
     let r = w.ensures a.table.now a.index.now (level_names a.levels.now) (level_spaces a.levels.now) (level_strands a.levels.now) (header_of a.table.now) h.0.ready h.0.beside in
-    refused_read a.table.now a.scene.now z a.at (tag_at a.scene.now (a.at + 1)).answer _ _ _ _ w.result r _ _ c.in-Refused.is
+    let f = err_from_is_err_and c.from_residual.result c.from_residual.ensures.1 in
+    let e = f.1 ∙ ap Err f.2 in
+    rw e (refused_read a.table.now a.scene.now z a.at (tag_at a.scene.now (a.at + 1)).answer _ _ _ _ w.result r _ c.in_err-started.was)

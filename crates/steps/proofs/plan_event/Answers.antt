@@ -1,6 +1,7 @@
 -- `steps::plan_event` meets its contract: an end that is awaited, or what begins at the place.
 use Prim.Native.Nat.{◌+◌}
-use mathlib.Core.Path.{refl}
+use mathlib.Core.Path.{refl, ap, ◌∙◌}
+use Rattle.std.specs.Prelude.{Ok, Err}
 use Rattle.table.specs.Table.{decode, header_of}
 use Rattle.lexer.specs.Tags.{end_tag_at}
 use Rattle.lexer.specs.Values.{text_end}
@@ -35,56 +36,56 @@ returns-then-head c =
 pub plan_start-requires : goal.plan_start-requires
 plan_start-requires c =
     let a = c.args in
-    (c.requires, start_begins a.scene.now a.head c.begin_at.result c.begin_at.ensures _ c.in-Start.is)
+    (c.requires, start_begins a.scene.now a.head c.begin_at.result c.begin_at.ensures _ (c.in-Ok-Start.is ∙ ap Ok c.in-Ok-Start.field-0-is))
 
 pub plan_end-requires : goal.plan_end-requires
 plan_end-requires c =
     let a = c.args in
-    let k = end_begins a.scene.now a.head c.begin_at.result c.begin_at.ensures _ c.in-End.is in
+    let k = end_begins a.scene.now a.head c.begin_at.result c.begin_at.ensures _ (c.in-Ok-End.is ∙ ap Ok c.in-Ok-End.field-0-is) in
     (innermost a.table.now (header_of a.table.now) a.index.now a.scene.now a.head (level_names a.levels.now) a.bindings.now (level_spaces a.levels.now) (level_strands a.levels.now) c.requires.ready k.0, k.1)
 
 pub plan_text-requires : goal.plan_text-requires
 plan_text-requires c =
     let a = c.args in
-    (c.requires.ready.short, (text_begins a.scene.now a.head c.begin_at.result c.begin_at.ensures _ c.in-Text.is).1)
+    (c.requires.ready.short, (text_begins a.scene.now a.head c.begin_at.result c.begin_at.ensures _ (c.in-Ok-Text.is ∙ ap Ok c.in-Ok-Text.field-0-is)).1)
 
-pub returns-in-Start : goal.returns-in-Start
-returns-in-Start c =
+pub returns-in-Ok-Start : goal.returns-in-Ok-Start
+returns-in-Ok-Start c =
     let a = c.args in
     let s = a.scene.now in
     let e = c.plan_start.ensures in
-    begun_planned a.table.now a.index.now s a.head a.levels.now a.bindings.now c.if-head.false (begin.Start _) c.begin_at.result c.begin_at.ensures c.in-Start.is _ _ _ _ _ c.plan_start.result e.0 e.1 e.2
+    begun_planned a.table.now a.index.now s a.head a.levels.now a.bindings.now c.if-head.false (Ok (begin.Start _)) c.begin_at.result c.begin_at.ensures (c.in-Ok-Start.is ∙ ap Ok c.in-Ok-Start.field-0-is) _ _ _ _ _ c.plan_start.result e.0 e.1 e.2
 
-pub returns-in-End : goal.returns-in-End
-returns-in-End c =
+pub returns-in-Ok-End : goal.returns-in-Ok-End
+returns-in-Ok-End c =
     let a = c.args in
     let s = a.scene.now in
     let z = session_at a.head a.levels.now a.bindings.now in
-    begun_planned a.table.now a.index.now s a.head a.levels.now a.bindings.now c.if-head.false (begin.End _) c.begin_at.result c.begin_at.ensures c.in-End.is a.known.now a.own.now a.words.now a.schemas.now a.attributes.now c.plan_end.result
+    begun_planned a.table.now a.index.now s a.head a.levels.now a.bindings.now c.if-head.false (Ok (begin.End _)) c.begin_at.result c.begin_at.ensures (c.in-Ok-End.is ∙ ap Ok c.in-Ok-End.field-0-is) a.known.now a.own.now a.words.now a.schemas.now a.attributes.now c.plan_end.result
     (c.plan_end.ensures a.table.now a.index.now a.own.now a.words.now a.schemas.now a.attributes.now a.bindings.now)
     c.requires.beside (end_beside (decode a.table.now) a.table.now s a.known.now z c.requires.beside _ (end_tag_at s (_ + 2)))
 
-pub returns-in-Text : goal.returns-in-Text
-returns-in-Text c =
+pub returns-in-Ok-Text : goal.returns-in-Ok-Text
+returns-in-Ok-Text c =
     let a = c.args in
     let s = a.scene.now in
     let z = session_at a.head a.levels.now a.bindings.now in
-    let k = text_begins a.scene.now a.head c.begin_at.result c.begin_at.ensures _ c.in-Text.is in
-    begun_planned a.table.now a.index.now s a.head a.levels.now a.bindings.now c.if-head.false (begin.Text _) c.begin_at.result c.begin_at.ensures c.in-Text.is a.known.now a.own.now a.words.now a.schemas.now a.attributes.now c.plan_text.result
+    let k = text_begins a.scene.now a.head c.begin_at.result c.begin_at.ensures _ (c.in-Ok-Text.is ∙ ap Ok c.in-Ok-Text.field-0-is) in
+    begun_planned a.table.now a.index.now s a.head a.levels.now a.bindings.now c.if-head.false (Ok (begin.Text _)) c.begin_at.result c.begin_at.ensures (c.in-Ok-Text.is ∙ ap Ok c.in-Ok-Text.field-0-is) a.known.now a.own.now a.words.now a.schemas.now a.attributes.now c.plan_text.result
     (c.plan_text.ensures a.table.now a.index.now a.own.now a.words.now a.schemas.now a.attributes.now z k.0)
     c.requires.beside (text_beside (decode a.table.now) a.table.now s a.known.now z c.requires.beside _ (text_end s _))
 
-pub returns-in-Finished : goal.returns-in-Finished
-returns-in-Finished c =
+pub returns-in-Ok-Finished : goal.returns-in-Ok-Finished
+returns-in-Ok-Finished c =
     let a = c.args in
     let s = a.scene.now in
-    begun_planned a.table.now a.index.now s a.head a.levels.now a.bindings.now c.if-head.false begin.Finished c.begin_at.result c.begin_at.ensures c.in-Finished.is a.known.now a.own.now a.words.now a.schemas.now a.attributes.now planned.Finished refl c.requires.beside c.requires.beside
+    begun_planned a.table.now a.index.now s a.head a.levels.now a.bindings.now c.if-head.false (Ok begin.Finished) c.begin_at.result c.begin_at.ensures (c.in-Ok-Finished.is ∙ ap Ok c.in-Ok-Finished.field-0-is) a.known.now a.own.now a.words.now a.schemas.now a.attributes.now (Ok planned.Finished) refl c.requires.beside c.requires.beside
 
-pub returns-in-Stopped : goal.returns-in-Stopped
-returns-in-Stopped c =
+pub returns-in-Err : goal.returns-in-Err
+returns-in-Err c =
     let a = c.args in
     let s = a.scene.now in
     let z = session_at a.head a.levels.now a.bindings.now in
-    begun_planned a.table.now a.index.now s a.head a.levels.now a.bindings.now c.if-head.false (begin.Stopped c.in-Stopped.x) c.begin_at.result c.begin_at.ensures c.in-Stopped.is a.known.now a.own.now a.words.now a.schemas.now a.attributes.now c.stopped.result
-    (stopped_planned a.table.now a.index.now s z a.own.now a.words.now a.schemas.now a.attributes.now c.stopped.result _ c.in-Stopped.x c.stopped.ensures refl)
+    begun_planned a.table.now a.index.now s a.head a.levels.now a.bindings.now c.if-head.false (Err c.in-Err.x) c.begin_at.result c.begin_at.ensures c.in-Err.is a.known.now a.own.now a.words.now a.schemas.now a.attributes.now (Err c.stopped.result)
+    (stopped_planned a.table.now a.index.now s z a.own.now a.words.now a.schemas.now a.attributes.now c.stopped.result _ c.in-Err.x c.stopped.ensures refl)
     c.requires.beside c.requires.beside

@@ -1,4 +1,4 @@
--- `lexer::tags::attr_of` meets its contract: each number is that of its place.
+-- `tags::attr_of` meets its contract: each number is that of its place.
 use borrow.Author.Rules.{rules}
 use Rattle.lexer.specs.Attrs.{attr_in}
 use Rattle.lexer.proofs.Arrays.{attr_past}

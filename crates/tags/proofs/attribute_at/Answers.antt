@@ -1,16 +1,16 @@
--- `lexer::tags::attribute_at` meets its contract, by the cases of what its callees answer.
+-- `tags::attribute_at` meets its contract, by the cases of what its callees answer.
+use Rattle.std.proofs.Common.{rules}
 use Rattle.lexer.specs.Tags.{attribute_at}
-use Rattle.lexer.proofs.Behind.{by_read, by_name}
 use Rattle.tags.proofs.attribute_at.Goals as goal
 
-pub returns-in-End : goal.returns-in-End
+pub returns-in_err-name : goal.returns-in_err-name
 unfolding attribute_at
-returns-in-End c = search (by_read, by_name)
+returns-in_err-name c = rw (← c.in_err-name.ensures) (search rules)
 
-pub returns-in-Stopped-equals_end : goal.returns-in-Stopped-equals_end
+pub returns-in_err-quote : goal.returns-in_err-quote
 unfolding attribute_at
-returns-in-Stopped-equals_end c = search (by_read, by_name)
+returns-in_err-quote c = rw (← c.in_ok-name.ensures, ← c.in_err-quote.ensures) (search rules)
 
-pub returns-in-Stopped : goal.returns-in-Stopped
+pub returns : goal.returns
 unfolding attribute_at
-returns-in-Stopped c = search by_name
+returns c = rw (← c.in_ok-name.ensures, ← c.in_ok-quote.ensures) (search rules)

@@ -1,4 +1,4 @@
--- `lexer::tags::attrs_from` meets its contract: at each turn the answer is that of the attributes stored and of those from `at` on.
+-- `tags::attrs_from` meets its contract: at each turn the answer is that of the attributes stored and of those from `at` on.
 use Prim.Native.Nat.{◌-◌}
 use Rattle.lexer.proofs.Filled.{Filled}
 use Rattle.tags.proofs.attrs_from.Given as goal

@@ -1,25 +1,20 @@
--- `lexer::tags::end_tag` meets its contract, by the cases of what its callees answer.
-use mathlib.Core.Path.{refl}
+-- `tags::end_tag` meets its contract, by the cases of what its callees answer.
+use Rattle.std.proofs.Common.{rules}
 use Rattle.lexer.specs.Tags.{end_tag_at}
-use Rattle.lexer.proofs.Behind.{by_read, by_name}
 use Rattle.tags.proofs.end_tag.Goals as goal
 
-pub returns-in-End-want : goal.returns-in-End-want
+pub returns-in_err-name : goal.returns-in_err-name
 unfolding end_tag_at
-returns-in-End-want c = by_name _ _ _ _ _ _ c.name_at.ensures c.in-Got.is
-    (by_read _ _ _ _ _ _ c.spaces_end.ensures c.in-End.is
-    (by_read _ _ _ _ _ _ c.want.ensures c.in-End-want.is refl))
+returns-in_err-name c = rw (← c.in_err-name.ensures) (search rules)
 
-pub returns-in-Stopped-want : goal.returns-in-Stopped-want
+pub returns-in_err-i : goal.returns-in_err-i
 unfolding end_tag_at
-returns-in-Stopped-want c = by_name _ _ _ _ _ _ c.name_at.ensures c.in-Got.is
-    (by_read _ _ _ _ _ _ c.spaces_end.ensures c.in-End.is
-    (by_read _ _ _ _ _ _ c.want.ensures c.in-Stopped-want.is refl))
+returns-in_err-i c = rw (← c.in_ok-name.ensures, ← c.in_err-i.ensures) (search rules)
 
-pub returns-in-Stopped-spaces_end : goal.returns-in-Stopped-spaces_end
+pub returns-in_err-next : goal.returns-in_err-next
 unfolding end_tag_at
-returns-in-Stopped-spaces_end c = search (by_read, by_name)
+returns-in_err-next c = rw (← c.in_ok-name.ensures, ← c.in_ok-i.ensures, ← c.in_err-next.ensures) (search rules)
 
-pub returns-in-Stopped : goal.returns-in-Stopped
+pub returns : goal.returns
 unfolding end_tag_at
-returns-in-Stopped c = search by_name
+returns c = rw (← c.in_ok-name.ensures, ← c.in_ok-i.ensures, ← c.in_ok-next.ensures)

@@ -1,18 +1,16 @@
--- `lexer::tags::equals_end` meets its contract, by the cases of what its callees answer.
-use mathlib.Core.Path.{refl}
+-- `tags::equals_end` meets its contract, by the cases of what its callees answer.
+use Rattle.std.proofs.Common.{rules}
 use Rattle.lexer.specs.Tags.{equals_end}
-use Rattle.lexer.proofs.Behind.{by_read}
 use Rattle.tags.proofs.equals_end.Goals as goal
 
-pub returns-in-End-want : goal.returns-in-End-want
+pub returns-in_err-i : goal.returns-in_err-i
 unfolding equals_end
-returns-in-End-want c = by_read _ _ _ _ _ _ c.spaces_end.ensures c.in-End.is
-    (by_read _ _ _ _ _ _ c.want.ensures c.in-End-want.is c.spaces_end-in-End-want.ensures)
+returns-in_err-i c = rw (← c.in_err-i.ensures) (search rules)
 
-pub returns-in-Stopped-want : goal.returns-in-Stopped-want
+pub returns-in_err-behind : goal.returns-in_err-behind
 unfolding equals_end
-returns-in-Stopped-want c = by_read _ _ _ _ _ _ c.spaces_end.ensures c.in-End.is (by_read _ _ _ _ _ _ c.want.ensures c.in-Stopped-want.is refl)
+returns-in_err-behind c = rw (← c.in_ok-i.ensures, ← c.in_err-behind.ensures) (search rules)
 
-pub returns-in-Stopped : goal.returns-in-Stopped
+pub returns : goal.returns
 unfolding equals_end
-returns-in-Stopped c = search by_read
+returns c = rw (← c.in_ok-i.ensures, ← c.in_ok-behind.ensures) (search rules)

@@ -1,4 +1,4 @@
--- `lexer::tags::put_attr` meets its contract: its five stores are one part laid over the array.
+-- `tags::put_attr` meets its contract: its five stores are one part laid over the array.
 use native.Mathlib.Omega.{arith}
 use lib.ListN.{length-set}
 use Rattle.lexer.proofs.Arrays.{five_over}

@@ -1,21 +1,21 @@
--- `lexer::tags::quoted_at` meets its contract, by the cases of what its callees answer.
+-- `tags::quoted_at` meets its contract, by the cases of what its callees answer.
+use Rattle.std.proofs.Common.{rules}
 use Rattle.laws.specs.Tests.{tests}
 use Rattle.lexer.specs.Tags.{quoted_at}
-use Rattle.lexer.proofs.Behind.{by_read}
 use Rattle.tags.proofs.quoted_at.Goals as goal
 
 pub returns-then-s-at : goal.returns-then-s-at
 unfolding quoted_at
 returns-then-s-at c = search tests
 
-pub returns-in-End : goal.returns-in-End
+pub returns-in_err-stop : goal.returns-in_err-stop
 unfolding quoted_at
-returns-in-End c = search (by_read, tests)
+returns-in_err-stop c = rw (← c.in_err-stop.ensures) (search (rules, tests))
 
-pub returns-in-Stopped : goal.returns-in-Stopped
+pub returns-then-quote : goal.returns-then-quote
 unfolding quoted_at
-returns-in-Stopped c = search (by_read, tests)
+returns-then-quote c = rw (← c.in_ok-stop.ensures) (search tests)
 
-pub returns-else-quote : goal.returns-else-quote
+pub returns : goal.returns
 unfolding quoted_at
-returns-else-quote c = search tests
+returns c = search tests

@@ -1,17 +1,17 @@
--- `lexer::tags::slash_at` meets its contract, by the cases of what its callees answer.
+-- `tags::slash_at` meets its contract, by the cases of what its callees answer.
+use Rattle.std.proofs.Common.{rules}
 use Rattle.laws.specs.Tests.{past_ltb}
 use Rattle.lexer.specs.Tags.{slash_at, wanted}
-use Rattle.lexer.proofs.Behind.{by_read}
 use Rattle.tags.proofs.slash_at.Goals as goal
 
 pub returns-then-s-at : goal.returns-then-s-at
 unfolding slash_at wanted
 returns-then-s-at c = rw (past_ltb _ _ c.if-s-at.true)
 
-pub returns-in-End : goal.returns-in-End
+pub returns-in_err-next : goal.returns-in_err-next
 unfolding slash_at
-returns-in-End c = search by_read
+returns-in_err-next c = rw (← c.in_err-next.ensures) (search rules)
 
-pub returns-in-Stopped : goal.returns-in-Stopped
+pub returns : goal.returns
 unfolding slash_at
-returns-in-Stopped c = search by_read
+returns c = rw (← c.in_ok-next.ensures)

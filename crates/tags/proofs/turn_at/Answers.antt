@@ -1,12 +1,12 @@
--- `lexer::tags::turn_at` meets its contract, by the cases of what its callees answer.
+-- `tags::turn_at` meets its contract, by the cases of what its callees answer.
+use Rattle.std.proofs.Common.{rules}
 use Rattle.lexer.specs.Tags.{turn_at}
-use Rattle.lexer.proofs.Behind.{by_read}
 use Rattle.tags.proofs.turn_at.Goals as goal
 
-pub returns-in-End : goal.returns-in-End
+pub returns-in_err-i : goal.returns-in_err-i
 unfolding turn_at
-returns-in-End c = search by_read
+returns-in_err-i c = rw (← c.in_err-i.ensures) (search rules)
 
-pub returns-in-Stopped : goal.returns-in-Stopped
+pub returns : goal.returns
 unfolding turn_at
-returns-in-Stopped c = search by_read
+returns c = rw (← c.in_ok-i.ensures) (search rules)

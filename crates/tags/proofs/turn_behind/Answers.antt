@@ -1,4 +1,4 @@
--- `lexer::tags::turn_behind` meets its contract: the tests on the way to each `return` say which case it is.
+-- `tags::turn_behind` meets its contract: the tests on the way to each `return` say which case it is.
 use Rattle.laws.specs.Tests.{tests}
 use Rattle.lexer.specs.Tags.{turn_behind}
 use Rattle.tags.proofs.turn_behind.Goals as goal

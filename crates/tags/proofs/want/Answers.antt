@@ -1,4 +1,4 @@
--- `lexer::tags::want` meets its contract: the tests on the way to each `return` say which case it is.
+-- `tags::want` meets its contract: the tests on the way to each `return` say which case it is.
 use Rattle.laws.specs.Tests.{tests}
 use Rattle.lexer.specs.Tags.{wanted}
 use Rattle.tags.proofs.want.Goals as goal

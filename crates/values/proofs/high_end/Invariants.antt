@@ -1,4 +1,4 @@
--- `lexer::values::high_end` meets its contract: a character from 80 on, at which the quote does not stand, changes no answer.
+-- `values::high_end` meets its contract: a character from 80 on, at which the quote does not stand, changes no answer.
 use Prim.Native.Nat.{◌-◌, ◌≤◌}
 use mathlib.Core.Path.{◌≡◌}
 use lib.ListN.{length}

@@ -1,4 +1,4 @@
--- `lexer::values::is_closing` meets its contract: what it tests before it reads is what the definition does.
+-- `values::is_closing` meets its contract: what it tests before it reads is what the definition does.
 use native.Mathlib.Omega.{arith}
 use lib.ListN.{length}
 use Rattle.lexer.proofs.Passing.{closing_other, closing_outside, closing_inside, closing_early, closing_here}

@@ -1,4 +1,4 @@
--- `lexer::values::is_text` meets its contract: its test is the definition.
+-- `values::is_text` meets its contract: its test is the definition.
 use Rattle.lexer.proofs.CharTurns.{text_test}
 use Rattle.values.proofs.is_text.Goals as goal
 

@@ -1,4 +1,4 @@
--- `lexer::values::line_passed` meets its contract: 0A is a byte of a text.
+-- `values::line_passed` meets its contract: 0A is a byte of a text.
 use Rattle.lexer.proofs.Passing.{line_passed}
 use Rattle.values.proofs.line_passed.Goals as goal
 

@@ -1,4 +1,4 @@
--- `lexer::values::no_reference` meets its contract.
+-- `values::no_reference` meets its contract.
 use native.Mathlib.Omega.{arith}
 use Rattle.lexer.proofs.References.{none_cut, none_bad}
 use Rattle.values.proofs.no_reference.Goals as goal

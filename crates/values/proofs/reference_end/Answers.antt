@@ -1,10 +1,10 @@
--- `lexer::values::reference_end` meets its contract: one test for each of the five words, in their order.
+-- `values::reference_end` meets its contract: one test for each of the five words, in their order.
 use mathlib.Core.Path.{◌≡◌}
 use mathlib.Core.List.{List, ◌∷◌}
 use Prim.Native.Nat.{ℕ}
 use native.Mathlib.Omega.{arith}
 use lib.ListN.{length, drop}
-use Rattle.lexer.specs.declared.Read.{Read}
+use Rattle.lexer.specs.Reads.{Read}
 use Rattle.lexer.specs.Values.{common, whole_of, no_reference, reference_end}
 use Rattle.lexer.proofs.References.{whole, passed, no_word, Past, found_in}
 use Rattle.values.proofs.reference_end.Goals as goal

@@ -1,4 +1,4 @@
--- `lexer::values::text_end` meets its contract: what is passed over at once changes no answer.
+-- `values::text_end` meets its contract: what is passed over at once changes no answer.
 use mathlib.Core.Path.{◌∙◌}
 use Rattle.lexer.proofs.Passing.{plain_passed, quote_here}
 use Rattle.values.proofs.text_end.Goals as goal

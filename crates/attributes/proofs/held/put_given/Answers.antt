@@ -1,35 +1,20 @@
--- `strands::attributes::put_given` meets its contract: eight stores are one part overwritten.
+-- `attributes::held::put_given` meets its contract: eight numbers copied over a part.
+use mathlib.Core.Path.{ap, ◌∙◌}
 use Prim.Native.Nat.{◌*◌}
 use native.Mathlib.Omega.{arith}
-use lib.ListN.{length-set}
-use Rattle.attributes.proofs.Giving.{given_put}
+use lib.ListN.{length-drop}
+use lib.Seq.{length-take-le}
+use Rattle.laws.specs.Over.{overwrite}
+use Rattle.laws.proofs.Over.{part_over}
+use Rattle.attributes.proofs.Giving.{given_are}
 use Rattle.attributes.proofs.held.put_given.Goals as goal
-
-pub bounds-attributes-at-2 : goal.bounds-attributes-at-2
-bounds-attributes-at-2 c = simp length-set (omega arith)
-
-pub bounds-attributes-at-3 : goal.bounds-attributes-at-3
-bounds-attributes-at-3 c = simp length-set (omega arith)
-
-pub bounds-attributes-at-4 : goal.bounds-attributes-at-4
-bounds-attributes-at-4 c = simp length-set (omega arith)
-
-pub bounds-attributes-at-5 : goal.bounds-attributes-at-5
-bounds-attributes-at-5 c = simp length-set (omega arith)
-
-pub bounds-attributes-at-6 : goal.bounds-attributes-at-6
-bounds-attributes-at-6 c = simp length-set (omega arith)
-
-pub bounds-attributes-at-7 : goal.bounds-attributes-at-7
-bounds-attributes-at-7 c = simp length-set (omega arith)
-
-pub bounds-attributes-at-8 : goal.bounds-attributes-at-8
-bounds-attributes-at-8 c = simp length-set (omega arith)
-
-pub shape_of-attributes : goal.shape_of-attributes
-shape_of-attributes c = simp length-set
 
 pub returns : goal.returns
 returns c =
     let a = c.args in
-    given_put a.attributes.now (8 * a.k) a.a a.space a.code c.narrow.result c.narrow-2.result c.narrow-3.result c.narrow-4.result c.narrow-5.result c.narrow-6.result c.narrow-7.result c.minus.result c.minus-2.result c.requires (omega arith) c.narrow.ensures c.minus.ensures c.narrow-2.ensures c.narrow-3.ensures c.minus-2.ensures c.narrow-4.ensures c.narrow-5.ensures c.narrow-6.ensures c.narrow-7.ensures
+    let s = c.copy_from_slice.ensures in
+    part_over a.attributes.now (8 * a.k) _ c.copy_from_slice.new.self (s.len ∙ length-take-le _ _ (omega (arith, length-drop (8 * a.k) a.attributes.now)))
+    ∙ ap (overwrite a.attributes.now (8 * a.k)) (
+    s.after
+    ∙ given_are a.a a.space a.code _ _ _ _ _ _ _ _ _ _ (omega arith) c.narrow.ensures c.saturating_sub.ensures c.narrow-2.ensures c.narrow-3.ensures c.saturating_sub-2.ensures c.narrow-4.ensures c.from.ensures c.narrow-5.ensures c.narrow-6.ensures c.narrow-7.ensures
+    )

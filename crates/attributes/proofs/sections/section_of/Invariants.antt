@@ -7,6 +7,3 @@ use Rattle.attributes.proofs.sections.section_of.Given as goal
 
 abbrev pub invariant-loop-k : goal.invariant-loop-k
 invariant-loop-k l = number_among l.s (namespace_of l.own l.outer (given_in (attributes_in l.attributes) l.i).code) (l.m + 1) (tabulate (numbered_in l.own l.outer (attributes_in l.attributes) (sections_in l.attributes)) l.k (l.i - l.k)) ≡ number_among l.s (namespace_of l.own l.outer (given_in (attributes_in l.attributes) l.i).code) (l.m + 1) (tabulate (numbered_in l.own l.outer (attributes_in l.attributes) (sections_in l.attributes)) 0 l.i)
-
-abbrev pub decreases-loop-k : goal.decreases-loop-k
-decreases-loop-k l = l.i - l.k

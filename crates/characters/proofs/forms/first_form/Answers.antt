@@ -1,25 +1,20 @@
--- `characters::forms::first_form` meets its contract: the tests on the way to each `return` say which class the byte is of.
+-- `characters::forms::first_form` meets its contract: each arm is a class of bytes.
+use mathlib.Core.Path.{refl}
 use native.Mathlib.Omega.{arith}
-use Rattle.laws.specs.Tests.{tests}
-use Rattle.utf8.specs.Forms.{first_form}
+use Rattle.characters.proofs.FormTurns.{first_one_byte, first_none, first_two, first_three, first_four}
 use Rattle.characters.proofs.forms.first_form.Goals as goal
 
-pub returns-then-c-lt128 : goal.returns-then-c-lt128
-unfolding first_form
-returns-then-c-lt128 c = (search tests, omega arith)
+pub returns-in-0-to-127 : goal.returns-in-0-to-127
+returns-in-0-to-127 c = (first_one_byte _ _ c.from-c.ensures (omega arith), omega arith)
 
-pub returns-then-c-lt192 : goal.returns-then-c-lt192
-unfolding first_form
-returns-then-c-lt192 c = (search tests, c.no_form.ensures.1)
+pub returns-in-128-to-191 : goal.returns-in-128-to-191
+returns-in-128-to-191 c = (first_none _ _ c.from-c.ensures _ refl (omega arith) (omega arith), omega arith)
 
-pub returns-then-c-lt224 : goal.returns-then-c-lt224
-unfolding first_form
-returns-then-c-lt224 c = (search tests, omega arith)
+pub returns-in-192-to-223 : goal.returns-in-192-to-223
+returns-in-192-to-223 c = (first_two _ _ c.from-c.ensures (omega arith) (omega arith), omega arith)
 
-pub returns-then-c-lt240 : goal.returns-then-c-lt240
-unfolding first_form
-returns-then-c-lt240 c = (search tests, omega arith)
+pub returns-in-224-to-239 : goal.returns-in-224-to-239
+returns-in-224-to-239 c = (first_three _ _ c.from-c.ensures (omega arith) (omega arith), omega arith)
 
-pub returns : goal.returns
-unfolding first_form
-returns c = (search tests, omega arith)
+pub returns-in_default : goal.returns-in_default
+returns-in_default c = (first_four _ _ c.from-c.ensures (omega arith), omega arith)

@@ -1,23 +1,23 @@
--- `characters::sets::has` meets its contract: it goes over the rows, and at each turn the rows that are left say what all say.
-use Rattle.characters.proofs.Rows.{row_of, rows_in, rows_start, row_met, row_passed, rows_done}
+-- `characters::sets::has` meets its contract: at each turn the rows that are left say what all say.
+use mathlib.Core.Path.{ap}
+use Rattle.laws.specs.Lists.{any}
+use Rattle.utf8.specs.Forms.{meets}
+use Rattle.characters.proofs.Rows.{rows_done, row_met, row_above, row_below}
 use Rattle.characters.proofs.sets.has.Goals as goal
+use Rattle.characters.proofs.sets.has.Goals.{else-r-most-via-then-r-most+else-least-r, else-r-most-via-else-r-most}
 
-pub loop-k-init : goal.loop-k-init
-loop-k-init c = (c.rows-ranges.ensures, rw c.end_row-end.ensures (rows_in c.args.set), rows_start _ _ _ _)
+pub loop-r-init : goal.loop-r-init
+loop-r-init c = ap (any (meets c.args.least c.args.most)) c.rows_of-r-items.ensures
 
-pub returns-then-r-most : goal.returns-then-r-most
-returns-then-r-most c =
-    let l = c in
-    let e = l.end_row-end.ensures in
-    row_met _ _ _ _ l.loop-k.k l.args.set l.first_row-k.ensures e l.loop-k.invariant.2 c.loop-k-test.true (row_of _ l.loop-k.invariant.0 _ _ _ _ c.if-r-most.true)
+pub returns-then-least-r : goal.returns-then-least-r
+returns-then-least-r c = row_met c.rows_of-r-items.result.now _ _ c.loop-r.r-index _ c.loop-r.invariant c.loop-r-test.true c.if-r-most.true c.if-least-r.true
 
-pub loop-k-preserved : goal.loop-k-preserved
-loop-k-preserved c =
-    let l = c.loop-k in
-    (l.invariant.0, l.invariant.1, row_passed _ _ _ _ l.k l.invariant.2 c.loop-k-test.true (row_of _ l.invariant.0 _ _ _ _ c.if-r-most.false))
+pub loop-r-preserved : goal.loop-r-preserved
+loop-r-preserved c =
+    elim c.else-r-most.branch [
+      | else-r-most-via-then-r-most+else-least-r w ↦ row_below c.rows_of-r-items.result.now _ _ c.loop-r.r-index _ c.loop-r.invariant c.loop-r-test.true w.if-r-most.true w.if-least-r.false
+      | else-r-most-via-else-r-most w ↦ row_above c.rows_of-r-items.result.now _ _ c.loop-r.r-index _ c.loop-r.invariant c.loop-r-test.true w.if-r-most.false
+    ]
 
 pub returns : goal.returns
-returns c =
-    let l = c in
-    let e = l.end_row-end.ensures in
-    rows_done _ _ _ _ l.loop-k.k l.args.set l.first_row-k.ensures e l.loop-k.invariant.2 c.loop-k-test.false
+returns c = rows_done c.rows_of-r-items.result.now _ _ c.loop-r.r-index _ c.loop-r.invariant c.loop-r-test.false

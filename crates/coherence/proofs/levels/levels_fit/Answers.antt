@@ -1,15 +1,15 @@
--- `levels::levels_fit` meets its contract: at each turn the answer is that of the levels from the k-th on.
-use Rattle.coherence.proofs.CheckWays.{levels_start, levels_not, levels_on, levels_done}
+-- `levels::levels_fit` meets its contract.
+use Rattle.std.proofs.Common.{ℕ, Bool, refl, ◌∙◌, arith, rules, tests}
+use Rattle.std.proofs.lemmas.Iterator.{YieldsList-from_range}
+use Rattle.std.proofs.lemmas.Iterator.Search.{all_from_yields_List}
+use Rattle.strands.specs.Levels.{level_names, level_spaces, level_strands}
+use Rattle.coherence.specs.Checks.{level_fits}
+use Rattle.coherence.proofs.Alls.{all_ranged}
 use Rattle.coherence.proofs.levels.levels_fit.Goals as goal
 
-pub loop-k-init : goal.loop-k-init
-loop-k-init c = search levels_start
-
-pub returns-then-not-level_fits : goal.returns-then-not-level_fits
-returns-then-not-level_fits c = search levels_not
-
-pub loop-k-preserved : goal.loop-k-preserved
-loop-k-preserved c = search levels_on
-
 pub returns : goal.returns
-returns c = search levels_done
+returns c =
+    let a = c.args in
+    let fits : ℕ → Bool = level_fits a.scene.now a.listed a.modes a.units (level_names a.levels.now) (level_spaces a.levels.now) (level_strands a.levels.now) in
+    all_from_yields_List fits _ _ c.all.result c.all.ensures.ran (YieldsList-from_range 0 a.depth a.depth refl (omega arith)) (λ x b q k. search (rules, tests))
+    ∙ all_ranged fits (λ (k : ℕ). k) 0 a.depth

@@ -6,6 +6,3 @@ use Rattle.coherence.proofs.levels.listed_in.Given as goal
 
 abbrev pub invariant-loop-n : goal.invariant-loop-n
 invariant-loop-n l = length (uris_of l.table l.header) ≤ l.n
-
-abbrev pub decreases-loop-n : goal.decreases-loop-n
-decreases-loop-n l = l.n

@@ -5,15 +5,15 @@ use Rattle.equality.specs.Same.{held_level}
 use Rattle.equality.proofs.Turns.{level_name, level_class, level_uri_lem, level_bindings, level_count, level_strands_lem, words_part}
 use Rattle.equality.proofs.levels.same_level.Goals as goal
 
-pub returns-then-not-same_span : goal.returns-then-not-same_span
-returns-then-not-same_span c = search level_name
+pub returns-then-ne : goal.returns-then-ne
+returns-then-ne c = search level_name
 
 pub returns-then-space_at : goal.returns-then-space_at
 returns-then-space_at c = search level_class
 
-pub returns-then-not-same_span-2 : goal.returns-then-not-same_span-2
+pub returns-then-ne-2 : goal.returns-then-ne-2
 unfolding held_level
-returns-then-not-same_span-2 c = search level_uri_lem
+returns-then-ne-2 c = search level_uri_lem
 
 pub returns-then-owned_at : goal.returns-then-owned_at
 unfolding held_level

@@ -12,6 +12,3 @@ invariant-loop-k l =
     (tabulate (held_level (level_names l.other) (level_spaces l.other) (level_strands l.other)) l.k (l.depth - l.k))
     ≡ same_each same_level (tabulate (held_level (level_names l.levels) (level_spaces l.levels) (level_strands l.levels)) 0 l.depth)
     (tabulate (held_level (level_names l.other) (level_spaces l.other) (level_strands l.other)) 0 l.depth)
-
-abbrev pub decreases-loop-k : goal.decreases-loop-k
-decreases-loop-k l = l.depth - l.k

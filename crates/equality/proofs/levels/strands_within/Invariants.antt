@@ -11,6 +11,3 @@ abbrev pub invariant-loop-k : goal.invariant-loop-k
 invariant-loop-k l =
     all (λ (i : ℕ). leb (get_or (level_spaces l.levels) (4 * i + 3) 0) 16) (tabulate (λ (i : ℕ). i) l.k (l.depth - l.k))
     ≡ all (λ (i : ℕ). leb (get_or (level_spaces l.levels) (4 * i + 3) 0) 16) (tabulate (λ (i : ℕ). i) 0 l.depth)
-
-abbrev pub decreases-loop-k : goal.decreases-loop-k
-decreases-loop-k l = l.depth - l.k

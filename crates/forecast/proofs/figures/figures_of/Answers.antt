@@ -7,6 +7,7 @@ use Rattle.sessions.specs.Sessions.{session_at}
 use Rattle.sessions.specs.Stepping.{Step}
 use Rattle.sessions.specs.Turns.{step_in}
 use Rattle.forecast.specs.Forecasts.{greater_of}
+use Rattle.forecast.proofs.Greatest.{greater_max}
 use Rattle.forecast.proofs.FigureTurns.{Turned, first_figured, first_beside, turn_ready, turned, turn_again}
 use Rattle.forecast.proofs.figures.figures_of.Goals as goal
 use Rattle.forecast.proofs.figures.figures_of.Goals.{After-weighed_step-turn, then-head-next, else-head-next}
@@ -55,6 +56,6 @@ pub loop-levels-preserved : goal.loop-levels-preserved
 loop-levels-preserved c =
     let w = (goal.at.loop-levels-preserved c).After-weighed_step-turn in (
       turn_again _ _ _ _ _ _ (stepped w) (turn w) c.if-number-ne0.false c.if-head-next.strands c.if-head-next.depth
-          (elim c.if-head-next.branch [ then-head-next v ↦ inl (v.if-head-next.true, v.strands-is ∙ v.greater-strands.ensures ∙ ap (greater_of _) v.count_at.ensures, v.depth-is ∙ v.greater-depth.ensures) | else-head-next v ↦ inr (v.if-head-next.false, v.strands-is, v.depth-is) ]),
+          (elim c.if-head-next.branch [ then-head-next v ↦ inl (v.if-head-next.true, v.strands-is ∙ v.max-strands.ensures ∙ greater_max _ _ ∙ ap (greater_of _) v.count_at.ensures, v.depth-is ∙ v.max-depth.ensures ∙ greater_max _ _) | else-head-next v ↦ inr (v.if-head-next.false, v.strands-is, v.depth-is) ]),
       w.weighed_step-turn.ensures.1,
     )

@@ -17,8 +17,8 @@ loop-i-preserved c =
     let l = c.loop-i in
     (omega (arith, l.invariant.0), all_passed _ _ _ l.i _ _ l.invariant.0 l.invariant.1 c.word_at.ensures.bytes c.special_bits-bits.ensures c.if-bits-ne0.false)
 
-pub returns-after-loop-i : goal.returns-after-loop-i
-returns-after-loop-i c = c.loop-i.invariant
+pub returns : goal.returns
+returns c = c.loop-i.invariant
 
-pub returns-else-s-ge8 : goal.returns-else-s-ge8
-returns-else-s-ge8 c = (le_refl _, none_passed _ _ _)
+pub returns-then-s-lt8 : goal.returns-then-s-lt8
+returns-then-s-lt8 c = (le_refl _, none_passed _ _ _)

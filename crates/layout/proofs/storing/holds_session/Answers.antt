@@ -1,7 +1,7 @@
 -- `layout::storing::holds_session` meets its contract.
 use mathlib.Core.Path.{sym, ◌∙◌}
 use native.Mathlib.Omega.{arith}
-use Rattle.layout.proofs.Holding.{not_version, not_closed, not_awaited, not_padding, not_level, last_test}
+use Rattle.layout.proofs.Holding.{not_version, not_closed, not_awaited, not_padding, level_zero, not_level, last_test}
 use Rattle.layout.proofs.storing.holds_session.Goals as goal
 
 pub returns-then-b-ne1 : goal.returns-then-b-ne1
@@ -17,10 +17,13 @@ pub returns-then-not-no_padding : goal.returns-then-not-no_padding
 returns-then-not-no_padding c =
     not_padding c.args.b.now c.if-b-ne1.false (omega arith) (omega arith) (sym c.no_padding.ensures ∙ c.if-not-no_padding.true)
 
-pub returns-then-not-no_level_padding : goal.returns-then-not-no_level_padding
-returns-then-not-no_level_padding c =
-    not_level c.args.b.now c.if-b-ne1.false (omega arith) (omega arith) (sym c.no_padding.ensures ∙ c.if-not-no_padding.false) (sym c.no_level_padding.ensures ∙ c.if-not-no_level_padding.true)
+pub words_zero-requires : goal.words_zero-requires
+words_zero-requires c = λ j h. omega arith
+
+pub returns-then-not-words_zero : goal.returns-then-not-words_zero
+returns-then-not-words_zero c =
+    not_level c.args.b.now c.if-b-ne1.false (omega arith) (omega arith) (sym c.no_padding.ensures ∙ c.if-not-no_padding.false) (sym (level_zero c.args.b.now) ∙ sym c.words_zero.ensures ∙ c.if-not-words_zero.true)
 
 pub returns : goal.returns
 returns c =
-    last_test c.args.b.now c.if-b-ne1.false (omega arith) (omega arith) (sym c.no_padding.ensures ∙ c.if-not-no_padding.false) (sym c.no_level_padding.ensures ∙ c.if-not-no_level_padding.false) _ c.strands_pack.ensures
+    last_test c.args.b.now c.if-b-ne1.false (omega arith) (omega arith) (sym c.no_padding.ensures ∙ c.if-not-no_padding.false) (sym (level_zero c.args.b.now) ∙ sym c.words_zero.ensures ∙ c.if-not-words_zero.false) _ c.strands_pack.ensures

@@ -8,23 +8,28 @@ use Rattle.layout.proofs.Packs.{zero_packs}
 use Rattle.layout.proofs.Tested.{first_fail, then_last, asked_less}
 use Rattle.layout.proofs.storing.level_packs.Goals as goal
 
-pub returns-then-not-words_pack : goal.returns-then-not-words_pack
-returns-then-not-words_pack c =
+pub returns-else-words_pack : goal.returns-else-words_pack
+returns-else-words_pack c =
     let a = c.args in
-    first_fail (λ (j : ℕ). packs (word4 a.b.now (a.at + 4 * j))) (λ (j : ℕ). packs (word4 a.b.now (a.at + 16 + 4 * j))) 4 12
-    (λ j h. ap (λ (at : ℕ). packs (word4 a.b.now at)) (omega arith)) (sym c.words_pack.ensures ∙ c.if-not-words_pack.true)
+    c.if-words_pack.false
+    ∙ first_fail (λ (j : ℕ). packs (word4 a.b.now (a.at + 4 * j))) (λ (j : ℕ). packs (word4 a.b.now (a.at + 16 + 4 * j))) 4 12
+    (λ j h. ap (λ (at : ℕ). packs (word4 a.b.now at)) (omega arith)) (sym c.words_pack.ensures ∙ c.if-words_pack.false)
+
+pub words_zero-requires : goal.words_zero-requires
+words_zero-requires c = λ j h. omega arith
 
 pub returns-then-words_zero : goal.returns-then-words_zero
 returns-then-words_zero c =
     let a = c.args in
     let last : ℕ → ℕ = λ (j : ℕ). word4 a.b.now (a.at + 16 + 4 * j) in
-    sym (asked_less (λ (j : ℕ). eqb (last j) 0) (λ (j : ℕ). packs (last j)) 12 (λ j. zero_packs (last j)) (sym c.words_zero.ensures ∙ c.if-words_zero.true))
+    c.if-words_zero.true
+    ∙ sym (asked_less (λ (j : ℕ). eqb (last j) 0) (λ (j : ℕ). packs (last j)) 12 (λ j. zero_packs (last j)) (sym c.words_zero.ensures ∙ c.if-words_zero.true))
     ∙ then_last (λ (j : ℕ). packs (word4 a.b.now (a.at + 4 * j))) (λ (j : ℕ). packs (last j)) 4 12
-    (λ j h. ap (λ (at : ℕ). packs (word4 a.b.now at)) (omega arith)) (sym c.words_pack.ensures ∙ c.if-not-words_pack.false)
+    (λ j h. ap (λ (at : ℕ). packs (word4 a.b.now at)) (omega arith)) (sym c.words_pack.ensures ∙ c.if-words_pack.true)
 
-pub returns : goal.returns
-returns c =
+pub returns-else-words_zero : goal.returns-else-words_zero
+returns-else-words_zero c =
     let a = c.args in
-    c.words_pack-2.ensures
+    c.words_pack-else-words_zero.ensures
     ∙ then_last (λ (j : ℕ). packs (word4 a.b.now (a.at + 4 * j))) (λ (j : ℕ). packs (word4 a.b.now (a.at + 16 + 4 * j))) 4 12
-    (λ j h. ap (λ (at : ℕ). packs (word4 a.b.now at)) (omega arith)) (sym c.words_pack.ensures ∙ c.if-not-words_pack.false)
+    (λ j h. ap (λ (at : ℕ). packs (word4 a.b.now at)) (omega arith)) (sym c.words_pack.ensures ∙ c.if-words_pack.true)

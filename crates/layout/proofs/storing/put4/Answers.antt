@@ -1,17 +1,12 @@
--- `layout::storing::put4` meets its contract.
-use native.Mathlib.Omega.{arith}
-use lib.ListN.{length-set}
-use Rattle.laws.proofs.Over.{four_set}
+-- `storing::put4` meets its contract.
+use Rattle.std.proofs.Common.{◌+◌, ◌-◌, length, ap, ◌∙◌, arith}
+use Rattle.laws.specs.Over.{overwrite}
+use Rattle.laws.proofs.Over.{part_over}
 use Rattle.layout.proofs.storing.put4.Goals as goal
 
-pub bounds-b-at-2 : goal.bounds-b-at-2
-bounds-b-at-2 c = simp length-set (omega arith)
-
-pub bounds-b-at-3 : goal.bounds-b-at-3
-bounds-b-at-3 c = simp length-set (omega arith)
-
-pub bounds-b-at-4 : goal.bounds-b-at-4
-bounds-b-at-4 c = simp length-set (omega arith)
-
 pub returns : goal.returns
-returns c = let a = c.args in four_set a.b.now a.at _ _ _ _ (omega arith)
+returns c =
+    let a = c.args in
+    let e = c.copy_from_slice.ensures.after in
+    let t = c.to_le_bytes.ensures in
+    part_over a.b.now a.at (a.at + 4 - a.at) _ (omega (arith, ap length e, ap length t)) ∙ ap (overwrite a.b.now a.at) (e ∙ t)

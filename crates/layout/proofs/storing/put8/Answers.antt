@@ -1,11 +1,13 @@
 -- `layout::storing::put8` meets its contract.
-use mathlib.Core.Path.{refl}
-use Prim.Native.Nat.{◌+◌}
-use native.Mathlib.Omega.{arith}
-use Rattle.layout.proofs.Stored.{over_chain}
+use Rattle.std.proofs.Common.{◌+◌, ◌-◌, length, ap, ◌∙◌, arith}
+use Rattle.laws.specs.Over.{overwrite}
+use Rattle.laws.proofs.Over.{part_over}
+use Rattle.layout.proofs.Eight.{eight_bytes}
 use Rattle.layout.proofs.storing.put8.Goals as goal
 
 pub returns : goal.returns
 returns c =
     let a = c.args in
-    over_chain a.b.now _ _ a.at (a.at + 4) _ _ (omega arith) refl c.put4.ensures c.put4-2.ensures
+    let t = c.to_le_bytes.ensures in
+    let e = c.copy_from_slice.ensures.after ∙ t in
+    part_over a.b.now a.at (a.at + 8 - a.at) _ (omega (arith, ap length e)) ∙ ap (overwrite a.b.now a.at) (e ∙ eight_bytes a.n)

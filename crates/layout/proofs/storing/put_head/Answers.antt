@@ -1,22 +1,14 @@
 -- `layout::storing::put_head` meets its contract.
-use mathlib.Core.Path.{refl}
-use native.Mathlib.Omega.{arith}
-use Rattle.layout.proofs.Stored.{flag_few, head_end}
+use Rattle.std.proofs.Common.{length, ap, ◌∙◌}
+use Rattle.laws.specs.Over.{overwrite}
+use Rattle.laws.proofs.Over.{part_over}
+use Rattle.layout.proofs.Stored.{flag_from, head_end}
 use Rattle.layout.proofs.storing.put_head.Goals as goal
-
-pub overflow_mul-flags : goal.overflow_mul-flags
-overflow_mul-flags c = omega (arith, flag_few c.args.closed)
-
-pub overflow_add-flags : goal.overflow_add-flags
-overflow_add-flags c = omega (arith, flag_few c.args.closed)
-
-pub overflow_mul-flags-2 : goal.overflow_mul-flags-2
-overflow_mul-flags-2 c = omega (arith, flag_few c.args.awaited)
-
-pub overflow_add-flags-2 : goal.overflow_add-flags-2
-overflow_add-flags-2 c = omega (arith, flag_few c.args.closed, flag_few c.args.awaited)
 
 pub returns : goal.returns
 returns c =
-    let a = c.args in
-    head_end a.b.now _ _ _ _ _ _ a.closed a.awaited c.flag_of.result c.flag_of-2.result _ a.place a.units a.depth a.bound c.flag_of.ensures c.flag_of-2.ensures refl c.put4.ensures c.put4-2.ensures c.put8.ensures c.put8-2.ensures c.put8-3.ensures c.put8-4.ensures
+    let b = c.args.b.now in
+    let h = c.args.head in
+    let e = c.copy_from_slice.ensures.after in
+    let f = part_over b 0 8 c.copy_from_slice.new.self (ap length e) ∙ ap (overwrite b 0) e in
+    head_end b _ _ _ _ _ h.closed h.awaited _ _ h.place h.units h.depth h.bound (c.from-closed.ensures ∙ flag_from h.closed) (c.from-awaited.ensures ∙ flag_from h.awaited) f c.put8.ensures c.put8-2.ensures c.put8-3.ensures c.put8-4.ensures

@@ -10,7 +10,7 @@ use Rattle.layout.proofs.storing.put_levels.Goals as goal
 pub loop-k-init : goal.loop-k-init
 loop-k-init c =
     let l = c.args.levels.now in
-    (omega arith, omega arith, refl, levels_start (level_names l) (level_spaces l) (level_strands l) (each_long 3 0 l) (each_long 4 3 l) (each_long 16 8 l) c.args.b.now)
+    (omega arith, refl, levels_start (level_names l) (level_spaces l) (level_strands l) (each_long 3 0 l) (each_long 4 3 l) (each_long 16 8 l) c.args.b.now)
 
 pub loop-k-preserved : goal.loop-k-preserved
 loop-k-preserved c =
@@ -18,9 +18,8 @@ loop-k-preserved c =
     let all = a.levels.now in
     let l = c.loop-k in (
       omega arith,
-      l.invariant.1,
       search rules,
-      levels_more (level_names all) (level_spaces all) (level_strands all) (each_long 3 0 all) (each_long 4 3 all) (each_long 16 8 all) a.b.now l.b _ l.k (omega arith) (omega arith) l.invariant.3 c.put_level.ensures,
+      levels_more (level_names all) (level_spaces all) (level_strands all) (each_long 3 0 all) (each_long 4 3 all) (each_long 16 8 all) a.b.now l.b _ l.k (omega arith) (omega arith) l.invariant.2 c.put_level.ensures,
     )
 
 pub returns : goal.returns
@@ -28,4 +27,4 @@ returns c =
     let a = c.args in
     let all = a.levels.now in
     let l = c.loop-k in
-    levels_end (level_names all) (level_spaces all) (level_strands all) (each_long 3 0 all) (each_long 4 3 all) (each_long 16 8 all) a.b.now l.b l.k (omega arith) l.invariant.3
+    levels_end (level_names all) (level_spaces all) (level_strands all) (each_long 3 0 all) (each_long 4 3 all) (each_long 16 8 all) a.b.now l.b l.k (omega arith) l.invariant.2

@@ -1,6 +1,6 @@
 -- `layout::storing::put_levels` meets its contract: the first k levels are stored.
 use mathlib.Core.Path.{◌≡◌}
-use Prim.Native.Nat.{ℕ, ◌-◌, ◌≤◌}
+use Prim.Native.Nat.{ℕ, ◌≤◌}
 use lib.ListN.{length}
 use Rattle.laws.specs.Lists.{tabulate}
 use Rattle.laws.specs.Gather.{gather}
@@ -10,7 +10,4 @@ use Rattle.layout.specs.Parts.{level_words}
 use Rattle.layout.proofs.storing.put_levels.Given as goal
 
 abbrev pub invariant-loop-k : goal.invariant-loop-k
-invariant-loop-k l = (l.k ≤ 64) × (length l.all ≡ 1536) × (length l.b ≡ length l.initial.b) × (l.b ≡ overwrite l.initial.b 1064 (gather (level_words (level_names l.levels) (level_spaces l.levels) (level_strands l.levels)) (tabulate (λ (i : ℕ). i) 0 l.k)))
-
-abbrev pub decreases-loop-k : goal.decreases-loop-k
-decreases-loop-k l = 64 - l.k
+invariant-loop-k l = (l.k ≤ 64) × (length l.b ≡ length l.initial.b) × (l.b ≡ overwrite l.initial.b 1064 (gather (level_words (level_names l.levels) (level_spaces l.levels) (level_strands l.levels)) (tabulate (λ (i : ℕ). i) 0 l.k)))

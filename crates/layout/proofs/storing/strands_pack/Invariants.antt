@@ -7,6 +7,3 @@ use Rattle.layout.proofs.storing.strands_pack.Given as goal
 
 abbrev pub invariant-loop-k : goal.invariant-loop-k
 invariant-loop-k l = (l.k ≤ 64) × (asked (λ (i : ℕ). packs (word4 l.b (strand_at i))) (16 * l.k) (1024 - 16 * l.k) ≡ asked (λ (i : ℕ). packs (word4 l.b (strand_at i))) 0 1024)
-
-abbrev pub decreases-loop-k : goal.decreases-loop-k
-decreases-loop-k l = 64 - l.k

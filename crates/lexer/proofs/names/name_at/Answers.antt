@@ -1,21 +1,21 @@
 -- `lexer::names::name_at` meets its contract, by the cases of what its callees answer.
+use Rattle.std.proofs.Common.{rules}
 use Rattle.laws.specs.Tests.{tests}
 use Rattle.lexer.specs.Names.{name_at}
-use Rattle.lexer.proofs.Behind.{by_read}
 use Rattle.lexer.proofs.names.name_at.Goals as goal
 
-pub returns-then-s-j : goal.returns-then-s-j
+pub returns-then-s-end : goal.returns-then-s-end
 unfolding name_at
-returns-then-s-j c = search (by_read, tests)
+returns-then-s-end c = rw (← c.in_ok-end.ensures) (search tests)
 
-pub returns-then-s-j-eq58 : goal.returns-then-s-j-eq58
+pub returns-then-s-end-eq58 : goal.returns-then-s-end-eq58
 unfolding name_at
-returns-then-s-j-eq58 c = search (by_read, tests)
+returns-then-s-end-eq58 c = rw (← c.in_ok-end.ensures) (search tests)
 
-pub returns-else-s-j-eq58 : goal.returns-else-s-j-eq58
+pub returns : goal.returns
 unfolding name_at
-returns-else-s-j-eq58 c = search (by_read, tests)
+returns c = rw (← c.in_ok-end.ensures) (search tests)
 
-pub returns-in-Stopped : goal.returns-in-Stopped
+pub returns-in_err-end : goal.returns-in_err-end
 unfolding name_at
-returns-in-Stopped c = search (by_read, tests)
+returns-in_err-end c = rw (← c.in_err-end.ensures) (search rules)

@@ -2,6 +2,7 @@
 use native.Mathlib.Omega.{arith}
 use Rattle.lexer.proofs.Parts.{reading_starts, reading_cut, reading_ends, reading_bad, reading_long, reading_on, reading_whole}
 use Rattle.lexer.proofs.names.part_broken.Goals as goal
+use Rattle.lexer.proofs.names.part_broken.Goals.{then-g-eq0, else-g-eq0}
 
 pub loop-i-init : goal.loop-i-init
 loop-i-init c = reading_starts _ _ _ _ c.requires.0 c.requires.1 c.fresh_form-f.ensures
@@ -24,11 +25,8 @@ overflow_sub-i c = let r = c.loop-i.invariant in omega (arith, r.low, r.long)
 pub returns-then-i-at-eq64 : goal.returns-then-i-at-eq64
 returns-then-i-at-eq64 c = search reading_long
 
-pub loop-i-preserved-then-g-eq0 : goal.loop-i-preserved-then-g-eq0
-loop-i-preserved-then-g-eq0 c = search reading_whole
-
 pub loop-i-preserved : goal.loop-i-preserved
-loop-i-preserved c = search reading_on
+loop-i-preserved c = elim c.if-g-eq0.branch [ then-g-eq0 w ↦ rw (w.start-is, w.f-is) (search reading_whole) | else-g-eq0 w ↦ rw (w.start-is, w.f-is) (search reading_on) ]
 
 pub returns : goal.returns
 returns c = search reading_cut

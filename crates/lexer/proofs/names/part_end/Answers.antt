@@ -1,10 +1,10 @@
 -- `lexer::names::part_end` meets its contract: at each turn the answer is the machine's from `i` on, where a character begins.
-use mathlib.Core.Path.{refl, ◌∙◌}
+use mathlib.Core.Path.{◌≡◌, refl, ◌∙◌, ap}
 use native.Mathlib.Omega.{arith}
+use Rattle.lexer.specs.Names.{part_from}
 use Rattle.laws.specs.Tests.{untold, untold'}
 use Rattle.lexer.proofs.Parts.{part_none, part_here, part_out, part_first, part_stop, part_on}
 use mathlib.Core.Bool.{not}
-use mathlib.Core.Path.{ap}
 use Rattle.lexer.proofs.names.part_end.Goals as goal
 
 pub returns-then-len-at : goal.returns-then-len-at
@@ -40,11 +40,13 @@ loop-i-preserved c =
     let l = c.loop-i in
     (l.invariant.0, omega arith, omega arith, l.invariant.3, l.invariant.4, part_on a.s.now a.at l.i l.invariant.1 l.invariant.5 (omega arith) (omega arith) (untold' _ _ c.is_name.ensures (ap not c.if-not-is_name.false)))
 
-pub returns-then-len-i : goal.returns-then-len-i
-returns-then-len-i c = part_out _ _ _ c.loop-i.invariant.5 (omega (arith, c.if-len-i.true, c.loop-i.invariant.0))
+pub returns-then-len-end : goal.returns-then-len-end
+returns-then-len-end c = part_out _ _ _ c.loop-i.invariant.5 (omega arith)
 
 pub part_rest-requires-2 : goal.part_rest-requires-2
 part_rest-requires-2 c = (omega arith, omega arith)
 
 pub returns : goal.returns
-returns c = c.apart-2.ensures ∙ c.part_rest-2.ensures ∙ c.loop-i.invariant.5
+returns c =
+    let e : c.room_end-end.result ≡ c.loop-i.i = omega arith in
+    c.apart-2.ensures ∙ c.part_rest-2.ensures ∙ ap (part_from c.args.s.now c.args.at) e ∙ c.loop-i.invariant.5

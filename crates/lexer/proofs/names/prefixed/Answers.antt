@@ -1,12 +1,12 @@
 -- `lexer::names::prefixed` meets its contract, by the cases of what its callees answer.
+use Rattle.std.proofs.Common.{rules}
 use Rattle.lexer.specs.Names.{prefixed_at}
-use Rattle.lexer.proofs.Behind.{by_read}
 use Rattle.lexer.proofs.names.prefixed.Goals as goal
 
-pub returns-in-End : goal.returns-in-End
+pub returns-in_err-end : goal.returns-in_err-end
 unfolding prefixed_at
-returns-in-End c = search by_read
+returns-in_err-end c = rw (← c.in_err-end.ensures) (search rules)
 
-pub returns-in-Stopped : goal.returns-in-Stopped
+pub returns : goal.returns
 unfolding prefixed_at
-returns-in-Stopped c = search by_read
+returns c = rw (← c.in_ok-end.ensures)

@@ -11,8 +11,8 @@ loop-i-init c = refl
 pub loop-i-preserved : goal.loop-i-preserved
 loop-i-preserved c = search machine
 
-pub returns-else-is_space : goal.returns-else-is_space
-returns-else-is_space c = search machine
+pub returns-then-not-is_space : goal.returns-then-not-is_space
+returns-then-not-is_space c = search machine
 
 pub returns : goal.returns
 returns c = search machine

@@ -5,8 +5,8 @@ use lib.ListN.{length}
 use Rattle.lexer.specs.Begins.{begin_at}
 use Rattle.misc.proofs.begins.begin_from.Given as goal
 
-abbrev pub invariant-loop-b : goal.invariant-loop-b
-invariant-loop-b l = begin_at l.s l.i l.inside l.closed ≡ begin_at l.s l.at l.inside l.closed
+abbrev pub invariant-loop-event : goal.invariant-loop-event
+invariant-loop-event l = begin_at l.s l.i l.inside l.closed ≡ begin_at l.s l.at l.inside l.closed
 
-abbrev pub decreases-loop-b : goal.decreases-loop-b
-decreases-loop-b l = length l.s - l.i
+abbrev pub decreases-loop-event : goal.decreases-loop-event
+decreases-loop-event l = length l.s - l.i

@@ -4,10 +4,10 @@ use Rattle.lexer.specs.Begins.{misc_ahead}
 use Rattle.lexer.proofs.Behind.{by_read}
 use Rattle.misc.proofs.begins.misc_ahead.Goals as goal
 
-pub returns-in-End : goal.returns-in-End
+pub returns-in-Ok : goal.returns-in-Ok
 unfolding misc_ahead
-returns-in-End c = search (by_read, tests)
+returns-in-Ok c = search (by_read, tests)
 
-pub returns-in-Stopped : goal.returns-in-Stopped
+pub returns-in-Err : goal.returns-in-Err
 unfolding misc_ahead
-returns-in-Stopped c = search (by_read, tests)
+returns-in-Err c = search (by_read, tests)

@@ -1,7 +1,7 @@
 -- `misc::declaration::declaration_end` meets its contract, by the cases of what its callees answer.
+use Rattle.std.proofs.Common.{rules}
 use Rattle.laws.specs.Tests.{tests}
 use Rattle.lexer.specs.Declaration.{declaration_end}
-use Rattle.lexer.proofs.Behind.{by_read}
 use Rattle.misc.proofs.declaration.declaration_end.Goals as goal
 
 pub returns-then-s-at : goal.returns-then-s-at
@@ -12,10 +12,10 @@ pub returns-then-not-is_space : goal.returns-then-not-is_space
 unfolding declaration_end
 returns-then-not-is_space c = search tests
 
-pub returns-in-End : goal.returns-in-End
+pub returns-in_err-i : goal.returns-in_err-i
 unfolding declaration_end
-returns-in-End c = search (by_read, tests)
+returns-in_err-i c = rw (← c.in_err-i.ensures) (search (rules, tests))
 
-pub returns-in-Stopped : goal.returns-in-Stopped
+pub returns : goal.returns
 unfolding declaration_end
-returns-in-Stopped c = search (by_read, tests)
+returns c = rw (← c.in_ok-i.ensures) (search tests)

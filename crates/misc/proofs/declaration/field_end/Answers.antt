@@ -1,21 +1,16 @@
 -- `misc::declaration::field_end` meets its contract, by the cases of what its callees answer.
-use mathlib.Core.Path.{refl}
+use Rattle.std.proofs.Common.{rules}
 use Rattle.lexer.specs.Declaration.{field_end}
-use Rattle.lexer.proofs.Behind.{by_read}
 use Rattle.misc.proofs.declaration.field_end.Goals as goal
 
-pub returns-in-End-equals_end : goal.returns-in-End-equals_end
+pub returns-in_err-word : goal.returns-in_err-word
 unfolding field_end
-returns-in-End-equals_end c =
-    by_read _ _ _ _ _ _ c.field_word_end.ensures c.in-End.is
-    (by_read _ _ _ _ _ _ c.equals_end.ensures c.in-End-equals_end.is c.quoted_end.ensures)
+returns-in_err-word c = rw (← c.in_err-word.ensures) (search rules)
 
-pub returns-in-Stopped-equals_end : goal.returns-in-Stopped-equals_end
+pub returns-in_err-quote : goal.returns-in_err-quote
 unfolding field_end
-returns-in-Stopped-equals_end c =
-    by_read _ _ _ _ _ _ c.field_word_end.ensures c.in-End.is
-    (by_read _ _ _ _ _ _ c.equals_end.ensures c.in-Stopped-equals_end.is refl)
+returns-in_err-quote c = rw (← c.in_ok-word.ensures, ← c.in_err-quote.ensures) (search rules)
 
-pub returns-in-Stopped : goal.returns-in-Stopped
+pub returns : goal.returns
 unfolding field_end
-returns-in-Stopped c = search by_read
+returns c = rw (← c.in_ok-word.ensures, ← c.in_ok-quote.ensures) (search rules)

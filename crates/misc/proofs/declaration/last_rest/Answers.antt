@@ -1,17 +1,16 @@
 -- `misc::declaration::last_rest` meets its contract, by the cases of what its callees answer.
-use Rattle.laws.specs.Tests.{tests}
+use Rattle.std.proofs.Common.{rules}
 use Rattle.lexer.specs.Declaration.{last_rest}
-use Rattle.misc.proofs.MiscTurns.{by_turn}
 use Rattle.misc.proofs.declaration.last_rest.Goals as goal
+
+pub returns-in_err-next : goal.returns-in_err-next
+unfolding last_rest
+returns-in_err-next c = rw (← c.in_err-next.ensures) (search rules)
 
 pub returns-in-Close : goal.returns-in-Close
 unfolding last_rest
-returns-in-Close c = search (by_turn, tests)
+returns-in-Close c = rw (← c.in_ok-next.ensures, c.in-Close.is)
 
 pub returns-in-Attribute : goal.returns-in-Attribute
 unfolding last_rest
-returns-in-Attribute c = search (by_turn, tests)
-
-pub returns-in-Stopped : goal.returns-in-Stopped
-unfolding last_rest
-returns-in-Stopped c = search (by_turn, tests)
+returns-in-Attribute c = rw (← c.in_ok-next.ensures, c.in-Attribute.is)

@@ -1,13 +1,12 @@
 -- `misc::declaration::standalone_end` meets its contract, by the cases of what its callees answer.
-use Rattle.laws.specs.Tests.{tests}
+use Rattle.std.proofs.Common.{rules}
 use Rattle.lexer.specs.Declaration.{standalone_end}
-use Rattle.lexer.proofs.Behind.{by_read}
 use Rattle.misc.proofs.declaration.standalone_end.Goals as goal
 
-pub returns-in-End : goal.returns-in-End
+pub returns-in_err-i : goal.returns-in_err-i
 unfolding standalone_end
-returns-in-End c = search (by_read, tests)
+returns-in_err-i c = rw (← c.in_err-i.ensures) (search rules)
 
-pub returns-in-Stopped : goal.returns-in-Stopped
+pub returns : goal.returns
 unfolding standalone_end
-returns-in-Stopped c = search (by_read, tests)
+returns c = rw (← c.in_ok-i.ensures) (search rules)

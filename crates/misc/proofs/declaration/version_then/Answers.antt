@@ -1,13 +1,12 @@
 -- `misc::declaration::version_then` meets its contract, by the cases of what its callees answer.
-use Rattle.laws.specs.Tests.{tests}
+use Rattle.std.proofs.Common.{rules}
 use Rattle.lexer.specs.Declaration.{version_then}
-use Rattle.lexer.proofs.Behind.{by_read}
 use Rattle.misc.proofs.declaration.version_then.Goals as goal
 
-pub returns-in-End : goal.returns-in-End
+pub returns-in_err-i : goal.returns-in_err-i
 unfolding version_then
-returns-in-End c = search (by_read, tests)
+returns-in_err-i c = rw (← c.in_err-i.ensures) (search rules)
 
-pub returns-in-Stopped : goal.returns-in-Stopped
+pub returns : goal.returns
 unfolding version_then
-returns-in-Stopped c = search (by_read, tests)
+returns c = rw (← c.in_ok-i.ensures) (search rules)

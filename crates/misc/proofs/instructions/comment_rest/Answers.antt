@@ -1,5 +1,6 @@
 -- `misc::instructions::comment_rest` meets its contract: at each turn the answer is the machine's from `i` on, its state the hyphens that stand before.
-use mathlib.Core.Path.{refl}
+use Rattle.std.proofs.Common.{rules, Err}
+use mathlib.Core.Path.{◌≡◌, refl, ◌∙◌}
 use native.Mathlib.Omega.{arith}
 use Rattle.laws.specs.Reading.{machine}
 use Rattle.lexer.specs.Misc.{comment_rest}
@@ -38,17 +39,18 @@ loop-i-preserved-then-b-lt128 c =
     (omega arith, comment_passed _ _ l.hyphens l.i l.invariant.1 lt c.if-hyphens-eq2.false c.if-b-eq45.false _ r _ refl)
 
 pub loop-i-smaller : goal.loop-i-smaller
-loop-i-smaller c = omega (arith, char_in _ _ _ _ _ c.char_end.ensures c.in-End.is, c.loop-i-test.true)
+loop-i-smaller c = omega (arith, char_in _ _ _ _ _ c.char_end.ensures c.in_ok-i.was, c.loop-i-test.true)
 
 pub loop-i-preserved : goal.loop-i-preserved
 loop-i-preserved c =
     let l = c.loop-i in
-    (omega arith, comment_passed _ _ l.hyphens l.i l.invariant.1 c.loop-i-test.true c.if-hyphens-eq2.false c.if-b-eq45.false _ c.char_end.ensures _ c.in-End.is)
+    (omega arith, comment_passed _ _ l.hyphens l.i l.invariant.1 c.loop-i-test.true c.if-hyphens-eq2.false c.if-b-eq45.false _ c.char_end.ensures _ c.in_ok-i.was)
 
-pub returns-in-Stopped : goal.returns-in-Stopped
-returns-in-Stopped c =
+pub returns-in_err-i : goal.returns-in_err-i
+returns-in_err-i c =
     let l = c.loop-i in
-    comment_stops _ _ l.hyphens l.i l.invariant.1 c.loop-i-test.true c.if-hyphens-eq2.false c.if-b-eq45.false _ c.char_end.ensures _ c.in-Stopped.is
+    let e : c.from_residual.result ≡ Err c.in_err-i.field-0.0 = search rules in
+    e ∙ comment_stops _ _ l.hyphens l.i l.invariant.1 c.loop-i-test.true c.if-hyphens-eq2.false c.if-b-eq45.false _ c.char_end.ensures _ c.in_err-i.was
 
 pub returns : goal.returns
 returns c = search machine

@@ -1,5 +1,6 @@
 -- `misc::instructions::content_end` meets its contract: at each turn the answer is the machine's from `i` on, in the state 1 behind a ? and 0 else.
-use mathlib.Core.Path.{refl}
+use Rattle.std.proofs.Common.{rules, Err}
+use mathlib.Core.Path.{◌≡◌, refl, ◌∙◌}
 use native.Mathlib.Omega.{arith}
 use Rattle.laws.specs.Reading.{machine}
 use Rattle.lexer.specs.Misc.{content_end}
@@ -31,17 +32,18 @@ loop-i-preserved-then-b-lt128 c =
     content_passed _ _ l.behind l.i l.invariant lt c.if-behind-b.false _ r _ refl
 
 pub loop-i-smaller : goal.loop-i-smaller
-loop-i-smaller c = omega (arith, char_in _ _ _ _ _ c.char_end.ensures c.in-End.is, c.loop-i-test.true)
+loop-i-smaller c = omega (arith, char_in _ _ _ _ _ c.char_end.ensures c.in_ok-i.was, c.loop-i-test.true)
 
 pub loop-i-preserved : goal.loop-i-preserved
 loop-i-preserved c =
     let l = c.loop-i in
-    content_passed _ _ l.behind l.i l.invariant c.loop-i-test.true c.if-behind-b.false _ c.char_end.ensures _ c.in-End.is
+    content_passed _ _ l.behind l.i l.invariant c.loop-i-test.true c.if-behind-b.false _ c.char_end.ensures _ c.in_ok-i.was
 
-pub returns-in-Stopped : goal.returns-in-Stopped
-returns-in-Stopped c =
+pub returns-in_err-i : goal.returns-in_err-i
+returns-in_err-i c =
     let l = c.loop-i in
-    content_stops _ _ l.behind l.i l.invariant c.loop-i-test.true c.if-behind-b.false _ c.char_end.ensures _ c.in-Stopped.is
+    let e : c.from_residual.result ≡ Err c.in_err-i.field-0.0 = search rules in
+    e ∙ content_stops _ _ l.behind l.i l.invariant c.loop-i-test.true c.if-behind-b.false _ c.char_end.ensures _ c.in_err-i.was
 
 pub returns : goal.returns
 returns c = search machine

@@ -1,7 +1,6 @@
--- `reader::clashes::clash_at` meets its contract: what it read of the arrays are the two attributes with their codes.
+-- `namespaces::clashes::clash_at` meets its contract: what it read of the arrays are the two attributes with their codes.
 use Rattle.namespaces.proofs.clashes.clash_at.Goals as goal
 
 pub returns : goal.returns
 returns c =
-    rw (← c.attr_in-a.ensures, ← c.attr_in-b.ensures, ← c.code_at.ensures, ← c.code_at-2.ensures)
-    c.clash.ensures
+    rw (← c.attr_in-a.ensures, ← c.attr_in-b.ensures) c.clash.ensures

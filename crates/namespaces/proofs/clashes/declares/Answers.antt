@@ -1,4 +1,4 @@
--- `reader::clashes::declares` meets its contract.
+-- `namespaces::clashes::declares` meets its contract.
 use mathlib.Core.Path.{ap, ◌∙◌}
 use Rattle.reader.specs.Stored.{is_declaration}
 use Rattle.namespaces.proofs.clashes.declares.Goals as goal

@@ -1,4 +1,4 @@
--- `reader::clashes::same_name` meets its contract.
+-- `namespaces::clashes::same_name` meets its contract.
 use mathlib.Core.Path.{◌∙◌}
 use Rattle.namespaces.proofs.clashes.same_name.Goals as goal
 

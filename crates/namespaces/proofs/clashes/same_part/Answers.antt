@@ -1,4 +1,4 @@
--- `reader::clashes::same_part` meets its contract.
+-- `namespaces::clashes::same_part` meets its contract.
 use mathlib.Core.Path.{◌∙◌}
 use Rattle.namespaces.proofs.clashes.same_part.Goals as goal
 

@@ -1,4 +1,4 @@
--- `reader::declarations::keep_binding` meets its contract.
+-- `namespaces::declarations::keep_binding` meets its contract.
 use Rattle.laws.specs.Tests.{tests}
 use Rattle.namespaces.proofs.declarations.keep_binding.Goals as goal
 

@@ -1,4 +1,4 @@
--- `reader::declarations::put_binding` meets its contract: four stores are one part overwritten.
+-- `namespaces::declarations::put_binding` meets its contract: four stores are one part overwritten.
 use native.Mathlib.Omega.{arith}
 use lib.ListN.{length-set}
 use Rattle.laws.proofs.Over.{four_set}

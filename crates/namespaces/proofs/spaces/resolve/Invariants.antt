@@ -1,5 +1,5 @@
--- `reader::spaces::resolve` meets its contract: the numbers that are held and those of what is left are the tag's.
-use Prim.Native.Nat.{◌-◌, ◌≤◌}
+-- `namespaces::spaces::resolve` meets its contract: the numbers that are held and those of what is left are the tag's.
+use Prim.Native.Nat.{◌≤◌}
 use mathlib.Core.Path.{◌≡◌}
 use lib.ListN.{length}
 use Rattle.lexer.specs.Attrs.{attrs_in}
@@ -8,7 +8,4 @@ use Rattle.reader.proofs.Resolving.{Resolving}
 use Rattle.namespaces.proofs.spaces.resolve.Given as goal
 
 abbrev pub invariant-loop-i : goal.invariant-loop-i
-invariant-loop-i l = (length l.initial.all ≡ 16) × (l.most ≤ 16) × Resolving (codes_of l.s l.own l.owned l.outer l.bound) l.attrs l.most (attrs_in l.attrs l.count) l.initial.all l.all l.i
-
-abbrev pub decreases-loop-i : goal.decreases-loop-i
-decreases-loop-i l = l.most - l.i
+invariant-loop-i l = (length l.initial.spaces ≡ 16) × (l.i-end ≤ 16) × Resolving (codes_of l.s l.in_scope.own.now l.in_scope.owned l.in_scope.outer.now l.in_scope.bound) l.attrs l.i-end (attrs_in l.attrs l.count) l.initial.spaces l.spaces l.i

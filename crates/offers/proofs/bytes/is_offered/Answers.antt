@@ -1,5 +1,5 @@
 -- `offers::bytes::is_offered` meets its contract.
-use mathlib.Core.Bool.{◌&&◌}
+use mathlib.Core.Bool.{◌&&◌, not}
 use native.Mathlib.Omega.{arith}
 use lib.Dec.{eqb}
 use Rattle.laws.proofs.Over.{part_whole_lem}
@@ -8,7 +8,6 @@ use Rattle.equality.specs.Checks.{within_arrays}
 use Rattle.sessions.specs.Sessions.{session_at}
 use Rattle.layout.proofs.Lent.{parts_joined}
 use Rattle.offers.proofs.Compared.{not_version, not_session, then_compared, both_compared}
-use mathlib.Core.Bool.{not}
 use mathlib.Core.Path.{ap}
 use Rattle.offers.proofs.bytes.is_offered.Goals as goal
 

@@ -1,26 +1,14 @@
--- `arrays::copy` meets its contract: after j turns the first j numbers are laid over the array.
-use mathlib.Core.Path.{◌≡◌, refl, sym, ap, ◌∙◌}
-use Prim.Native.Nat.{ℕ}
-use native.Mathlib.Omega.{arith}
-use borrow.Author.Rules.{rules}
-use lib.ListN.{take, drop}
+-- `arrays::copy` meets its contract.
+use Rattle.std.proofs.Common.{◌≡◌, ℕ, ◌+◌, ◌-◌, length, take, drop, length-drop, ap, ◌∙◌, arith}
+use lib.Seq.{length-take-le}
 use Rattle.laws.specs.Over.{overwrite}
-use Rattle.laws.proofs.Over.{over_none}
-use Rattle.openings.proofs.LevelArrays.{copied}
+use Rattle.laws.proofs.Over.{part_over}
 use Rattle.openings.proofs.arrays.copy.Goals as goal
-
-pub loop-j-init : goal.loop-j-init
-loop-j-init c = (search rules, refl, sym (over_none _ _))
-
-pub loop-j-preserved : goal.loop-j-preserved
-loop-j-preserved c =
-    let l = c.loop-j in
-    let a = c.args in
-    (search rules, search rules, copied a.to.now l.to a.from.now a.at a.first l.j l.invariant.2 (omega arith) (omega arith))
 
 pub returns : goal.returns
 returns c =
-    let l = c.loop-j in
     let a = c.args in
-    let e : l.j ≡ a.n = omega arith in
-    l.invariant.2 ∙ ap (λ (k : ℕ). overwrite a.to.now a.at (take k (drop a.first a.from.now))) e
+    let k : a.first + a.n - a.first ≡ a.n = omega arith in
+    let e = c.copy_from_slice.ensures.after ∙ ap (λ (i : ℕ). take i (drop a.first a.from.now)) k in
+    let n : length c.copy_from_slice.new.self ≡ a.n = ap length e ∙ length-take-le a.n (drop a.first a.from.now) (omega (arith, length-drop a.first a.from.now)) in
+    part_over a.to.now a.at (a.at + a.n - a.at) _ (omega arith) ∙ ap (overwrite a.to.now a.at) e

@@ -19,10 +19,10 @@ pub loop-k-preserved : goal.loop-k-preserved
 loop-k-preserved c =
     let a = c.args in
     let l = c.loop-k in
-    join_turn _ a.names.now a.spaces.now a.strands.now (omega arith) (omega arith) (omega arith) l.all _ _ _ l.k l.invariant c.loop-k-test.true c.copy.ensures c.copy-in-loop-k.ensures c.copy-in-loop-k-2.ensures
+    join_turn _ a.names.now a.spaces.now a.strands.now (omega arith) (omega arith) (omega arith) l.levels _ _ _ l.k l.invariant c.loop-k-test.true c.copy.ensures c.copy-in-loop-k.ensures c.copy-in-loop-k-2.ensures
 
 pub returns : goal.returns
 returns c =
     let a = c.args in
     let l = c.loop-k in
-    join_last _ a.names.now a.spaces.now a.strands.now (omega arith) (omega arith) (omega arith) l.all l.k l.invariant c.loop-k-test.false
+    join_last _ a.names.now a.spaces.now a.strands.now (omega arith) (omega arith) (omega arith) l.levels l.k l.invariant c.loop-k-test.false

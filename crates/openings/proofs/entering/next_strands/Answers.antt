@@ -19,8 +19,8 @@ stay_all-requires c = let few = c.requires.1 (omega (arith, c.if-depth-eq0.false
 pub returns-then-joins : goal.returns-then-joins
 returns-then-joins c =
     let a = c.args in
-    at_same a.index.now a.scene.now (uri_of a.scene.now (stored_space a.own.now a.outer.now a.found)) (level_spaces a.levels.now) (level_strands a.levels.now) a.placing.class a.depth _ _ _ _ _
-    c.if-depth-eq0.false _ c.joins.ensures c.if-joins.true c.count_at-n.ensures (c.requires.1 (omega (arith, c.if-depth-eq0.false))) c.stay_all.ensures
+    at_same a.index.now a.scene.now (uri_of a.scene.now (stored_space a.own.now a.outer.now a.found)) (level_spaces a.levels.now) (level_strands a.levels.now) a.placing.class a.depth _ _ _ _
+    c.if-depth-eq0.false _ c.joins.ensures c.if-joins.true _ c.count_at-n.ensures (c.requires.1 (omega (arith, c.if-depth-eq0.false))) c.stay_all.ensures
 
 pub take_all-requires : goal.take_all-requires
 take_all-requires c = let few = c.requires.1 (omega (arith, c.if-depth-eq0.false)) in search (rules, few)
@@ -28,5 +28,5 @@ take_all-requires c = let few = c.requires.1 (omega (arith, c.if-depth-eq0.false
 pub returns : goal.returns
 returns c =
     let a = c.args in
-    at_new a.index.now a.scene.now (uri_of a.scene.now (stored_space a.own.now a.outer.now a.found)) (level_spaces a.levels.now) (level_strands a.levels.now) a.placing.class a.depth _ _ _ _ _
-    c.if-depth-eq0.false _ c.joins.ensures c.if-joins.false _ c.count_at-n.ensures c.take_all.ensures
+    at_new a.index.now a.scene.now (uri_of a.scene.now (stored_space a.own.now a.outer.now a.found)) (level_spaces a.levels.now) (level_strands a.levels.now) a.placing.class a.depth _ _ _ _
+    c.if-depth-eq0.false _ c.joins.ensures c.if-joins.false _ c.count_at-n.ensures _ c.take_all.ensures

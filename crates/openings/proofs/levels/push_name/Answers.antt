@@ -2,15 +2,8 @@
 use Prim.Native.Nat.{◌*◌}
 use native.Mathlib.Omega.{arith}
 use borrow.Author.Rules.{rules}
-use lib.ListN.{length-set}
 use Rattle.openings.proofs.Stores.{level_set}
 use Rattle.openings.proofs.levels.push_name.Goals as goal
-
-pub bounds-all-at-2 : goal.bounds-all-at-2
-bounds-all-at-2 c = simp length-set (omega arith)
-
-pub bounds-all-at-3 : goal.bounds-all-at-3
-bounds-all-at-3 c = simp length-set (omega arith)
 
 pub returns : goal.returns
 returns c =

@@ -1,18 +1,8 @@
 -- `openings::levels::push_space` meets its contract: four stores are one part overwritten.
 use Prim.Native.Nat.{◌+◌, ◌*◌}
 use native.Mathlib.Omega.{arith}
-use lib.ListN.{length-set}
 use Rattle.openings.proofs.Stores.{space_set}
 use Rattle.openings.proofs.levels.push_space.Goals as goal
-
-pub bounds-all-at-2 : goal.bounds-all-at-2
-bounds-all-at-2 c = simp length-set (omega arith)
-
-pub bounds-all-at-3 : goal.bounds-all-at-3
-bounds-all-at-3 c = simp length-set (omega arith)
-
-pub bounds-all-at-4 : goal.bounds-all-at-4
-bounds-all-at-4 c = simp length-set (omega arith)
 
 pub returns : goal.returns
 returns c =
@@ -20,4 +10,4 @@ returns c =
     let y = c.narrow-2 in
     let z = c.narrow-3 in
     let a = c.args in
-    space_set a.levels.now (24 * a.depth + 3) a.placing.class x.result y.result z.result a.placing.at a.placing.len a.count (omega arith) x.ensures y.ensures z.ensures (omega arith)
+    rw c.from.ensures (space_set a.levels.now (24 * a.depth + 3) a.placing.class x.result y.result z.result a.placing.at a.placing.len a.count (omega arith) x.ensures y.ensures z.ensures (omega arith))

@@ -9,8 +9,8 @@ use Rattle.openings.proofs.weighing.weigh.Goals.{then-here-ne0, else-here-ne0}
 pub returns-then-all-gt-UNITS : goal.returns-then-all-gt-UNITS
 returns-then-all-gt-UNITS c =
     let a = c.args in
-    weigh_heavy a.index.now (sorted_held a.attributes.now a.n) a.n a.m a.count a.units a.words.now _ _ _
-    c.load_all-load.ensures.0 c.new_units-here.ensures.0 _ c.only.ensures c.if-all-gt-UNITS.true
+    weigh_heavy a.index.now (sorted_held a.attributes.now a.n) a.n a.m a.count a.units a.words.now a.words.now _ _
+    c.load_all-load.ensures.0 c.new_units-here.ensures.0 c.if-all-gt-UNITS.true
 
 pub returns : goal.returns
 returns c =

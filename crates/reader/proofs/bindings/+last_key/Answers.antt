@@ -8,5 +8,5 @@ returns-then-left-eq0 t c = key_none _ _ _ c.if-left-eq0.true
 pub returns-then-known-left : goal.returns-then-known-left
 returns-then-known-left t c = key_here _ _ _ c.if-left-eq0.false c.if-known-left.true
 
-pub returns : goal.returns
-returns t c = key_before _ _ _ _ c.if-left-eq0.false c.if-known-left.false c.last_key.ensures
+pub returns-else-known-left : goal.returns-else-known-left
+returns-else-known-left t c = key_before _ _ _ _ c.if-left-eq0.false c.if-known-left.false c.last_key.ensures

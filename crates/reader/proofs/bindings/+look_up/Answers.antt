@@ -11,7 +11,7 @@ returns-then-is_prefix t c =
     let a = c.args in
     look_turn a.s.now a.bindings.now a.left a.prefix.now c.is_prefix.result _ c.if-left-eq0.false c.is_prefix.ensures (rw c.if-is_prefix.true refl)
 
-pub returns : goal.returns
-returns t c =
+pub returns-else-is_prefix : goal.returns-else-is_prefix
+returns-else-is_prefix t c =
     let a = c.args in
     look_turn a.s.now a.bindings.now a.left a.prefix.now c.is_prefix.result _ c.if-left-eq0.false c.is_prefix.ensures (rw c.if-is_prefix.false c.look_up.ensures)

@@ -1,16 +1,16 @@
--- `scopes::colon_end` meets its contract: what is left to look through gives the answer.
-use mathlib.Core.Path.{refl}
-use Rattle.reader.proofs.Colons.{hit, miss, none}
+-- `scopes::colon_end` meets its contract, by the first colon's place.
+use Rattle.std.proofs.Common.{◌≡◌, sym, ◌∙◌, rules, tests, position}
+use Rattle.std.proofs.lemmas.Iterator.{YieldsList-from_slice}
+use Rattle.std.proofs.lemmas.Iterator.Search.{position_from_yields_List}
+use Rattle.reader.proofs.Colons.{is_colon, colon_at, no_colon}
+use Rattle.reader.proofs.scopes.colon_end.Goals.{After-position}
 use Rattle.reader.proofs.scopes.colon_end.Goals as goal
 
-pub loop-i-init : goal.loop-i-init
-loop-i-init c = refl
+found : (c : After-position) → c.position.result ≡ position is_colon c.args.name.now
+found c = position_from_yields_List is_colon _ _ c.position.result c.position.ensures.ran (YieldsList-from_slice _ c.iter.ensures.rest) (λ x b q k. search (rules, tests))
 
-pub returns-then-name-i-eq58 : goal.returns-then-name-i-eq58
-returns-then-name-i-eq58 c = search hit
+pub returns-in-Some : goal.returns-in-Some
+returns-in-Some c = colon_at _ _ (sym c.in-Some.is ∙ found (goal.at.returns-in-Some c).After-position)
 
-pub loop-i-preserved : goal.loop-i-preserved
-loop-i-preserved c = search miss
-
-pub returns : goal.returns
-returns c = search none
+pub returns-in-None : goal.returns-in-None
+returns-in-None c = no_colon _ (sym c.in-None.is ∙ found (goal.at.returns-in-None c).After-position)

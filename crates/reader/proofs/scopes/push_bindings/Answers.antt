@@ -1,32 +1,23 @@
--- `scopes::push_bindings` meets its contract: after j turns the first j numbers are laid over the array.
-use mathlib.Core.Path.{◌≡◌, refl, sym, ap, ◌∙◌}
+-- `scopes::push_bindings` meets its contract, at each of its ends.
 use Prim.Native.Nat.{ℕ, ◌*◌}
+use mathlib.Core.Path.{◌≡◌, ◌∙◌}
 use native.Mathlib.Omega.{arith}
-use borrow.Author.Rules.{rules}
-use lib.ListN.{take}
-use Rattle.laws.specs.Over.{overwrite}
-use Rattle.laws.proofs.Over.{over_none}
-use Rattle.reader.proofs.Pushes.{many, full, laid, copied}
+use lib.ListN.{length, take}
+use lib.Seq.{length-take-le}
+use Rattle.reader.proofs.Pushes.{many, full, laid, put_over}
 use Rattle.reader.proofs.scopes.push_bindings.Goals as goal
+use Rattle.reader.proofs.scopes.push_bindings.Goals.{then-owned-gt-OWN-via-then-owned-gt-OWN, then-owned-gt-OWN-via-else-owned-gt-OWN+then-owned-bound}
 
 pub returns-then-owned-gt-OWN : goal.returns-then-owned-gt-OWN
-returns-then-owned-gt-OWN c = search many
-
-pub returns-then-owned-bound : goal.returns-then-owned-bound
-returns-then-owned-bound c = full _ _ _ _ c.if-owned-gt-OWN.false (omega arith)
-
-pub loop-j-init : goal.loop-j-init
-loop-j-init c = (search rules, refl, sym (over_none _ _))
-
-pub loop-j-preserved : goal.loop-j-preserved
-loop-j-preserved c =
-    let l = c.loop-j in
-    let a = c.args in
-    (search rules, search rules, copied a.bindings.now l.all a.own.now (4 * a.bound) l.j l.invariant.2 (omega arith) (omega arith))
+returns-then-owned-gt-OWN c =
+    elim c.then-owned-gt-OWN.branch [
+      | then-owned-gt-OWN-via-then-owned-gt-OWN w ↦ many _ _ _ _ w.if-owned-gt-OWN.true
+      | then-owned-gt-OWN-via-else-owned-gt-OWN+then-owned-bound w ↦ full _ _ _ _ w.if-owned-gt-OWN.false (omega (arith, w.if-owned-bound.true, w.if-owned-gt-OWN.false))
+    ]
 
 pub returns : goal.returns
 returns c =
-    let l = c.loop-j in
     let a = c.args in
-    let e : l.j ≡ 4 * a.owned = omega arith in
-    l.invariant.2 ∙ ap (λ (k : ℕ). overwrite a.bindings.now (4 * a.bound) (take k a.own.now)) e ∙ laid a.bindings.now a.bound a.own.now a.owned (omega arith) (omega arith)
+    let at : ℕ = 4 * a.bound in
+    let few : length (take (4 * a.owned) a.own.now) ≡ 4 * a.owned = length-take-le (4 * a.owned) a.own.now (omega arith) in
+    rw c.copy_from_slice.ensures.after (put_over a.bindings.now at _ (take (4 * a.owned) a.own.now) (few ∙ omega arith) ∙ laid a.bindings.now a.bound a.own.now a.owned (omega arith) (omega arith))

@@ -1,11 +1,8 @@
 -- `repeat` meets its contract: the place stays in the buffer.
 use mathlib.Core.Path.{◌≡◌}
-use Prim.Native.Nat.{◌-◌, ◌≤◌}
+use Prim.Native.Nat.{◌≤◌}
 use lib.ListN.{length}
 use Rattle.samples.proofs.scenes.repeat.Given as goal
 
-abbrev pub invariant-loop-k : goal.invariant-loop-k
-invariant-loop-k l = (l.to ≤ length l.initial.scene) × (length l.scene ≡ length l.initial.scene) × (l.k ≤ l.times)
-
-abbrev pub decreases-loop-k : goal.decreases-loop-k
-decreases-loop-k l = l.times - l.k
+abbrev pub invariant-loop : goal.invariant-loop
+invariant-loop l = (l.to ≤ length l.initial.scene) × (length l.scene ≡ length l.initial.scene)

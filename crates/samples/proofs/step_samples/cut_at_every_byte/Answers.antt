@@ -5,21 +5,13 @@ use Rattle.dispatcher.proofs.HandedBack.{step_room, step_one}
 use Rattle.samples.proofs.step_samples.cut_at_every_byte.Goals as goal
 
 pub overflow_add-events : goal.overflow_add-events
-overflow_add-events g c = omega (arith, step_one _ _ _ _ _ _ c.step-stepped.ensures, c.loop-left.invariant, c.loop-left-test.true)
+overflow_add-events g c = omega (arith, step_one _ _ _ _ _ _ c.step-stepped.ensures, c.loop.invariant, c.loop-test.true)
 
 pub overflow_add-records : goal.overflow_add-records
-overflow_add-records g c = omega (arith, step_room _ _ _ _ _ _ c.step-stepped.ensures, c.loop-left.invariant, c.loop-left-test.true)
+overflow_add-records g c = omega (arith, step_room _ _ _ _ _ _ c.step-stepped.ensures, c.loop.invariant, c.loop-test.true)
 
-pub loop-left-preserved-then-answer-ne0 : goal.loop-left-preserved-then-answer-ne0
-loop-left-preserved-then-answer-ne0 g c =
+pub loop-preserved : goal.loop-preserved
+loop-preserved g c =
     let e = c.step-stepped.ensures in
-    let l = c.loop-left.invariant in
-    let t = c.loop-left-test.true in
-    (search rules, search rules, search rules, search rules, omega (arith, step_one _ _ _ _ _ _ e, l, t), omega (arith, step_room _ _ _ _ _ _ e, l, t))
-
-pub loop-left-preserved : goal.loop-left-preserved
-loop-left-preserved g c =
-    let e = c.step-stepped.ensures in
-    let l = c.loop-left.invariant in
-    let t = c.loop-left-test.true in
-    (search rules, search rules, search rules, search rules, omega (arith, step_one _ _ _ _ _ _ e, l, t), omega (arith, step_room _ _ _ _ _ _ e, l, t))
+    let l = c.loop.invariant in
+    (search rules, search rules, omega (arith, step_one _ _ _ _ _ _ e, l), omega (arith, step_room _ _ _ _ _ _ e, l))

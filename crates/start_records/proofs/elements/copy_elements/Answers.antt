@@ -33,6 +33,7 @@ copy_element-used-requires c =
       room_here (32 * (a.n + 1)) l.k a.from l.used l.invariant.2 a.count (length l.out) t (omega (arith, p.3, l.invariant.1)),
       u.1 l.k t,
       λ j q. words_few c.lay_units.new.rows bodies j h (omega arith),
+      p.4,
     )
 
 pub loop-k-preserved : goal.loop-k-preserved

@@ -10,9 +10,6 @@ use Rattle.start_records.proofs.Copies.{laid_words, start_laid, rows_turn, rows_
 use borrow.Author.Rules.{rules}
 use Rattle.start_records.proofs.elements.lay_rows.Goals as goal
 
-pub bounds-all-1 : goal.bounds-all-1
-bounds-all-1 c = simp length-set (omega arith)
-
 pub loop-k-init : goal.loop-k-init
 loop-k-init c = (search rules, simp length-set (search rules), λ begun rows sections e. e)
 
@@ -20,7 +17,7 @@ pub loop-k-preserved : goal.loop-k-preserved
 loop-k-preserved c =
     let a = c.args in
     let l = c.loop-k in
-    (search rules, search rules, λ begun rows sections e. rows_turn begun (attributes_in a.attributes.now) sections rows l.all _ l.k (l.invariant.2 begun rows sections e) (c.lay_attribute.ensures sections))
+    (search rules, search rules, λ begun rows sections e. rows_turn begun (attributes_in a.attributes.now) sections rows l.rows _ l.k (l.invariant.2 begun rows sections e) (c.lay_attribute.ensures sections))
 
 pub returns : goal.returns
 returns c sections =

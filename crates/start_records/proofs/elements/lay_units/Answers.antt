@@ -11,7 +11,7 @@ pub loop-k-preserved : goal.loop-k-preserved
 loop-k-preserved c =
     let a = c.args in
     let l = c.loop-k in
-    (search rules, search rules, units_turn a.words.now a.rows.now l.all l.k _ _ l.invariant.2 (omega arith) c.target_of.ensures c.unit_word.ensures)
+    (search rules, search rules, units_turn a.words.now a.rows.now l.rows l.k _ _ l.invariant.2 (omega arith) c.target_of.ensures c.unit_word.ensures)
 
 pub returns : goal.returns
 returns c = let l = c.loop-k in (l.invariant.2.before, λ k h. l.invariant.2.units k (omega arith))

@@ -1,5 +1,4 @@
 -- `write_members` lays the rows of a section's attributes: those from the k-th on are left.
-use Prim.Native.Nat.{◌-◌}
 use mathlib.Core.Path.{◌≡◌}
 use mathlib.Core.List.{map}
 use lib.ListN.{length}
@@ -16,6 +15,3 @@ invariant-loop-k l =
     (length l.out ≡ length l.initial.out)
     × (laid_rows (laid l.out l.used) (kept_rows l.unit (sorted_in (attributes_in l.attributes) (sections_in l.attributes)) (λ (a : Sorted). eqb a.section l.j) l.n l.k)
     ≡ laid_rows (laid l.initial.out l.from) (map (row_for l.unit) (gather sorted_bodies (members (sorted_held l.attributes l.n) l.j))))
-
-abbrev pub decreases-loop-k : goal.decreases-loop-k
-decreases-loop-k l = l.n - l.k

@@ -38,3 +38,13 @@ returns c =
     let made = section_units a.index.now a.mode a.tag (all_sorted (attributes_in a.attributes.now) (sections_in a.attributes.now) a.n) in
     let h : a.m + 1 ≤ l.j = omega (arith, c.loop-j-test.false) in
     part_done (λ (k : ℕ). k) made (a.m + 1) l.j _ _ _ _ _ l.invariant.1 h
+
+pub returns-2 : goal.returns-2
+returns-2 c =
+    let a = c.args in
+    let l = c.loop-j in
+    let made = section_units a.index.now a.mode a.tag (all_sorted (attributes_in a.attributes.now) (sections_in a.attributes.now) a.n) in
+    let w = c.write_section-wrote in
+    let h : l.j < a.m + 1 = omega (arith, c.loop-j-test.true) in
+    let e : a.m + 1 ≤ l.j + 1 = omega arith in
+    part_done (λ (k : ℕ). k) made (a.m + 1) (l.j + 1) _ _ _ _ _ (part_on (λ (k : ℕ). k) made (a.m + 1) l.j _ _ _ _ _ l.invariant.1 h _ _ w.ensures.0 w.ensures.1) e

@@ -1,35 +1,38 @@
--- `dispatcher::decisions::decide` meets its contract: from what its callees ensure.
-use mathlib.Core.Path.{ap, ◌∙◌}
+-- `decisions::decide` meets its contract: from what its callees ensure.
+use mathlib.Core.Path.{refl, ap, ◌∙◌}
+use mathlib.Core.List.{[]}
 use native.Mathlib.Omega.{arith}
 use Rattle.strands.specs.Levels.{level_names, level_spaces, level_strands}
 use Rattle.attributes.specs.Attributes.{attributes_in}
 use Rattle.attributes.proofs.HeldParts.{laid_first}
+use Rattle.entries.proofs.Laying.{counted_few}
 use Rattle.starts.proofs.Sorting.{sections_few}
 use Rattle.starts.proofs.NoneForeign.{zeros_laid, zeros_plain}
 use Rattle.starts.proofs.DecideWays.{decided_23, decided_plain, decided_held}
 use Rattle.starts.proofs.decisions.decide.Goals as goal
 
-pub returns-then-count-gt-STRANDS : goal.returns-then-count-gt-STRANDS
-returns-then-count-gt-STRANDS c = λ table header ready beside classes met placed.
+pub returns-in_default : goal.returns-in_default
+returns-in_default c = λ table header ready beside classes met placed.
     let a = c.args in
     decided_23 table (level_names a.levels.now) header a.index.now a.scene.now a.attrs.now a.codes.now a.own.now a.outer.now a.known.now (level_spaces a.levels.now) (level_strands a.levels.now) a.started a.placing a.head
     (record { ready = ready; beside = beside; own_classes = classes; met = met; placed = placed })
-    _ _ _ _ _ _ _ _ c.next_strands-count.ensures c.if-count-gt-STRANDS.true c.only.ensures
+    _ _ _ _ [] [] _ c.in_default.ensures refl
 
 pub weigh-requires : goal.weigh-requires
 weigh-requires c =
     let a = c.args in
     let p = c.requires in
     let h = c.hold_plain-k.ensures in
-    (h.0, omega arith, c.if-count-gt-STRANDS.false, p.1, λ q. zeros_plain a.scene.now a.attrs.now a.started.tag.count _ _ _ _ _ h.1 (p.5 c.if-started.true))
+    (h.0, omega arith, counted_few _ _ c.in-Some.ensures.0, p.1, λ q. zeros_plain a.scene.now a.attrs.now a.started.tag.count _ _ _ _ _ h.1 (p.5 c.if-started.true))
 
 pub returns-then-started : goal.returns-then-started
 returns-then-started c = λ table header ready beside classes met placed.
     let a = c.args in
     let h = c.hold_plain-k.ensures in
-    decided_plain table (level_names a.levels.now) header a.index.now a.scene.now a.attrs.now a.codes.now a.own.now a.outer.now a.known.now (level_spaces a.levels.now) (level_strands a.levels.now) a.started a.placing a.head
+    rw c.ok_or.ensures.value
+    (decided_plain table (level_names a.levels.now) header a.index.now a.scene.now a.attrs.now a.codes.now a.own.now a.outer.now a.known.now (level_spaces a.levels.now) (level_strands a.levels.now) a.started a.placing a.head
     (record { ready = ready; beside = beside; own_classes = classes; met = met; placed = placed })
-    _ _ _ _ _ _ _ _ _ _ _ _ c.next_strands-count.ensures c.if-count-gt-STRANDS.false h.0 c.if-started.true h.1 c.weigh.ensures
+    _ _ _ _ _ _ _ _ _ _ _ _ c.in-Some.ensures h.0 c.if-started.true h.1 c.weigh.ensures)
 
 pub hold-n-requires : goal.hold-n-requires
 hold-n-requires c =
@@ -43,7 +46,7 @@ pub weigh-requires-2 : goal.weigh-requires-2
 weigh-requires-2 c =
     let few = c.hold-n.ensures.0 in
     let n = c.number_sections-m.ensures in
-    (few, sections_few _ _ _ _ _ _ _ few n.0, c.if-count-gt-STRANDS.false, c.requires.1, zeros_laid _ _ _ _ _ _ _ _ _ n.0 n.2)
+    (few, sections_few _ _ _ _ _ _ _ few n.0, counted_few _ _ c.in-Some.ensures.0, c.requires.1, zeros_laid _ _ _ _ _ _ _ _ _ n.0 n.2)
 
 pub returns : goal.returns
 returns c = λ table header ready beside classes met placed.
@@ -51,8 +54,9 @@ returns c = λ table header ready beside classes met placed.
     let h = c.hold-n.ensures in
     let v = c.number_sections-m.ensures in
     let held = c.hold-n.new.attributes in
-    decided_held table (level_names a.levels.now) header a.index.now a.scene.now a.attrs.now a.codes.now a.own.now a.outer.now a.known.now (level_spaces a.levels.now) (level_strands a.levels.now) a.started a.placing a.head
+    rw c.ok_or-2.ensures.value
+    (decided_held table (level_names a.levels.now) header a.index.now a.scene.now a.attrs.now a.codes.now a.own.now a.outer.now a.known.now (level_spaces a.levels.now) (level_strands a.levels.now) a.started a.placing a.head
     (record { ready = ready; beside = beside; own_classes = classes; met = met; placed = placed })
-    _ _ _ _ _ _ _ _ _ _ _ _ c.next_strands-count.ensures c.if-count-gt-STRANDS.false h.0 _ (attributes_in held) v.1
+    _ _ _ _ _ _ _ _ _ _ _ _ c.in-Some.ensures h.0 _ (attributes_in held) v.1
     (λ table header owned small outer-classes own_classes within. let q = h.1 table header owned small outer-classes own_classes within in (q.0, ap attributes_in q.1 ∙ laid_first _ a.attributes.now (omega (arith, h.0, q.0))))
-    (v.0, v.2) c.weigh-2.ensures
+    (v.0, v.2) c.weigh-2.ensures)

@@ -4,20 +4,20 @@ use Rattle.sessions.specs.Sessions.{session_of}
 use Rattle.starts.proofs.TagReadings.{attrs_read, answer_read, stopped_read}
 use Rattle.starts.proofs.readings.read_start.Goals as goal
 
-pub returns-in-Got : goal.returns-in-Got
-returns-in-Got c =
+pub returns-in-Ok : goal.returns-in-Ok
+returns-in-Ok c =
     let a = c.args in
     let r = c.start_tag in
-    let e = sym r.ensures.0 ∙ c.in-Got.is in
+    let e = sym r.ensures.0 ∙ c.in-Ok.is in
     λ table index levels spaces strands header w b.
     answer_read table a.scene.now (session_of a.head levels a.bindings.now spaces strands) a.at _ _ _ _ _ _ e
     (c.read_meaning.ensures table index levels spaces strands header w b e (attrs_read a.scene.now a.at _ a.attrs.now _ w.short e r.ensures.1))
 
-pub returns-in-Stopped : goal.returns-in-Stopped
-returns-in-Stopped c =
+pub returns-in-Err : goal.returns-in-Err
+returns-in-Err c =
     let a = c.args in
     let r = c.start_tag in
     λ table index levels spaces strands header w b.
     let z = session_of a.head levels a.bindings.now spaces strands in
-    answer_read table a.scene.now z a.at _ _ _ _ _ _ (sym r.ensures.0 ∙ c.in-Stopped.is)
-    (stopped_read table a.scene.now z a.at c.in-Stopped.x _ _ _ _ _ a.known.now c.number_of.ensures c.place_of.ensures b)
+    answer_read table a.scene.now z a.at _ _ _ _ _ _ (sym r.ensures.0 ∙ c.in-Err.is)
+    (stopped_read table a.scene.now z a.at c.in-Err.x c.stopped.result _ _ _ a.known.now c.stopped.ensures b)

@@ -15,9 +15,9 @@ returns-then-m-eq0 c =
       r.ensures.1,
     )
 
-pub returns : goal.returns
-returns c =
+pub returns-else-m-eq0 : goal.returns-else-m-eq0
+returns-else-m-eq0 c =
     let a = c.args in
-    let r = c.count_with-2 in
+    let r = c.count_with-else-m-eq0 in
     let l = all_sorted (attributes_in a.attributes.now) (sections_in a.attributes.now) a.n in
     ((λ schema. element_with a.index.now l a.w schema c.mode_of.result c.kept_count.result _ c.mode_of.ensures.0 c.kept_count.ensures.0 r.ensures.0), r.ensures.1)

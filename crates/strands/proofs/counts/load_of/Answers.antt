@@ -39,3 +39,18 @@ returns c =
     let i = l.invariant in
     let e : l.j ≡ c.args.m + 1 = omega (arith, i.1, c.loop-j-test.false) in
     (sections_end _ l.j l.units i.4 c.args.m e, sections_end _ l.j l.records i.5 c.args.m e, omega (arith, e, i.2), omega (arith, e, i.3))
+
+pub returns-2 : goal.returns-2
+returns-2 c =
+    let l = c.loop-j in
+    let s = c.section_class-class.ensures in
+    let u = c.units_for-v.ensures in
+    let m = c.members_of.ensures in
+    let i = l.invariant in
+    let f = load_few _ _ u.1 m.1 in
+    let e : l.j + 1 ≡ c.args.m + 1 = omega arith in (
+      sections_end _ (l.j + 1) _ (sections_next _ l.j l.units i.4 _ i.0 (counted_units _ _ _ l.j _ _ s u.0)) c.args.m e,
+      sections_end _ (l.j + 1) _ (sections_next _ l.j l.records i.5 _ i.0 (counted_records _ _ _ l.j _ _ s u.0 _ m.0)) c.args.m e,
+      omega (arith, i.0, i.2, u.1),
+      omega (arith, i.0, i.3, f),
+    )

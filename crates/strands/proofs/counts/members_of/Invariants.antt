@@ -1,5 +1,5 @@
 -- `strands::counts::members_of` meets its contract: the attributes of the section so far are counted.
-use Prim.Native.Nat.{◌-◌, ◌≤◌}
+use Prim.Native.Nat.{◌≤◌}
 use mathlib.Core.Path.{◌≡◌}
 use lib.ListN.{length}
 use Rattle.attributes.specs.Attributes.{sorted_held}
@@ -8,6 +8,3 @@ use Rattle.strands.proofs.counts.members_of.Given as goal
 
 abbrev pub invariant-loop-k : goal.invariant-loop-k
 invariant-loop-k l = (l.k ≤ l.n) × (l.m ≤ l.k) × (l.m ≡ length (members (sorted_held l.attributes l.k) l.j))
-
-abbrev pub decreases-loop-k : goal.decreases-loop-k
-decreases-loop-k l = l.n - l.k

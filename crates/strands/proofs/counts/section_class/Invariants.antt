@@ -8,6 +8,3 @@ use Rattle.strands.proofs.counts.section_class.Given as goal
 
 abbrev pub invariant-loop-k : goal.invariant-loop-k
 invariant-loop-k l = (l.k ≤ l.n) × (head_class (members (tabulate (sorted_in (attributes_in l.attributes) (sections_in l.attributes)) l.k (l.n - l.k)) l.j) ≡ head_class (members (sorted_held l.attributes l.n) l.j))
-
-abbrev pub decreases-loop-k : goal.decreases-loop-k
-decreases-loop-k l = l.n - l.k

@@ -1,7 +1,7 @@
 -- `write_event` lays the rows of the strands: those of the first j after j turns.
 use mathlib.Core.Path.{◌≡◌}
 use mathlib.Core.List.{map}
-use Prim.Native.Nat.{◌-◌, ◌≤◌}
+use Prim.Native.Nat.{◌≤◌}
 use lib.ListN.{length}
 use Rattle.laws.specs.Gather.{gather}
 use Rattle.records.specs.Rows.{laid, laid_rows, body_of}
@@ -15,6 +15,3 @@ invariant-loop-j l =
     (l.j ≤ l.n)
     × (length l.out ≡ length l.initial.out)
     × (laid l.out l.used ≡ laid_rows (laid l.initial.out 0) (map row_of (gather (event_records (body_of l.row) l.closes) (words_at (level_strands l.levels) l.level l.j))))
-
-abbrev pub decreases-loop-j : goal.decreases-loop-j
-decreases-loop-j l = l.n - l.j

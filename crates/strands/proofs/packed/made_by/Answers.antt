@@ -13,12 +13,12 @@ overflow_add-result-in-Unwrap-2 c = omega (arith, aim_few c.args.w)
 pub returns-in-Attach : goal.returns-in-Attach
 returns-in-Attach c =
     let a = c.args in
-    made_attach (strand_in a.w) a.rule _ c.in-Attach.is c.aim_of.ensures
+    made_attach (strand_in a.w) a.rule _ _ c.from-next.ensures c.in-Attach.is c.aim_of.ensures
 
 pub returns-in-Unwrap : goal.returns-in-Unwrap
 returns-in-Unwrap c =
     let a = c.args in
-    made_unwrap (strand_in a.w) a.rule _ c.in-Unwrap.is c.aim_of-in-Unwrap.ensures
+    made_unwrap (strand_in a.w) a.rule _ _ c.from-next.ensures c.in-Unwrap.is c.aim_of-in-Unwrap.ensures
 
 pub returns-in-Validate : goal.returns-in-Validate
-returns-in-Validate c = let a = c.args in made_validate (strand_in a.w) a.rule c.in-Validate.is
+returns-in-Validate c = let a = c.args in made_validate (strand_in a.w) a.rule _ c.from-next.ensures c.in-Validate.is

@@ -1,14 +1,8 @@
--- `strands::rules::keeps_class` meets its contract: where there are rules, at each turn the answer is that of those that are left.
-use mathlib.Core.Path.{◌≡◌}
-use Prim.Native.Nat.{◌-◌, ◌≤◌}
-use lib.ListN.{length}
-use Rattle.laws.specs.Lists.{any}
-use Rattle.strands.specs.Rules.{keeps_class}
-use Rattle.strands.proofs.Ruled.{left, At, attaches}
+-- `strands::rules::keeps_class` meets its contract: the answer is that of the rules that are left, and of whether there were some before them.
+use Rattle.std.proofs.Common.{◌≡◌}
+use Rattle.strands.specs.Rules.{keeps_class, rules_left}
+use Rattle.strands.proofs.Ruled.{kept_by}
 use Rattle.strands.proofs.rules.keeps_class.Given as goal
 
-abbrev pub invariant-loop-i : goal.invariant-loop-i
-invariant-loop-i l = (l.c.end ≤ 128) × (l.i ≤ l.c.end) × (length l.index ≡ 256) × At l.index l.c l.i × (any attaches (left l.index l.c l.i) ≡ keeps_class l.index l.mode l.class)
-
-abbrev pub decreases-loop-i : goal.decreases-loop-i
-decreases-loop-i l = l.c.end - l.i
+abbrev pub invariant-loop-rule : goal.invariant-loop-rule
+invariant-loop-rule l = kept_by l.mode l.none (rules_left l.rule-iterator) ≡ keeps_class l.index l.mode l.class

@@ -5,5 +5,5 @@ use Rattle.table.proofs.words.rule_at.Goals as goal
 pub returns-then-i-header : goal.returns-then-i-header
 returns-then-i-header c = search rule_inside
 
-pub returns : goal.returns
-returns c = search rule_outside
+pub returns-else-i-header : goal.returns-else-i-header
+returns-else-i-header c = search rule_outside

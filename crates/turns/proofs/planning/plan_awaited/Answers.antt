@@ -16,4 +16,4 @@ returns c = λ (table index own words schemas attributes bindings : List ℕ).
     let name = c.name_at-name in
     let part = c.part_in in
     let small = part_small s name.result part.result i.short (subst (SpanHeld s) (sym name.ensures) i.name) part.ensures in
-    (awaited_part (decode table) s (session_at a.head a.levels.now bindings) i.some_open c.requires.1 name.result part.result c.minus.result name.ensures part.ensures c.minus.ensures, i.some_open, small.0, small.1)
+    (awaited_part (decode table) s (session_at a.head a.levels.now bindings) i.some_open c.requires.1 name.result part.result c.saturating_sub.result name.ensures part.ensures c.saturating_sub.ensures, i.some_open, small.0, small.1)

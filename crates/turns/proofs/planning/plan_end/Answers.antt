@@ -3,6 +3,7 @@ use Prim.Native.Nat.{ℕ, ◌+◌}
 use mathlib.Core.Path.{sym, ap, subst, ◌∙◌}
 use mathlib.Core.List.{List}
 use native.Mathlib.Omega.{arith}
+use Rattle.std.specs.Prelude.{Err}
 use Rattle.table.specs.Table.{decode}
 use Rattle.reader.specs.declared.Span.{Span}
 use Rattle.reader.specs.Spans.{span}
@@ -39,19 +40,19 @@ plan_named-requires c =
     let a = c.args in
     let i = c.requires.0 in
     let r = c.end_tag in
-    let t = tag_inside a.scene.now (a.at + 2) _ r.result r.ensures c.in-Got.is in
+    let t = tag_inside a.scene.now (a.at + 2) _ r.result r.ensures c.in-Ok.is in
     (i, omega (arith, i.short, t.0), omega (arith, i.short, t.1))
 
-pub returns-in-Got : goal.returns-in-Got
-returns-in-Got c = λ (table index own words schemas attributes bindings : List ℕ).
+pub returns-in-Ok : goal.returns-in-Ok
+returns-in-Ok c = λ (table index own words schemas attributes bindings : List ℕ).
     let a = c.args in
     let r = c.end_tag in
-    end_planned table index a.scene.now (session_at a.head a.levels.now bindings) own words schemas attributes c.plan_named.result a.at r.result _ r.ensures c.in-Got.is (c.plan_named.ensures table index own words schemas attributes bindings)
+    end_planned table index a.scene.now (session_at a.head a.levels.now bindings) own words schemas attributes c.plan_named.result a.at r.result _ r.ensures c.in-Ok.is (c.plan_named.ensures table index own words schemas attributes bindings)
 
-pub returns-in-Stopped : goal.returns-in-Stopped
-returns-in-Stopped c = λ (table index own words schemas attributes bindings : List ℕ).
+pub returns-in-Err : goal.returns-in-Err
+returns-in-Err c = λ (table index own words schemas attributes bindings : List ℕ).
     let a = c.args in
     let s = a.scene.now in
     let z = session_at a.head a.levels.now bindings in
     let r = c.end_tag in
-    end_planned table index s z own words schemas attributes c.stopped.result a.at r.result _ r.ensures c.in-Stopped.is (stopped_planned table index s z own words schemas attributes c.stopped.result _ c.in-Stopped.x c.stopped.ensures (stopped_plan (decode table) s z c.requires.0.some_open a.at c.in-Stopped.x))
+    end_planned table index s z own words schemas attributes (Err c.stopped.result) a.at r.result _ r.ensures c.in-Err.is (stopped_planned table index s z own words schemas attributes c.stopped.result _ c.in-Err.x c.stopped.ensures (stopped_plan (decode table) s z c.requires.0.some_open a.at c.in-Err.x))

@@ -12,7 +12,7 @@ use Rattle.turns.proofs.planning.plan_named.Goals as goal
 pub returns-then-not-same_name : goal.returns-then-not-same_name
 returns-then-not-same_name c = λ (table index own words schemas attributes bindings : List ℕ).
     let a = c.args in
-    let whole = c.span_between-whole in
+    let whole = c.between-whole in
     let name = c.name_at in
     let same = c.same_name in
     (unlike_named (decode table) a.scene.now (session_at a.head a.levels.now bindings) c.requires.0.some_open a.at a.tag whole.result name.result same.result whole.ensures name.ensures same.ensures (ap not c.if-not-same_name.true), λ e. omega arith)
@@ -21,10 +21,10 @@ pub returns : goal.returns
 returns c = λ (table index own words schemas attributes bindings : List ℕ).
     let a = c.args in
     let i = c.requires.0 in
-    let whole = c.span_between-whole in
+    let whole = c.between-whole in
     let name = c.name_at in
     let same = c.same_name in
-    let part = c.span_between in
+    let part = c.between in
     let small = span_small a.tag.name.part a.tag.name.end part.result c.requires.2 c.requires.1 part.ensures in (
       alike_named (decode table) a.scene.now (session_at a.head a.levels.now bindings) i.some_open a.at a.tag whole.result name.result same.result whole.ensures name.ensures same.ensures (ap not c.if-not-same_name.false) part.result part.ensures,
       i.some_open,

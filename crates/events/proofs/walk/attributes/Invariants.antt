@@ -1,9 +1,0 @@
--- `attributes` meets its contract: each turn is at an attribute.
-use Prim.Native.Nat.{◌-◌, ◌≤◌}
-use Rattle.events.proofs.walk.attributes.Given as goal
-
-abbrev pub invariant-loop-k : goal.invariant-loop-k
-invariant-loop-k g l = l.k ≤ l.count
-
-abbrev pub decreases-loop-k : goal.decreases-loop-k
-decreases-loop-k g l = l.count - l.k

@@ -1,0 +1,37 @@
+-- `ends::write_turn` meets its contract: 25, or the event's records.
+use Prim.Native.Nat.{ℕ, ◌+◌, ◌*◌, ◌-◌}
+use mathlib.Core.Path.{refl, ap, ◌∙◌}
+use mathlib.Core.List.{List}
+use native.Mathlib.Omega.{arith}
+use lib.ListN.{get_or}
+use Rattle.records.specs.Rows.{body_of}
+use Rattle.strands.specs.Levels.{level_spaces, level_strands}
+use Rattle.sessions.specs.Sessions.{session_at}
+use Rattle.sessions.specs.Turns.{step_in, inner_records}
+use Rattle.sessions.specs.declared.Turn.{Turn}
+use Rattle.sessions.proofs.EventTurns.{event_full, event_room}
+use Rattle.turns.proofs.ends.write_turn.Goals as goal
+
+pub is_full-requires : goal.is_full-requires
+is_full-requires c = (omega arith, omega (arith, c.count_at-n.ensures, c.requires.2))
+
+pub returns-then-is_full : goal.returns-then-is_full
+returns-then-is_full c = λ (bindings : List ℕ).
+    let a = c.args in
+    let level = a.head.depth - 1 in
+    ap (λ (r : Turn). step_in r a.levels.now bindings a.out.now) c.stop.ensures
+    ∙ event_full (body_of a.row) a.closes (level_strands a.levels.now) level _ (get_or (level_spaces a.levels.now) (4 * level + 3) 0)
+    (inner_records (body_of a.row) a.closes a.head a.levels.now) refl c.count_at-n.ensures
+    a.at (session_at a.behind a.levels.now bindings) (session_at a.head a.levels.now bindings) a.out.now c.is_full.result c.is_full.ensures c.if-is_full.true
+
+pub write_event-used-requires : goal.write_event-used-requires
+write_event-used-requires c = (omega arith, omega (arith, c.count_at-n.ensures, c.requires.2))
+
+pub returns : goal.returns
+returns c = λ (bindings : List ℕ).
+    let a = c.args in
+    let level = a.head.depth - 1 in
+    event_room (body_of a.row) a.closes (level_strands a.levels.now) level _ (get_or (level_spaces a.levels.now) (4 * level + 3) 0)
+    (inner_records (body_of a.row) a.closes a.head a.levels.now) refl c.count_at-n.ensures
+    a.at (session_at a.behind a.levels.now bindings) (session_at a.head a.levels.now bindings) a.out.now c.is_full.result c.is_full.ensures
+    a.row _ _ c.if-is_full.false refl c.write_event-used.ensures
