@@ -48,8 +48,8 @@ fn dispatch_files(
 ) -> io::Result<()>
     requires { (length scene.old ≤ 65536) × (length out.old ≤ 65536) }
 {
-    let rules_read = read_file(rt, "rules.bin", table);
-    let scene_read = read_file(rt, "scene.xml", scene);
+    let rules_read = read_file(rt, b"rules.bin", table);
+    let scene_read = read_file(rt, b"scene.xml", scene);
     let (Some(rules), Some(scene)) = (rules_read, scene_read) else {
         return Ok(());
     };

@@ -10,7 +10,7 @@ use std::rt::Files;
 
 // What the reader sees of the scene.
 fn show(rt: &(impl Files + Print + Eprint), buffer: &mut [u8]) -> io::Result<()> {
-    match read_file(rt, "scene.xml", buffer) {
+    match read_file(rt, b"scene.xml", buffer) {
         Some(scene) => walk::print_events(rt, scene),
         None => Ok(()),
     }

@@ -60,18 +60,31 @@ fn load<'a>(rt: &impl Files, name: &str, buffer: &'a mut [u8]) -> Result<&'a [u8
     Ok(&buffer[..n])
 }
 
-// The file from the buffer's first byte on; where it cannot be read whole, a message names it.
-pub fn read_file<'a>(
-    rt: &(impl Files + Eprint),
-    name: &str,
-    buffer: &'a mut [u8],
-) -> Option<&'a [u8]>
+// The file of this name; where it cannot be read whole, a message names it.
+fn read_named<'a>(rt: &(impl Files + Eprint), name: &str, buffer: &'a mut [u8]) -> Option<&'a [u8]>
     ensures { IfSome result (λ bytes. Within bytes buffer.entry) }
 {
     match load(rt, name, buffer) {
         Ok(bytes) => Some(bytes),
         Err(e) => {
             let _ = eprintln!(rt; "{name}: {e}");
+            None
+        }
+    }
+}
+
+// The file from the buffer's first byte on. One that the buffer cannot hold is refused; so is one whose name is not UTF-8, which std cannot open.
+pub fn read_file<'a>(
+    rt: &(impl Files + Eprint),
+    name: &[u8],
+    buffer: &'a mut [u8],
+) -> Option<&'a [u8]>
+    ensures { IfSome result (λ bytes. Within bytes buffer.entry) }
+{
+    match str::from_utf8(name) {
+        Ok(name) => read_named(rt, name, buffer),
+        Err(_) => {
+            let _ = eprintln!(rt; "a file's name is not UTF-8");
             None
         }
     }

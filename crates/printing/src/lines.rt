@@ -5,8 +5,9 @@ use std::io;
 use table::Answer;
 
 // Words on a line of their own.
-pub fn print_heading(rt: &impl Print, words: &str) -> io::Result<()> {
-    println!(rt; "{words}")
+pub fn print_heading(rt: &impl Print, words: &[u8]) -> io::Result<()> {
+    rt.write_all(words)?;
+    rt.write_all(b"\n")
 }
 
 // A record's seven fields on a line.

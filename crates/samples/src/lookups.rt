@@ -46,10 +46,10 @@ pub fn look_ups(rt: &impl Print) -> io::Result<()> {
     // urn:a is class 1, urn:bc class 2; the rule is that of T.
     let table = b"\x02\x02\x01\x01\x00\x06\x00\x08\x05urn:a\x06urn:bc";
     let scene = b"<r xmlns=\"urn:a\"><x xmlns=\"q:r\"/></r>";
-    print_heading(rt, "URIs")?;
+    print_heading(rt, b"URIs")?;
     by_class(rt, table, scene)?;
     by_span(rt, table, scene)?;
-    print_heading(rt, "URIs, with a table that is one byte short")?;
+    print_heading(rt, b"URIs, with a table that is one byte short")?;
     let short = b"\x02\x02\x01\x01\x00\x06\x00\x08\x05urn:a\x06urn:b";
     look_up(rt, short, scene, 1, 0, 0)?;
     look_up(rt, short, scene, 255, 27, 3)

@@ -21,7 +21,7 @@ fn print_run(
     scene: &[u8],
     out: &mut [u8],
 ) -> io::Result<()> {
-    print_heading(rt, heading)?;
+    print_heading(rt, heading.as_bytes())?;
     let answer = run(table, scene, out);
     print_records(rt, out, answer.records)?;
     print_answer(rt, answer)
@@ -59,7 +59,7 @@ fn whole_and_cut(rt: &impl Print, table: &[u8], scene: &[u8], out: &mut [u8]) ->
     requires { (length scene.now ≤ 65536) × (length out.old ≤ 65536) }
 {
     print_run(rt, "E", table, scene, out)?;
-    print_heading(rt, "E cut at every byte")?;
+    print_heading(rt, b"E cut at every byte")?;
     cut_at_every_byte(rt, table, scene, out)
 }
 
@@ -74,9 +74,9 @@ fn runs(rt: &impl Print, t: &[u8], t2: &[u8], scene: &mut [u8], out: &mut [u8]) 
 fn starts(rt: &impl Print, table: &[u8], scene: &[u8]) -> io::Result<()> {
     let mut small = [0u8; 31];
     let mut enough = [0u8; 32];
-    print_heading(rt, "31 bytes")?;
+    print_heading(rt, b"31 bytes")?;
     first_step(rt, table, scene, &mut small)?;
-    print_heading(rt, "32 bytes")?;
+    print_heading(rt, b"32 bytes")?;
     first_step(rt, table, scene, &mut enough)
 }
 
