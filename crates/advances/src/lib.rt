@@ -10,14 +10,13 @@ ghost use Rattle.sessions.specs.Coherence.{coherent};
 ghost use Rattle.sessions.specs.Stepping.{answered, advance_of};
 ghost use Rattle.sessions.specs.Turns.{LoopReady, advanced_answer, advanced_in};
 
-use attributes::HELD;
 use attributes::held::put_classes;
 use index::load;
 use judging::judge;
 use reader::Scope;
 use reader::bindings::put_keys;
 use sessions::checks::coherent;
-use sessions::{Advanced, BINDINGS, Head, LONGEST, STRANDS};
+use sessions::{Advanced, BINDINGS, Head, LONGEST, Scratch};
 use steps::judged_step;
 use strands::LEVELS;
 use table::words::header_of;
@@ -41,12 +40,7 @@ fn judged_steps(
         ≡ advance_of standard most table.now scene.now z out.old }
     ensures levels_unchanged { level_free levels.new ≡ level_free levels.old }
 {
-    let mut attrs: [usize; 80] = [0; 80];
-    let mut own: [u32; 64] = [0; 64];
-    let mut attributes: [u32; HELD] = [0; HELD];
-    let mut words: [u32; STRANDS] = [0; STRANDS];
-    let mut schemas: [u32; STRANDS] = [0; STRANDS];
-    let mut rows: [u64; 82] = [0; 82];
+    let mut scratch = Scratch::new();
     let mut head = from;
     let mut used = 0;
     let mut records = 0;
@@ -59,12 +53,7 @@ fn judged_steps(
             levels,
             bindings,
             known,
-            &mut attrs,
-            &mut own,
-            &mut attributes,
-            &mut words,
-            &mut schemas,
-            &mut rows,
+            &mut scratch,
             &mut out[used..],
         );
         let number = turn.number;

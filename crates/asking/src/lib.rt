@@ -13,7 +13,6 @@ ghost use Rattle.equality.specs.Checks.{within_arrays};
 ghost use Rattle.sessions.specs.Asking.{holds_same, ask_answer, step_where};
 
 use advances::{advance_in, none_taken};
-use attributes::HELD;
 use attributes::held::put_classes;
 use equality::same_arrays;
 use index::load;
@@ -21,7 +20,7 @@ use judging::judge;
 use reader::Scope;
 use reader::bindings::put_keys;
 use sessions::checks::coherent;
-use sessions::{Advanced, BINDINGS, Head, LONGEST, STRANDS, Turn};
+use sessions::{Advanced, BINDINGS, Head, LONGEST, Scratch, Turn};
 use steps::weighed_step;
 use strands::LEVELS;
 use table::words::header_of;
@@ -44,11 +43,7 @@ pub fn asked_step(
     let opened: &[u32] = bindings;
     put_keys(scene, opened, head.bound, 0, &mut known);
     put_classes(table, header, scene, opened, head.bound, 0, &mut known);
-    let mut attrs: [usize; 80] = [0; 80];
-    let mut own: [u32; 64] = [0; 64];
-    let mut attributes: [u32; HELD] = [0; HELD];
-    let mut words: [u32; STRANDS] = [0; STRANDS];
-    let mut schemas: [u32; STRANDS] = [0; STRANDS];
+    let mut scratch = Scratch::new();
     weighed_step(
         table,
         &index,
@@ -57,11 +52,7 @@ pub fn asked_step(
         levels,
         bindings,
         &mut known,
-        &mut attrs,
-        &mut own,
-        &mut attributes,
-        &mut words,
-        &mut schemas,
+        &mut scratch,
     )
 }
 

@@ -5,9 +5,8 @@ ghost use Rattle.table.specs.Index.{index_of};
 ghost use Rattle.table.specs.Judge.{Accepted};
 ghost use Rattle.forecast.specs.Forecasts.{figures_of};
 
-use attributes::HELD;
 use reader::Scope;
-use sessions::{BINDINGS, Head, STRANDS};
+use sessions::{BINDINGS, Head, Scratch};
 use steps::weighed_step;
 use strands::LEVELS;
 use strands::levels::count_at;
@@ -31,11 +30,7 @@ pub fn figures_of(table: &[u8], index: &[u32; 256], scene: &[u8]) -> Forecast
     let mut levels: [u32; LEVELS] = [0; LEVELS];
     let mut bindings: [u32; 4 * BINDINGS] = [0; 4 * BINDINGS];
     let mut known: [u64; 2 * Scope::KNOWN] = [0; 2 * Scope::KNOWN];
-    let mut attrs: [usize; 80] = [0; 80];
-    let mut own: [u32; 64] = [0; 64];
-    let mut attributes: [u32; HELD] = [0; HELD];
-    let mut words: [u32; STRANDS] = [0; STRANDS];
-    let mut schemas: [u32; STRANDS] = [0; STRANDS];
+    let mut scratch = Scratch::new();
     let mut head = Head::fresh();
     let mut records = 0;
     let mut strands = 0;
@@ -49,11 +44,7 @@ pub fn figures_of(table: &[u8], index: &[u32; 256], scene: &[u8]) -> Forecast
             &mut levels,
             &mut bindings,
             &mut known,
-            &mut attrs,
-            &mut own,
-            &mut attributes,
-            &mut words,
-            &mut schemas,
+            &mut scratch,
         );
         let number = turn.number;
         if number != 0 {

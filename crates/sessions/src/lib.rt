@@ -3,11 +3,11 @@
 
 pub mod checks;
 
-ghost use Rattle.std.specs.Prelude.{◌≡◌};
+ghost use Rattle.std.specs.Prelude.{◌≡◌, replicate};
 ghost use Rattle.sessions.specs.Sessions.{fresh_of, head_of};
 ghost use Rattle.sessions.specs.Turns.{refusal_of};
 
-use attributes::Placing;
+use attributes::{HELD, Placing};
 use lexer::stops::{number_of, place_of};
 use lexer::{Stop, Tag};
 use openings::Decided;
@@ -99,6 +99,41 @@ pub enum Planned {
     },
     // The scene's end.
     Finished,
+}
+
+// The arrays that a step works in, overwritten by each: a tag's attributes, their codes, its declarations, the attributes of its records, the strands, their schemas, the rows of records.
+#[derive(Drop)]
+pub struct Scratch {
+    pub attrs: [usize; 80],
+    pub codes: [usize; 16],
+    pub own: [u32; 64],
+    pub attributes: [u32; HELD],
+    pub words: [u32; STRANDS],
+    pub schemas: [u32; STRANDS],
+    pub rows: [u64; 82],
+}
+
+impl Scratch {
+    // All zeros; no step rests on that.
+    pub fn new() -> Scratch
+        ensures attrs { result.attrs ≡ replicate 80 0 }
+        ensures codes { result.codes ≡ replicate 16 0 }
+        ensures own { result.own ≡ replicate 64 0 }
+        ensures attributes { result.attributes ≡ replicate 144 0 }
+        ensures words { result.words ≡ replicate 16 0 }
+        ensures schemas { result.schemas ≡ replicate 16 0 }
+        ensures rows { result.rows ≡ replicate 82 0 }
+    {
+        Scratch {
+            attrs: [0; 80],
+            codes: [0; 16],
+            own: [0; 64],
+            attributes: [0; HELD],
+            words: [0; STRANDS],
+            schemas: [0; STRANDS],
+            rows: [0; 82],
+        }
+    }
 }
 
 impl Refusal {

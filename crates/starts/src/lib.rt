@@ -4,7 +4,7 @@
 mod decisions;
 mod readings;
 
-ghost use Rattle.std.specs.Prelude.{◌+◌, ◌≤◌, length};
+ghost use Rattle.std.specs.Prelude.{◌≡◌, ◌+◌, ◌≤◌, length};
 ghost use Rattle.table.specs.Table.{decode};
 ghost use Rattle.lexer.specs.Attrs.{attrs_in};
 ghost use Rattle.lexer.specs.Tags.{tag_at};
@@ -17,10 +17,9 @@ ghost use Rattle.sessions.specs.Turns.{LoopReady, Beside, Met, PlannedAs, start_
 
 use crate::decisions::decide;
 use crate::readings::read_start;
-use attributes::HELD;
 use attributes::held::{put_classes, space_of};
 use reader::Scope;
-use sessions::{BINDINGS, DEPTH, Head, Planned, Refusal, STRANDS, Started};
+use sessions::{BINDINGS, DEPTH, Head, Planned, Refusal, Scratch, Started};
 use strands::LEVELS;
 use table::words::header_of;
 
@@ -34,22 +33,18 @@ fn plan_element(
     levels: &[u32; LEVELS],
     bindings: &[u32; 4 * BINDINGS],
     known: &mut [u64; 2 * Scope::KNOWN],
-    attrs: &[usize; 80],
-    codes: &[usize; 16],
-    own: &[u32; 64],
-    attributes: &mut [u32; HELD],
-    words: &mut [u32; STRANDS],
-    schemas: &mut [u32; STRANDS],
+    scratch: &mut Scratch,
 ) -> Result<Planned, Refusal>
-    requires { LoopReady table.now index.now scene.now known.old (session_at head levels.now bindings.now) × Met scene.now bindings.now own.now attrs.now codes.now known.old head.bound started }
-    ensures { let s = scene.now in
+    requires { LoopReady table.now index.now scene.now known.old (session_at head levels.now bindings.now) × Met scene.now bindings.now scratch.old.own scratch.old.attrs scratch.old.codes known.old head.bound started }
+    ensures planned { let s = scene.now in
         let z = session_at head levels.now bindings.now in
-        let e = start_of s bindings.now own.now attrs.now codes.now started.at started.tag started.found in
-        let ds = declarations_of s (attrs_in attrs.now started.tag.count) in
+        let e = start_of s bindings.now scratch.old.own scratch.old.attrs scratch.old.codes started.at started.tag started.found in
+        let ds = declarations_of s (attrs_in scratch.old.attrs started.tag.count) in
         let p = start_plan (decode table.now) s z e ds started.tag.next in
-        PlannedAs table.now index.now s z own.now words.new schemas.new attributes.new result p
+        PlannedAs table.now index.now s z scratch.old.own scratch.new.words scratch.new.schemas scratch.new.attributes result p
         × Beside table.now s known.new z
         × Beside table.now s known.new (session_by p z) }
+    ensures own_unchanged { scratch.new.own ≡ scratch.old.own }
 {
     let at = started.at;
     let owned = started.owned;
@@ -70,17 +65,16 @@ fn plan_element(
             table,
             header_of(table),
             scene,
-            own,
+            &scratch.own,
             owned,
             head.bound,
             known,
         );
     }
     let found = started.found;
-    let placing = space_of(own, bindings, head.bound, known, found);
+    let placing = space_of(&scratch.own, bindings, head.bound, known, found);
     let decided = decide(
-        index, scene, started, placing, head, attrs, codes, own, bindings, known, levels, words,
-        schemas, attributes,
+        index, scene, started, placing, head, bindings, known, levels, scratch,
     )?;
     Ok(Planned::Start {
         started,
@@ -99,24 +93,18 @@ pub fn plan_start(
     levels: &[u32; LEVELS],
     bindings: &[u32; 4 * BINDINGS],
     known: &mut [u64; 2 * Scope::KNOWN],
-    attrs: &mut [usize; 80],
-    own: &mut [u32; 64],
-    attributes: &mut [u32; HELD],
-    words: &mut [u32; STRANDS],
-    schemas: &mut [u32; STRANDS],
+    scratch: &mut Scratch,
 ) -> Result<Planned, Refusal>
     requires { LoopReady table.now index.now scene.now known.old (session_at head levels.now bindings.now) × (at + 1 ≤ length scene.now) }
     ensures { let s = scene.now in
         let z = session_at head levels.now bindings.now in
         let p = plan_by (decode table.now) s z (start_read s at (opens_of z.scope) (tag_at s (at + 1)) (tag_at s (at + 1)).answer) in
-        PlannedAs table.now index.now s z own.new words.new schemas.new attributes.new result p
+        PlannedAs table.now index.now s z scratch.new.own scratch.new.words scratch.new.schemas scratch.new.attributes result p
         × Beside table.now s known.new z
         × Beside table.now s known.new (session_by p z) }
 {
-    let mut codes: [usize; 16] = [0; 16];
-    let started = read_start(scene, at, head, bindings, known, attrs, own, &mut codes)?;
+    let started = read_start(scene, at, head, bindings, known, scratch)?;
     plan_element(
-        table, index, scene, started, head, levels, bindings, known, attrs, &codes, own,
-        attributes, words, schemas,
+        table, index, scene, started, head, levels, bindings, known, scratch,
     )
 }

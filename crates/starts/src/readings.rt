@@ -11,7 +11,7 @@ use lexer::Tag;
 use namespaces::meaning;
 use reader::Scope;
 use reader::kinds::all_plain;
-use sessions::{BINDINGS, Head, Refusal, Started};
+use sessions::{BINDINGS, Head, Refusal, Scratch, Started};
 use tags::start_tag;
 
 // What a tag that was read means: 5, 6, or a start.
@@ -22,9 +22,7 @@ fn read_meaning(
     head: Head,
     bindings: &[u32; 4 * BINDINGS],
     known: &mut [u64; 2 * Scope::KNOWN],
-    attrs: &[usize; 80],
-    own: &mut [u32; 64],
-    codes: &mut [usize; 16],
+    scratch: &mut Scratch,
 ) -> Result<Started, Refusal>
     requires { (at + 1 ≤ length scene.now) × (head.bound ≤ 64) × KeysAt scene.now bindings.now head.bound 0 known.old }
     ensures { (table index levels spaces strands : List ℕ) (header : Header) → (
@@ -33,14 +31,23 @@ fn read_meaning(
         TurnReady table header index s z
         → Beside table s known.old z
         → (tag_at s (at + 1)).answer ≡ Ok tag
-        → attrs_in attrs.now tag.count ≡ (tag_at s (at + 1)).attrs
-        → ReadAs table s z at (Ok tag) own.new attrs.now codes.new known.new result
+        → attrs_in scratch.old.attrs tag.count ≡ (tag_at s (at + 1)).attrs
+        → ReadAs table s z at (Ok tag) scratch.new.own scratch.new.attrs scratch.new.codes known.new result
         ) }
 {
-    let plain = all_plain(scene, attrs, tag.count);
+    let plain = all_plain(scene, &scratch.attrs, tag.count);
     let name = tag.name;
     match meaning(
-        scene, name, attrs, tag.count, plain, own, bindings, head.bound, known, codes,
+        scene,
+        name,
+        &scratch.attrs,
+        tag.count,
+        plain,
+        &mut scratch.own,
+        bindings,
+        head.bound,
+        known,
+        &mut scratch.codes,
     ) {
         Ok(element) => Ok(Started {
             at,
@@ -63,9 +70,7 @@ pub fn read_start(
     head: Head,
     bindings: &[u32; 4 * BINDINGS],
     known: &mut [u64; 2 * Scope::KNOWN],
-    attrs: &mut [usize; 80],
-    own: &mut [u32; 64],
-    codes: &mut [usize; 16],
+    scratch: &mut Scratch,
 ) -> Result<Started, Refusal>
     requires { (at + 1 ≤ length scene.now) × (head.bound ≤ 64) × KeysAt scene.now bindings.now head.bound 0 known.old }
     ensures { (table index levels spaces strands : List ℕ) (header : Header) → (
@@ -73,11 +78,11 @@ pub fn read_start(
         let z = session_of head levels bindings.now spaces strands in
         TurnReady table header index s z
         → Beside table s known.old z
-        → ReadAs table s z at (tag_at s (at + 1)).answer own.new attrs.new codes.new known.new result
+        → ReadAs table s z at (tag_at s (at + 1)).answer scratch.new.own scratch.new.attrs scratch.new.codes known.new result
         ) }
 {
-    match start_tag(scene, at + 1, attrs) {
-        Ok(tag) => read_meaning(scene, at, tag, head, bindings, known, attrs, own, codes),
+    match start_tag(scene, at + 1, &mut scratch.attrs) {
+        Ok(tag) => read_meaning(scene, at, tag, head, bindings, known, scratch),
         Err(x) => Err(Refusal::stopped(scene, x)),
     }
 }

@@ -8,11 +8,10 @@ ghost use Rattle.sessions.specs.Sessions.{session_at};
 ghost use Rattle.sessions.specs.Stepping.{plan_of, planned};
 ghost use Rattle.sessions.specs.Turns.{LoopReady, Beside, PlannedAs, step_in, session_by, weighed};
 
-use attributes::HELD;
 use lexer::Begin;
 use misc::begins::begin_at;
 use reader::Scope;
-use sessions::{BINDINGS, Head, Planned, Refusal, STRANDS, Turn};
+use sessions::{BINDINGS, Head, Planned, Refusal, Scratch, Turn};
 use starts::plan_start;
 use strands::LEVELS;
 use turns::ends::{end_event, text_event, weigh_end, weigh_text};
@@ -29,17 +28,13 @@ fn plan_event(
     levels: &[u32; LEVELS],
     bindings: &[u32; 4 * BINDINGS],
     known: &mut [u64; 2 * Scope::KNOWN],
-    attrs: &mut [usize; 80],
-    own: &mut [u32; 64],
-    attributes: &mut [u32; HELD],
-    words: &mut [u32; STRANDS],
-    schemas: &mut [u32; STRANDS],
+    scratch: &mut Scratch,
 ) -> Result<Planned, Refusal>
     requires { LoopReady table.now index.now scene.now known.old (session_at head levels.now bindings.now) }
     ensures { let s = scene.now in
         let z = session_at head levels.now bindings.now in
         let p = plan_of (decode table.now) s z in
-        PlannedAs table.now index.now s z own.new words.new schemas.new attributes.new result p
+        PlannedAs table.now index.now s z scratch.new.own scratch.new.words scratch.new.schemas scratch.new.attributes result p
         × Beside table.now s known.new z
         × Beside table.now s known.new (session_by p z) }
 {
@@ -48,8 +43,7 @@ fn plan_event(
     }
     match begin_at(scene, head.place, head.depth != 0, head.closed) {
         Ok(Begin::Start(at)) => plan_start(
-            table, index, scene, at, head, levels, bindings, known, attrs, own, attributes, words,
-            schemas,
+            table, index, scene, at, head, levels, bindings, known, scratch,
         ),
         Ok(Begin::End(at)) => plan_end(scene, at, head, levels),
         Ok(Begin::Text(at)) => plan_text(scene, at),
@@ -67,12 +61,7 @@ pub fn judged_step(
     levels: &mut [u32; LEVELS],
     bindings: &mut [u32; 4 * BINDINGS],
     known: &mut [u64; 2 * Scope::KNOWN],
-    attrs: &mut [usize; 80],
-    own: &mut [u32; 64],
-    attributes: &mut [u32; HELD],
-    words: &mut [u32; STRANDS],
-    schemas: &mut [u32; STRANDS],
-    rows: &mut [u64; 82],
+    scratch: &mut Scratch,
     out: &mut [u8],
 ) -> Turn
     requires { LoopReady table.now index.now scene.now known.old (session_at head levels.old bindings.old) }
@@ -81,9 +70,7 @@ pub fn judged_step(
         × Beside table.now scene.now known.new (session_at result.head levels.new bindings.new) }
     ensures levels_unchanged { level_free levels.new ≡ level_free levels.old }
 {
-    match plan_event(
-        table, index, scene, head, levels, bindings, known, attrs, own, attributes, words, schemas,
-    ) {
+    match plan_event(table, index, scene, head, levels, bindings, known, scratch) {
         Ok(
             Planned::Start {
                 started,
@@ -91,8 +78,7 @@ pub fn judged_step(
                 decided,
             },
         ) => open_level(
-            index, started, placing, decided, own, words, schemas, attributes, head, levels,
-            bindings, rows, out,
+            index, started, placing, decided, scratch, head, levels, bindings, out,
         ),
         Ok(Planned::Text { at, end }) => text_event(at, end, head, levels, out),
         Ok(Planned::End { part, at, place }) => end_event(part, at, place, head, levels, out),
@@ -111,29 +97,21 @@ pub fn weighed_step(
     levels: &mut [u32; LEVELS],
     bindings: &mut [u32; 4 * BINDINGS],
     known: &mut [u64; 2 * Scope::KNOWN],
-    attrs: &mut [usize; 80],
-    own: &mut [u32; 64],
-    attributes: &mut [u32; HELD],
-    words: &mut [u32; STRANDS],
-    schemas: &mut [u32; STRANDS],
+    scratch: &mut Scratch,
 ) -> Turn
     requires { LoopReady table.now index.now scene.now known.old (session_at head levels.old bindings.old) }
     ensures { let z = session_at head levels.old bindings.old in
         (step_in result levels.new bindings.new [] ≡ weighed (plan_of (decode table.now) scene.now z) z)
         × Beside table.now scene.now known.new (session_at result.head levels.new bindings.new) }
 {
-    match plan_event(
-        table, index, scene, head, levels, bindings, known, attrs, own, attributes, words, schemas,
-    ) {
+    match plan_event(table, index, scene, head, levels, bindings, known, scratch) {
         Ok(
             Planned::Start {
                 started,
                 placing,
                 decided,
             },
-        ) => lay_level(
-            started, placing, decided, own, words, head, levels, bindings,
-        ),
+        ) => lay_level(started, placing, decided, scratch, head, levels, bindings),
         Ok(Planned::Text { end, .. }) => weigh_text(end, head, levels),
         Ok(Planned::End { place, .. }) => weigh_end(place, head, levels),
         Ok(Planned::Awaited { .. }) => weigh_end(head.place, head, levels),

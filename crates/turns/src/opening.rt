@@ -10,11 +10,11 @@ ghost use Rattle.openings.specs.Openings.{Openable};
 ghost use Rattle.sessions.specs.Turns.{opened_head, TurnReady, StartAs, Roomy, step_in, weighed};
 
 use crate::stop;
-use attributes::{HELD, Placing};
+use attributes::Placing;
 use openings::Decided;
 use openings::levels::push_start;
 use openings::writing::{begun_of, write_start};
-use sessions::{BINDINGS, Head, STRANDS, Started, Turn};
+use sessions::{BINDINGS, Head, Scratch, Started, Turn};
 use strands::LEVELS;
 
 // The session's numbers behind a start.
@@ -37,8 +37,7 @@ pub fn lay_level(
     started: Started,
     placing: Placing,
     decided: Decided,
-    own: &[u32; 64],
-    words: &[u32; STRANDS],
+    scratch: &Scratch,
     head: Head,
     levels: &mut [u32; LEVELS],
     bindings: &mut [u32; 4 * BINDINGS],
@@ -47,7 +46,7 @@ pub fn lay_level(
     ensures bindings_after { (table index s schemas attributes : List ℕ) (p : Plan) → (
         let z = session_at head levels.old bindings.old in
         TurnReady table (header_of table) index s z
-        → StartAs table index s z own.now words.now schemas attributes started placing decided p
+        → StartAs table index s z scratch.now.own scratch.now.words schemas attributes started placing decided p
         → step_in result levels.new bindings.new [] ≡ weighed p z
         ) }
     ensures levels_unchanged { level_free levels.new ≡ level_free levels.old }
@@ -57,9 +56,9 @@ pub fn lay_level(
     push_start(
         tag,
         placing,
-        own,
+        &scratch.own,
         owned,
-        words,
+        &scratch.words,
         decided.strands,
         head.depth,
         head.bound,
@@ -80,21 +79,17 @@ pub fn open_level(
     started: Started,
     placing: Placing,
     decided: Decided,
-    own: &[u32; 64],
-    words: &[u32; STRANDS],
-    schemas: &[u32; STRANDS],
-    attributes: &[u32; HELD],
+    scratch: &mut Scratch,
     head: Head,
     levels: &mut [u32; LEVELS],
     bindings: &mut [u32; 4 * BINDINGS],
-    rows: &mut [u64; 82],
     out: &mut [u8],
 ) -> Turn
-    requires { Roomy head started.owned × Openable index.now (attributes_in attributes.now) (sections_in attributes.now) words.now schemas.now (narrowed started.at) head.units decided }
+    requires { Roomy head started.owned × Openable index.now (attributes_in scratch.old.attributes) (sections_in scratch.old.attributes) scratch.old.words scratch.old.schemas (narrowed started.at) head.units decided }
     ensures by_index { (table s : List ℕ) (p : Plan) → (
         let z = session_at head levels.old bindings.old in
         TurnReady table (header_of table) index.now s z
-        → StartAs table index.now s z own.now words.now schemas.now attributes.now started placing decided p
+        → StartAs table index.now s z scratch.old.own scratch.old.words scratch.old.schemas scratch.old.attributes started placing decided p
         → step_in result levels.new bindings.new out.new ≡ planned p z out.old
         ) }
     ensures levels_unchanged { level_free levels.new ≡ level_free levels.old }
@@ -105,16 +100,14 @@ pub fn open_level(
     }
     write_start(
         index,
-        attributes,
-        words,
-        schemas,
+        &scratch.attributes,
+        &scratch.words,
+        &scratch.schemas,
         decided,
         head.units,
         begun_of(at, started.tag, placing),
-        rows,
+        &mut scratch.rows,
         out,
     );
-    lay_level(
-        started, placing, decided, own, words, head, levels, bindings,
-    )
+    lay_level(started, placing, decided, scratch, head, levels, bindings)
 }

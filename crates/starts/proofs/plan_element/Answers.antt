@@ -12,8 +12,8 @@ use Rattle.starts.proofs.Classed.{Classed, classed, unclassed, refused_planned, 
 use Rattle.starts.proofs.plan_element.Goals as goal
 use Rattle.starts.proofs.plan_element.Goals.{Joined-owned-ne0, then-owned-ne0, else-owned-ne0}
 
-pub returns-then-head-ge-DEPTH : goal.returns-then-head-ge-DEPTH
-returns-then-head-ge-DEPTH c =
+pub returns-then-head-ge-DEPTH-clause-planned : goal.returns-then-head-ge-DEPTH-clause-planned
+returns-then-head-ge-DEPTH-clause-planned c =
     let a = c.args in
     let z = session_at a.head a.levels.now a.bindings.now in
     refused_planned a.table.now a.scene.now a.known.now z 21 a.started.at _ c.requires.0.beside (deep_plan (decode a.table.now) a.scene.now z _ _ a.started.tag.next c.if-head-ge-DEPTH.true) (λ e. omega arith)
@@ -24,8 +24,8 @@ overflow_add-head c =
     let h = c.requires in
     omega (arith, few_bound a.table.now (header_of a.table.now) a.index.now a.scene.now a.head (level_names a.levels.now) a.bindings.now (level_spaces a.levels.now) (level_strands a.levels.now) h.0.ready, h.1.told.owned_is, h.1.told.few_own)
 
-pub returns-then-head-owned-gt-BINDINGS : goal.returns-then-head-owned-gt-BINDINGS
-returns-then-head-owned-gt-BINDINGS c =
+pub returns-then-head-owned-gt-BINDINGS-clause-planned : goal.returns-then-head-owned-gt-BINDINGS-clause-planned
+returns-then-head-owned-gt-BINDINGS-clause-planned c =
     let a = c.args in
     let h = c.requires in
     let z = session_at a.head a.levels.now a.bindings.now in
@@ -35,22 +35,22 @@ returns-then-head-owned-gt-BINDINGS c =
 -- where the classes of its declarations are laid, or it has none
 known_classed : (c : Joined-owned-ne0) → (
     let a = c.args in
-    Classed a.table.now a.scene.now a.own.now a.attrs.now a.codes.now c.if-owned-ne0.known (session_at a.head a.levels.now a.bindings.now) a.started
+    Classed a.table.now a.scene.now a.scratch.now.own a.scratch.now.attrs a.scratch.now.codes c.if-owned-ne0.known (session_at a.head a.levels.now a.bindings.now) a.started
     )
 known_classed c =
     let a = c.args in
     let h = c.requires in
     let z = session_at a.head a.levels.now a.bindings.now in
     elim c.if-owned-ne0.branch [
-      | then-owned-ne0 w ↦ classed a.table.now a.index.now a.scene.now a.known.now c.if-owned-ne0.known a.own.now a.attrs.now a.codes.now w.header_of.result a.head (level_names a.levels.now) a.bindings.now (level_spaces a.levels.now) (level_strands a.levels.now) a.started h.0 h.1 w.header_of.ensures (w.known-is ∙ w.put_classes.ensures)
-      | else-owned-ne0 w ↦ unclassed a.table.now a.index.now a.scene.now a.known.now c.if-owned-ne0.known a.own.now a.attrs.now a.codes.now z a.started h.0 h.1 w.if-owned-ne0.false w.known-is
+      | then-owned-ne0 w ↦ classed a.table.now a.index.now a.scene.now a.known.now c.if-owned-ne0.known a.scratch.now.own a.scratch.now.attrs a.scratch.now.codes w.header_of.result a.head (level_names a.levels.now) a.bindings.now (level_spaces a.levels.now) (level_strands a.levels.now) a.started h.0 h.1 w.header_of.ensures (w.known-is ∙ w.put_classes.ensures)
+      | else-owned-ne0 w ↦ unclassed a.table.now a.index.now a.scene.now a.known.now c.if-owned-ne0.known a.scratch.now.own a.scratch.now.attrs a.scratch.now.codes z a.started h.0 h.1 w.if-owned-ne0.false w.known-is
     ]
 
 pub space_of-placing-requires : goal.space_of-placing-requires
 space_of-placing-requires c =
     let a = c.args in
     let h = c.requires in
-    found_few a.table.now a.index.now a.scene.now a.known.now a.own.now a.attrs.now a.codes.now a.head (level_names a.levels.now) a.bindings.now (level_spaces a.levels.now) (level_strands a.levels.now) a.started h.0 h.1
+    found_few a.table.now a.index.now a.scene.now a.known.now a.scratch.now.own a.scratch.now.attrs a.scratch.now.codes a.head (level_names a.levels.now) a.bindings.now (level_spaces a.levels.now) (level_strands a.levels.now) a.started h.0 h.1
 
 pub decide-requires : goal.decide-requires
 decide-requires c =
@@ -65,30 +65,30 @@ decide-requires c =
       h.1.plain_names,
     )
 
-pub returns-in_err-decided : goal.returns-in_err-decided
-returns-in_err-decided c =
+pub returns-in_err-decided-clause-planned : goal.returns-in_err-decided-clause-planned
+returns-in_err-decided-clause-planned c =
     let a = c.args in
     let h = c.requires in
     let z = session_at a.head a.levels.now a.bindings.now in
-    let k = known_classed (goal.at.returns-in_err-decided c).Joined-owned-ne0 in
+    let k = known_classed (goal.at.returns-in_err-decided-clause-planned c).Joined-owned-ne0 in
     let w = c.space_of-placing.ensures a.table.now (header_of a.table.now) a.scene.now a.started.owned (names_few a.table.now h.0.ready.accepted) k.beside.classes k.own_classes h.1.found_within in
-    let d = c.decide.ensures a.table.now (header_of a.table.now) h.0.ready k.beside k.own_classes k.met w in
+    let d = c.decide.ensures.decided a.table.now (header_of a.table.now) h.0.ready k.beside k.own_classes k.met w in
     let l = c.decide.new in
     let f = err_from_is_err_and c.from_residual.result c.from_residual.ensures.1 in
     let e = f.1 ∙ ap Err f.2 in
     rw e
-    (decided_refused a.table.now a.scene.now a.own.now a.attrs.now a.codes.now _ z a.started k c.if-head-ge-DEPTH.false c.if-head-owned-gt-BINDINGS.false l.words l.schemas l.attributes _
-    (by_result a.table.now a.scene.now z _ _ _ l.words l.schemas l.attributes c.in_err-decided.was d))
+    (decided_refused a.table.now a.scene.now a.scratch.now.own a.scratch.now.attrs a.scratch.now.codes _ z a.started k c.if-head-ge-DEPTH.false c.if-head-owned-gt-BINDINGS.false l.scratch.words l.scratch.schemas l.scratch.attributes _
+    (by_result a.table.now a.scene.now z _ _ _ l.scratch.words l.scratch.schemas l.scratch.attributes c.in_err-decided.was d))
 
-pub returns : goal.returns
-returns c =
+pub returns-clause-planned : goal.returns-clause-planned
+returns-clause-planned c =
     let a = c.args in
     let h = c.requires in
     let z = session_at a.head a.levels.now a.bindings.now in
-    let k = known_classed (goal.at.returns c).Joined-owned-ne0 in
+    let k = known_classed (goal.at.returns-clause-planned c).Joined-owned-ne0 in
     let w = c.space_of-placing.ensures a.table.now (header_of a.table.now) a.scene.now a.started.owned (names_few a.table.now h.0.ready.accepted) k.beside.classes k.own_classes h.1.found_within in
-    let d = c.decide.ensures a.table.now (header_of a.table.now) h.0.ready k.beside k.own_classes k.met w in
+    let d = c.decide.ensures.decided a.table.now (header_of a.table.now) h.0.ready k.beside k.own_classes k.met w in
     let l = c.decide.new in
-    decided_start a.table.now a.scene.now a.own.now a.attrs.now a.codes.now _ z a.started k
+    decided_start a.table.now a.scene.now a.scratch.now.own a.scratch.now.attrs a.scratch.now.codes _ z a.started k
     c.if-head-ge-DEPTH.false c.if-head-owned-gt-BINDINGS.false
-    a.index.now l.words l.schemas _ _ c.in_ok-decided.decided h.0.ready w (by_result a.table.now a.scene.now z _ _ _ l.words l.schemas l.attributes c.in_ok-decided.was d)
+    a.index.now l.scratch.words l.scratch.schemas _ _ c.in_ok-decided.decided h.0.ready w (by_result a.table.now a.scene.now z _ _ _ l.scratch.words l.scratch.schemas l.scratch.attributes c.in_ok-decided.was d)

@@ -34,7 +34,8 @@ returns c =
     let w = c.read_start in
     let r = w.ensures a.table.now a.index.now (level_names a.levels.now) (level_spaces a.levels.now) (level_strands a.levels.now) (header_of a.table.now) h.0.ready h.0.beside in
     let l = c.plan_element.new in
-    start_read_lem a.table.now a.scene.now z a.at (tag_at a.scene.now (a.at + 1)).answer _ _ _ _ w.result r a.index.now l.words l.schemas l.attributes l.known _ c.in_ok-started.was c.plan_element.result c.plan_element.ensures
+    rw c.plan_element.ensures.own_unchanged
+    (start_read_lem a.table.now a.scene.now z a.at (tag_at a.scene.now (a.at + 1)).answer _ _ _ _ w.result r a.index.now l.scratch.words l.scratch.schemas l.scratch.attributes l.known _ c.in_ok-started.was c.plan_element.result c.plan_element.ensures.planned)
 
 pub returns-in_err-started : goal.returns-in_err-started
 returns-in_err-started c =

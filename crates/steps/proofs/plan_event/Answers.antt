@@ -28,7 +28,7 @@ returns-then-head c =
     let s = a.scene.now in
     let z = session_at a.head a.levels.now a.bindings.now in
     let i = awaited_innermost a.table.now (header_of a.table.now) a.index.now s a.head (level_names a.levels.now) a.bindings.now (level_spaces a.levels.now) (level_strands a.levels.now) h.ready c.if-head.true in (
-      c.plan_awaited.ensures a.table.now a.index.now a.own.now a.words.now a.schemas.now a.attributes.now a.bindings.now,
+      c.plan_awaited.ensures a.table.now a.index.now a.scratch.now.own a.scratch.now.words a.scratch.now.schemas a.scratch.now.attributes a.bindings.now,
       h.beside,
       awaited_beside (decode a.table.now) a.table.now s a.known.now z h.beside i.some_open c.if-head.true,
     )
@@ -61,8 +61,8 @@ returns-in-Ok-End c =
     let a = c.args in
     let s = a.scene.now in
     let z = session_at a.head a.levels.now a.bindings.now in
-    begun_planned a.table.now a.index.now s a.head a.levels.now a.bindings.now c.if-head.false (Ok (begin.End _)) c.begin_at.result c.begin_at.ensures (c.in-Ok-End.is ∙ ap Ok c.in-Ok-End.field-0-is) a.known.now a.own.now a.words.now a.schemas.now a.attributes.now c.plan_end.result
-    (c.plan_end.ensures a.table.now a.index.now a.own.now a.words.now a.schemas.now a.attributes.now a.bindings.now)
+    begun_planned a.table.now a.index.now s a.head a.levels.now a.bindings.now c.if-head.false (Ok (begin.End _)) c.begin_at.result c.begin_at.ensures (c.in-Ok-End.is ∙ ap Ok c.in-Ok-End.field-0-is) a.known.now a.scratch.now.own a.scratch.now.words a.scratch.now.schemas a.scratch.now.attributes c.plan_end.result
+    (c.plan_end.ensures a.table.now a.index.now a.scratch.now.own a.scratch.now.words a.scratch.now.schemas a.scratch.now.attributes a.bindings.now)
     c.requires.beside (end_beside (decode a.table.now) a.table.now s a.known.now z c.requires.beside _ (end_tag_at s (_ + 2)))
 
 pub returns-in-Ok-Text : goal.returns-in-Ok-Text
@@ -71,21 +71,21 @@ returns-in-Ok-Text c =
     let s = a.scene.now in
     let z = session_at a.head a.levels.now a.bindings.now in
     let k = text_begins a.scene.now a.head c.begin_at.result c.begin_at.ensures _ (c.in-Ok-Text.is ∙ ap Ok c.in-Ok-Text.field-0-is) in
-    begun_planned a.table.now a.index.now s a.head a.levels.now a.bindings.now c.if-head.false (Ok (begin.Text _)) c.begin_at.result c.begin_at.ensures (c.in-Ok-Text.is ∙ ap Ok c.in-Ok-Text.field-0-is) a.known.now a.own.now a.words.now a.schemas.now a.attributes.now c.plan_text.result
-    (c.plan_text.ensures a.table.now a.index.now a.own.now a.words.now a.schemas.now a.attributes.now z k.0)
+    begun_planned a.table.now a.index.now s a.head a.levels.now a.bindings.now c.if-head.false (Ok (begin.Text _)) c.begin_at.result c.begin_at.ensures (c.in-Ok-Text.is ∙ ap Ok c.in-Ok-Text.field-0-is) a.known.now a.scratch.now.own a.scratch.now.words a.scratch.now.schemas a.scratch.now.attributes c.plan_text.result
+    (c.plan_text.ensures a.table.now a.index.now a.scratch.now.own a.scratch.now.words a.scratch.now.schemas a.scratch.now.attributes z k.0)
     c.requires.beside (text_beside (decode a.table.now) a.table.now s a.known.now z c.requires.beside _ (text_end s _))
 
 pub returns-in-Ok-Finished : goal.returns-in-Ok-Finished
 returns-in-Ok-Finished c =
     let a = c.args in
     let s = a.scene.now in
-    begun_planned a.table.now a.index.now s a.head a.levels.now a.bindings.now c.if-head.false (Ok begin.Finished) c.begin_at.result c.begin_at.ensures (c.in-Ok-Finished.is ∙ ap Ok c.in-Ok-Finished.field-0-is) a.known.now a.own.now a.words.now a.schemas.now a.attributes.now (Ok planned.Finished) refl c.requires.beside c.requires.beside
+    begun_planned a.table.now a.index.now s a.head a.levels.now a.bindings.now c.if-head.false (Ok begin.Finished) c.begin_at.result c.begin_at.ensures (c.in-Ok-Finished.is ∙ ap Ok c.in-Ok-Finished.field-0-is) a.known.now a.scratch.now.own a.scratch.now.words a.scratch.now.schemas a.scratch.now.attributes (Ok planned.Finished) refl c.requires.beside c.requires.beside
 
 pub returns-in-Err : goal.returns-in-Err
 returns-in-Err c =
     let a = c.args in
     let s = a.scene.now in
     let z = session_at a.head a.levels.now a.bindings.now in
-    begun_planned a.table.now a.index.now s a.head a.levels.now a.bindings.now c.if-head.false (Err c.in-Err.x) c.begin_at.result c.begin_at.ensures c.in-Err.is a.known.now a.own.now a.words.now a.schemas.now a.attributes.now (Err c.stopped.result)
-    (stopped_planned a.table.now a.index.now s z a.own.now a.words.now a.schemas.now a.attributes.now c.stopped.result _ c.in-Err.x c.stopped.ensures refl)
+    begun_planned a.table.now a.index.now s a.head a.levels.now a.bindings.now c.if-head.false (Err c.in-Err.x) c.begin_at.result c.begin_at.ensures c.in-Err.is a.known.now a.scratch.now.own a.scratch.now.words a.scratch.now.schemas a.scratch.now.attributes (Err c.stopped.result)
+    (stopped_planned a.table.now a.index.now s z a.scratch.now.own a.scratch.now.words a.scratch.now.schemas a.scratch.now.attributes c.stopped.result _ c.in-Err.x c.stopped.ensures refl)
     c.requires.beside c.requires.beside

@@ -13,11 +13,11 @@ returns-in-Ok c =
     let a = c.args in
     let r = c.meaning in
     λ table index levels spaces strands header w b e back.
-    start_read_lem table header index a.scene.now a.head levels a.bindings.now spaces strands w a.at a.tag a.attrs.now c.requires.0 e back a.own.now a.codes.now a.known.now b r.result _ _ _ r.ensures _ _ c.in-Ok.is c.all_plain-plain.result c.all_plain-plain.ensures
+    start_read_lem table header index a.scene.now a.head levels a.bindings.now spaces strands w a.at a.tag a.scratch.now.attrs c.requires.0 e back a.scratch.now.own a.scratch.now.codes a.known.now b r.result _ _ _ r.ensures _ _ c.in-Ok.is c.all_plain-plain.result c.all_plain-plain.ensures
 
 pub returns-in-Err : goal.returns-in-Err
 returns-in-Err c =
     let a = c.args in
     let r = c.meaning in
     λ table index levels spaces strands header w b e back.
-    refused_read table header index a.scene.now a.head levels a.bindings.now spaces strands w a.at a.tag a.attrs.now c.requires.0 e back a.own.now a.codes.now a.known.now b r.result _ _ _ r.ensures _ _ c.in-Err.is c.number.ensures
+    refused_read table header index a.scene.now a.head levels a.bindings.now spaces strands w a.at a.tag a.scratch.now.attrs c.requires.0 e back a.scratch.now.own a.scratch.now.codes a.known.now b r.result _ _ _ r.ensures _ _ c.in-Err.is c.number.ensures

@@ -11,7 +11,7 @@ returns-in-Ok c =
     let e = sym r.ensures.0 ∙ c.in-Ok.is in
     λ table index levels spaces strands header w b.
     answer_read table a.scene.now (session_of a.head levels a.bindings.now spaces strands) a.at _ _ _ _ _ _ e
-    (c.read_meaning.ensures table index levels spaces strands header w b e (attrs_read a.scene.now a.at _ a.attrs.now _ w.short e r.ensures.1))
+    (c.read_meaning.ensures table index levels spaces strands header w b e (attrs_read a.scene.now a.at _ a.scratch.now.attrs _ w.short e r.ensures.1))
 
 pub returns-in-Err : goal.returns-in-Err
 returns-in-Err c =
