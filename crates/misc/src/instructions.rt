@@ -10,6 +10,7 @@ use tags::want;
 use utf8::Set;
 
 // A comment from behind its <!-- on.
+#[inline(never)]
 fn comment_rest(s: &[u8], at: usize) -> Result<usize, Stop>
     ensures { result ≡ comment_rest s.now at }
 {

@@ -13,12 +13,14 @@ use layout::storing::{SESSION_SIZE, arrays_in, head_in, holds_session, put8, wor
 use sessions::Head;
 use strands::LEVELS;
 
-// A session's bytes, laid over those of `b` from `at` on.
+// A session's bytes, laid over those of `b` from `at` on. One by one: of `copy_from_slice` the archive would need `memmove` too.
 fn put_bytes(b: &mut [u8], at: usize, session: &[u8])
     requires { (at + session_size ≤ length b.old) × (session_size ≤ length session.now) }
     ensures { b.new ≡ overwrite b.old at (take session_size session.now) }
 {
-    b[at..at + SESSION_SIZE].copy_from_slice(&session[..SESSION_SIZE]);
+    for i in 0..SESSION_SIZE {
+        b[at + i] = session[i];
+    }
 }
 
 // The bytes of an offer, laid over the first of `offer`.

@@ -22,9 +22,9 @@ use Rattle.reader.proofs.PrefixKeys.{Bytes, bytes_of_lem, key_tells}
 use Rattle.reader.proofs.Seek.{counted_some, counted_none, open_some, open_none, look_le, found_own, found_open_lem}
 
 module _ (l : List ℕ) (left key : ℕ) where
-  pub key_none : left ≡ 0 → None ≡ counted_from_1 (last_key l left key)
+  pub key_none : left ≡ 0 → 0 ≡ last_key l left key
   unfolding last_key
-  key_none e = ap (λ (k : ℕ). counted_from_1 (last_key l k key)) (sym e)
+  key_none e = ap (λ (k : ℕ). last_key l k key) (sym e)
 
   last_turn : (left ≡ 0 → ⊥) → last_key l left key ≡ cond (eqb (get_or l (left - 1) 0) key) left (last_key l (left - 1) key)
   unfolding last_key
@@ -33,13 +33,11 @@ module _ (l : List ℕ) (left key : ℕ) where
       sym (ap (λ (k : ℕ). last_key l k key) n)
       ∙ ap (λ (k : ℕ). cond (eqb (get_or l (left - 1) 0) key) k (last_key l (left - 1) key)) n
 
-  pub key_here : (left ≡ 0 → ⊥) → get_or l (left - 1) 0 ≡ key → Some (left - 1) ≡ counted_from_1 (last_key l left key)
-  key_here ne e =
-      let n : suc (left - 1) ≡ left = omega arith in
-      ap counted_from_1 (n ∙ sym (last_turn ne ∙ rw (eq-eqb (get_or l (left - 1) 0) key e)))
+  pub key_here : (left ≡ 0 → ⊥) → get_or l (left - 1) 0 ≡ key → left ≡ last_key l left key
+  key_here ne e = sym (last_turn ne ∙ rw (eq-eqb (get_or l (left - 1) 0) key e))
 
-  pub key_before : (r : Option ℕ) → (left ≡ 0 → ⊥) → (get_or l (left - 1) 0 ≡ key → ⊥) → r ≡ counted_from_1 (last_key l (left - 1) key) → r ≡ counted_from_1 (last_key l left key)
-  key_before r ne e h = h ∙ ap counted_from_1 (sym (last_turn ne ∙ rw (ne_eqb (get_or l (left - 1) 0) key e)))
+  pub key_before : (r : ℕ) → (left ≡ 0 → ⊥) → (get_or l (left - 1) 0 ≡ key → ⊥) → r ≡ last_key l (left - 1) key → r ≡ last_key l left key
+  key_before r ne e h = h ∙ sym (last_turn ne ∙ rw (ne_eqb (get_or l (left - 1) 0) key e))
 
 -- ---- by keys as by bytes
 module _ (s known prefix : List ℕ) (hs : Bytes s) (hp : Bytes prefix) (short : length prefix ≤ 7) where

@@ -1,4 +1,6 @@
 -- A prefix looked up.
+--     words_apart                         lists of which eight bytes differ
+--     counted_less                        one less, by the library
 --     counted_some, counted_none          a place that is counted from 1
 --     look_none, look_turn                the clauses of `look_from`, at the code's `left` and `left - 1`
 --     look_le                             it is one of them
@@ -10,18 +12,31 @@ use mathlib.Core.List.{List}
 use mathlib.Core.Bool.{Bool, true, false, cond}
 use native.Mathlib.Omega.{arith}
 use borrow.Author.Tests.{eq-eqb, ne_eqb}
-use Rattle.std.specs.Prelude.{Option, Some, None}
+use Rattle.std.specs.Prelude.{Option, Some, None, SomeIff}
+use lib.ListN.{take, drop}
 use Rattle.laws.specs.Lists.{same_list}
+use Rattle.lanes.specs.Words.{little_endian}
+use Rattle.compare.proofs.Equal.{same_eq}
 use Rattle.reader.specs.Spans.{bytes_of, xml_prefix}
 use Rattle.reader.specs.Stored.{at_most, binding_in, counted_from_1, look_from, found_open, found_of}
 use Rattle.reader.specs.declared.Found.{Found}
 use Rattle.reader.specs.declared.Found.TheVariants as found
 use Rattle.reader.proofs.Indexed.{min_at_most}
 
+-- lists whose words differ somewhere
+pub words_apart : (x y : List ℕ) (i v w : ℕ) → v ≡ little_endian (take 8 (drop i x)) → w ≡ little_endian (take 8 (drop i y)) → (v ≡ w → ⊥) → false ≡ same_list x y
+words_apart x y i v w ev ew ne = cases (same_list x y) refl
+  where
+    cases : (t : Bool) → t ≡ same_list x y → false ≡ same_list x y
+    cases true e = absurd (ne (ev ∙ ap (λ (l : List ℕ). little_endian (take 8 (drop i l))) (same_eq x y (sym e)) ∙ sym ew))
+    cases false e = e
+
 -- ---- places counted from 1
-pub counted_cond : (t : Bool) (a b : ℕ) → cond t (counted_from_1 a) (counted_from_1 b) ≡ counted_from_1 (cond t a b)
-counted_cond true a b = refl
-counted_cond false a b = refl
+pub counted_less : (n : ℕ) (o : Option ℕ) → SomeIff o (1 ≤ n) (n - 1) → o ≡ counted_from_1 n
+counted_less zero None h = refl
+counted_less zero (Some x) h = absurd (let l : 1 ≤ 0 = h.0 in omega arith)
+counted_less (suc n) None h = absurd (h (omega arith))
+counted_less (suc n) (Some x) h = ap Some (h.1 ∙ omega arith)
 
 pub counted_some : (n k : ℕ) → counted_from_1 n ≡ Some k → n ≡ k + 1
 counted_some zero k e = absurd (let z : ◌≡◌ {A = ℕ} 0 1 = cc in omega arith)
@@ -32,18 +47,18 @@ counted_none zero e = refl
 counted_none (suc n) e = absurd (let z : ◌≡◌ {A = ℕ} 0 1 = cc in omega arith)
 
 module _ (s l : List ℕ) (left : ℕ) (prefix : List ℕ) where
-  pub look_none : left ≡ 0 → None ≡ counted_from_1 (look_from s l left prefix)
+  pub look_none : left ≡ 0 → 0 ≡ look_from s l left prefix
   unfolding look_from
-  look_none e = ap (λ (k : ℕ). counted_from_1 (look_from s l k prefix)) (sym e)
+  look_none e = ap (λ (k : ℕ). look_from s l k prefix) (sym e)
 
-  pub look_turn : (r : Bool) (x : Option ℕ) → (left ≡ 0 → ⊥) → r ≡ same_list (bytes_of s (binding_in l (left - 1)).prefix) prefix
-      → x ≡ cond r (Some (left - 1)) (counted_from_1 (look_from s l (left - 1) prefix)) → x ≡ counted_from_1 (look_from s l left prefix)
+  pub look_turn : (r : Bool) (x : ℕ) → (left ≡ 0 → ⊥) → r ≡ same_list (bytes_of s (binding_in l (left - 1)).prefix) prefix
+      → x ≡ cond r left (look_from s l (left - 1) prefix) → x ≡ look_from s l left prefix
   unfolding look_from
   look_turn r x ne e h =
       let n : suc (left - 1) ≡ left = omega arith in
-      h ∙ ap (λ (t : Bool). cond t (Some (left - 1)) (counted_from_1 (look_from s l (left - 1) prefix))) e
-      ∙ counted_cond (same_list (bytes_of s (binding_in l (left - 1)).prefix) prefix) (suc (left - 1)) (look_from s l (left - 1) prefix)
-      ∙ ap (λ (k : ℕ). counted_from_1 (look_from s l k prefix)) n
+      h ∙ ap (λ (t : Bool). cond t left (look_from s l (left - 1) prefix)) e
+      ∙ ap (λ (k : ℕ). cond (same_list (bytes_of s (binding_in l (left - 1)).prefix) prefix) k (look_from s l (left - 1) prefix)) (sym n)
+      ∙ ap (λ (k : ℕ). look_from s l k prefix) n
 
 pub look_le : (s l : List ℕ) (n : ℕ) (p : List ℕ) → look_from s l n p ≤ n
 unfolding look_from

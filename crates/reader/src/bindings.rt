@@ -8,6 +8,7 @@ ghost use Rattle.reader.specs.Known.{key_of, keys_in, last_key, Keyed};
 
 use crate::{Binding, Found, Scope, Span};
 use compare::{part_of, same};
+use lanes::word_at;
 
 // A number as 32 bits hold it: `as` is proved to lose nothing.
 pub fn narrow(x: usize) -> u32
@@ -57,25 +58,50 @@ pub fn binding_in(l: &[u32], k: usize) -> Binding
     }
 }
 
+// Are the bytes the same? The last eight are compared first: long prefixes mostly differ there, and to compare them whole is a call.
+fn same_spelled(a: &[u8], b: &[u8]) -> bool
+    ensures { result ≡ same_list a.now b.now }
+{
+    let n = a.len();
+    if n == b.len() && 8 <= n && word_at(a, n - 8) != word_at(b, n - 8) {
+        return false;
+    }
+    same(a, b)
+}
+
 // Does the k-th binding have this prefix?
 fn is_prefix(s: &[u8], bindings: &[u32], k: usize, prefix: &[u8]) -> bool
     ensures { result ≡ same_list (bytes_of s.now (binding_in bindings.now k).prefix) prefix.now }
 {
     let b = binding_in(bindings, k);
-    same(part_of(s, b.prefix.at, b.prefix.len), prefix)
+    same_spelled(part_of(s, b.prefix.at, b.prefix.len), prefix)
 }
 
-// The last of the first `left` bindings with this prefix, by a recursion, as the specification has it.
+// A place counted from 1, from 0; none for 0.
+fn counted_from_1(n: usize) -> Option<usize>
+    ensures { result ≡ counted_from_1 n }
+{
+    n.checked_sub(1)
+}
+
+// The last of the first `left` bindings with this prefix, counted from 1, by a recursion, as the specification has it; 0 where there is none. A number: a recursion that answers an `Option` is not made a loop.
+fn last_with(s: &[u8], bindings: &[u32], left: usize, prefix: &[u8]) -> usize
+    ensures { result ≡ look_from s.now bindings.now left prefix.now }
+{
+    if left == 0 {
+        0
+    } else if is_prefix(s, bindings, left - 1, prefix) {
+        left
+    } else {
+        last_with(s, bindings, left - 1, prefix)
+    }
+}
+
+// The last of the first `left` bindings with this prefix.
 fn look_up(s: &[u8], bindings: &[u32], left: usize, prefix: &[u8]) -> Option<usize>
     ensures { result ≡ counted_from_1 (look_from s.now bindings.now left prefix.now) }
 {
-    if left == 0 {
-        None
-    } else if is_prefix(s, bindings, left - 1, prefix) {
-        Some(left - 1)
-    } else {
-        look_up(s, bindings, left - 1, prefix)
-    }
+    counted_from_1(last_with(s, bindings, left, prefix))
 }
 
 // The declaration in force of a prefix, byte by byte: among the tag's own, then among those round it.
@@ -127,7 +153,18 @@ fn key_of(prefix: &[u8]) -> u64
     8 * key + (n as u64)
 }
 
-// The keys of the prefixes of n bindings, from a place on of the array that is kept beside the bindings.
+// The keys of the prefixes of n bindings, from a place of the array on.
+pub fn write_keys(s: &[u8], bindings: &[u32], n: usize, from: usize, known: &mut [u64])
+    requires { from + n ≤ length known.old }
+    ensures { known.new ≡ overwrite known.old from (keys_in s.now bindings.now n) }
+{
+    for k in 0..n {
+        let prefix = binding_in(bindings, k).prefix;
+        known[from + k] = key_of(part_of(s, prefix.at, prefix.len));
+    }
+}
+
+// The same in the array that is kept beside the bindings.
 pub fn put_keys(
     s: &[u8],
     bindings: &[u32],
@@ -138,24 +175,29 @@ pub fn put_keys(
     requires { from + n ≤ 80 }
     ensures { known.new ≡ overwrite known.old from (keys_in s.now bindings.now n) }
 {
-    for k in 0..n {
-        let prefix = binding_in(bindings, k).prefix;
-        known[from + k] = key_of(part_of(s, prefix.at, prefix.len));
+    write_keys(s, bindings, n, from, known);
+}
+
+// The last of the first `left` keys that is this one, counted from 1, by a recursion too; 0 where there is none.
+fn last_key_from(known: &[u64; 2 * Scope::KNOWN], left: usize, key: u64) -> usize
+    requires { left ≤ 80 }
+    ensures { result ≡ last_key known.now left key }
+{
+    if left == 0 {
+        0
+    } else if known[left - 1] == key {
+        left
+    } else {
+        last_key_from(known, left - 1, key)
     }
 }
 
-// The last of the first `left` keys that is this one, by a recursion too.
+// The last of the first `left` keys that is this one.
 fn last_key(known: &[u64; 2 * Scope::KNOWN], left: usize, key: u64) -> Option<usize>
     requires { left ≤ 80 }
     ensures { result ≡ counted_from_1 (last_key known.now left key) }
 {
-    if left == 0 {
-        None
-    } else if known[left - 1] == key {
-        Some(left - 1)
-    } else {
-        last_key(known, left - 1, key)
-    }
+    counted_from_1(last_key_from(known, left, key))
 }
 
 // The declaration in force of a prefix, by its key: those of the open bindings stand first, the tag's own behind them.

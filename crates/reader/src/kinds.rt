@@ -34,6 +34,7 @@ pub fn whole_of(s: &[u8], name: Name) -> &[u8]
 }
 
 // What an attribute's name makes of it.
+#[inline]
 pub fn kind_of(s: &[u8], name: Name) -> Kind
     ensures { result ≡ kind_of s.now name }
 {

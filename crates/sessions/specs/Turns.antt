@@ -1,5 +1,5 @@
 -- One event of a session that number 20 accepts, as the code takes it: the session's numbers by value, its arrays lent. Definitions.
-use Rattle.std.specs.Prelude.{ℕ, ◌+◌, ◌*◌, ◌-◌, ◌%◌, ◌^◌, ◌≤◌, ◌<◌, ◌≡◌, List, [], map, Bool, true, false, Result, Ok, Err, cond, ◌&&◌, length, get_or, take, eqb, ltb}
+use Rattle.std.specs.Prelude.{ℕ, ◌+◌, ◌*◌, ◌-◌, ◌/◌, ◌%◌, ◌^◌, ◌≤◌, ◌<◌, ◌≡◌, List, [], map, Bool, true, false, Result, Ok, Err, Option, Some, None, cond, ◌&&◌, length, get_or, take, eqb, ltb}
 use Rattle.laws.specs.Lists.{same_list, all, keep}
 use Rattle.laws.specs.Gather.{gather}
 use Rattle.laws.specs.Members.{All}
@@ -106,6 +106,11 @@ InnerLevel head levels = (1 ≤ head.depth) × (head.depth ≤ 64) × (get_or (l
 abbrev pub inner_records : Body → Bool → Head → List ℕ → List (Record Body ℕ)
 inner_records b closes head levels =
     gather (event_records b closes) (words_at (level_strands levels) (head.depth - 1) (get_or (level_spaces levels) (4 * (head.depth - 1) + 3) 0))
+
+-- an event whose records take so many bytes of the output; 25 where there is no room for them
+abbrev pub used_step : ℕ → Session → Session → List ℕ → Option ℕ → Step
+used_step at next z out None = refused_step 25 at z out
+used_step at next z out (Some used) = record { answer = answered 0 next.place 1 (used / 16); session = next; output = out }
 
 -- the bytes of a name and a > stand at a place
 abbrev pub closes_at : List ℕ → ℕ → Span → Bool

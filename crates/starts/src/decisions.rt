@@ -50,6 +50,7 @@ pub fn decide(
         → DecidedAs t s z (elements.element_of t s e) result scratch.new.words scratch.new.schemas (attributes_in scratch.new.attributes) (sections_in scratch.new.attributes)
         ) }
     ensures own_unchanged { scratch.new.own ≡ scratch.old.own }
+    ensures attrs_unchanged { (scratch.new.attrs ≡ scratch.old.attrs) × (scratch.new.codes ≡ scratch.old.codes) }
 {
     let found = started.found;
     let Some(count) = next_strands(

@@ -45,6 +45,7 @@ fn plan_element(
         × Beside table.now s known.new z
         × Beside table.now s known.new (session_by p z) }
     ensures own_unchanged { scratch.new.own ≡ scratch.old.own }
+    ensures attrs_unchanged { (scratch.new.attrs ≡ scratch.old.attrs) × (scratch.new.codes ≡ scratch.old.codes) }
 {
     let at = started.at;
     let owned = started.owned;

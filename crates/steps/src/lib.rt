@@ -53,6 +53,7 @@ fn plan_event(
 }
 
 // One step of a coherent session: its records go to the output from its first byte on.
+#[inline(always)]
 pub fn judged_step(
     table: &[u8],
     index: &[u32; 256],

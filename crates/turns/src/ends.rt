@@ -13,7 +13,8 @@ ghost use Rattle.strands.specs.Writing.{row_for, event_count};
 ghost use Rattle.strands.specs.Levels.{level_names, level_spaces, level_strands};
 ghost use Rattle.sessions.specs.Sessions.{session_at, state_of, with_place, with_end};
 ghost use Rattle.sessions.specs.Stepping.{event_step};
-ghost use Rattle.sessions.specs.Turns.{InnerLevel, inner_records, end_row, text_head, closed_head, step_in, weighed_event};
+ghost use Rattle.sessions.specs.Session.{Session};
+ghost use Rattle.sessions.specs.Turns.{InnerLevel, inner_records, used_step, end_row, text_head, closed_head, step_in, weighed_event};
 
 use crate::stop;
 use reader::Span;
@@ -31,34 +32,24 @@ fn is_full(len: usize, levels: &[u32; LEVELS], level: usize, n: usize, closes: b
     len < 32 * n && len / 16 < event_count(levels, level, n, closes)
 }
 
-// An event of the innermost level: 25, or its row for each strand, and the session's numbers behind it.
-fn write_turn(
-    at: usize,
+// The row for each strand of the innermost level: how many bytes they take, or none where the output has no room for them. The turn is made by the callers: handed on whole it would be copied, padding and all.
+#[inline(always)]
+fn write_rows(
     row: Row,
     closes: bool,
     head: Head,
-    behind: Head,
     levels: &[u32; LEVELS],
     out: &mut [u8],
-) -> Turn
+) -> Option<usize>
     requires { InnerLevel head levels.now }
-    ensures { (bindings : List ℕ) → (
-        step_in result levels.now bindings out.new
-        ≡ event_step at (inner_records (body_of row) closes head levels.now) (session_at behind levels.now bindings) (session_at head levels.now bindings) out.old
-        ) }
+    ensures { (at : ℕ) (next z : Session) → used_step at next z out.new result ≡ event_step at (inner_records (body_of row) closes head levels.now) next z out.old }
 {
     let level = head.depth - 1;
     let n = count_at(levels, level);
     if is_full(out.len(), levels, level, n, closes) {
-        return stop(25, at, head);
+        return None;
     }
-    let used = write_event(levels, level, n, row, closes, out);
-    Turn {
-        number: 0,
-        place: behind.place,
-        records: used / 16,
-        head: behind,
-    }
+    Some(write_event(levels, level, n, row, closes, out))
 }
 
 // An event of the innermost level, its records counted.
@@ -107,7 +98,15 @@ pub fn text_event(at: usize, end: usize, head: Head, levels: &[u32; LEVELS], out
         ) }
 {
     let row = text_row(at, end);
-    write_turn(at, row, false, head, text_head(head, end), levels, out)
+    let Some(used) = write_rows(row, false, head, levels, out) else {
+        return stop(25, at, head);
+    };
+    Turn {
+        number: 0,
+        place: end,
+        records: used / 16,
+        head: text_head(head, end),
+    }
 }
 
 // A text, its records counted.
@@ -154,6 +153,7 @@ fn closed_head(head: Head, place: usize, levels: &[u32; LEVELS]) -> Head
 }
 
 // The end of the innermost level, its name's part, its tag's < and the place behind it: 25, or its records.
+#[inline(always)]
 pub fn end_event(
     part: Span,
     at: usize,
@@ -170,15 +170,15 @@ pub fn end_event(
         ) }
 {
     let row = end_row(part, levels, head.depth - 1);
-    write_turn(
-        at,
-        row,
-        true,
-        head,
-        closed_head(head, place, levels),
-        levels,
-        out,
-    )
+    let Some(used) = write_rows(row, true, head, levels, out) else {
+        return stop(25, at, head);
+    };
+    Turn {
+        number: 0,
+        place,
+        records: used / 16,
+        head: closed_head(head, place, levels),
+    }
 }
 
 // The end of the innermost level, its records counted.

@@ -93,6 +93,8 @@ pub fn open_level(
         → step_in result levels.new bindings.new out.new ≡ planned p z out.old
         ) }
     ensures levels_unchanged { level_free levels.new ≡ level_free levels.old }
+    ensures tag_unchanged { (scratch.new.attrs ≡ scratch.old.attrs) × (scratch.new.codes ≡ scratch.old.codes) × (scratch.new.own ≡ scratch.old.own) }
+    ensures decided_unchanged { (scratch.new.attributes ≡ scratch.old.attributes) × (scratch.new.words ≡ scratch.old.words) × (scratch.new.schemas ≡ scratch.old.schemas) }
 {
     let at = started.at;
     if out.len() / 16 < decided.records {

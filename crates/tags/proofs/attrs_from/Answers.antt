@@ -12,7 +12,7 @@ pub returns-in-Close : goal.returns-in-Close
 returns-in-Close c = let r = closed _ _ _ _ _ _ c.loop-next.invariant _ c.turn_at.ensures _ _ (c.in_ok-next.was ∙ ap Ok c.in-Close.is) in record { answer = r.0; array = r.1 }
 
 pub returns-then-count-eq16 : goal.returns-then-count-eq16
-returns-then-count-eq16 c = let r = seventeenth _ _ _ _ _ _ c.loop-next.invariant _ c.turn_at.ensures _ (c.in_ok-next.was ∙ ap Ok c.in-Attribute.is) c.if-count-eq16.true in record { answer = r.0; array = r.1 }
+returns-then-count-eq16 c = let r = seventeenth _ _ _ _ _ _ c.loop-next.invariant _ c.turn_at.ensures _ (c.in_ok-next.was ∙ ap Ok c.in-Attribute.is) (omega (arith, c.loop-next.invariant.few, c.if-count-eq16.true)) in record { answer = r.0; array = r.1 }
 
 pub put_attr-requires : goal.put_attr-requires
 put_attr-requires c = (omega (arith, c.loop-next.invariant.few, c.if-count-eq16.false), search rules)

@@ -60,3 +60,6 @@ returns-clause-decided c = λ table header ready beside classes met placed.
     _ _ _ _ _ _ _ _ _ _ _ _ c.in-Some.ensures h.0 _ (attributes_in held) v.1
     (λ table header owned small outer-classes own_classes within. let q = h.1 table header owned small outer-classes own_classes within in (q.0, ap attributes_in q.1 ∙ laid_first _ a.scratch.now.attributes (omega (arith, h.0, q.0))))
     (v.0, v.2) c.weigh-2.ensures)
+
+pub returns-clause-attrs_unchanged : goal.returns-clause-attrs_unchanged
+returns-clause-attrs_unchanged c = (refl, refl)

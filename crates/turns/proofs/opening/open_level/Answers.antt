@@ -18,6 +18,8 @@ returns-then-out-decided c =
           ∙ full_start table a.index.now s a.scratch.now.own a.scratch.now.words a.scratch.now.schemas a.scratch.now.attributes a.started a.placing a.decided a.head (level_names a.levels.now) a.bindings.now (level_spaces a.levels.now) (level_strands a.levels.now) p
           ready as-planned a.out.now c.if-out-decided.true;
       levels_unchanged = refl;
+      tag_unchanged = (refl, refl, refl);
+      decided_unchanged = (refl, refl, refl);
     }
 
 pub write_start-requires : goal.write_start-requires
@@ -39,3 +41,9 @@ returns-clause-by_index c = λ table s p ready as-planned.
 
 pub returns-clause-levels_unchanged : goal.returns-clause-levels_unchanged
 returns-clause-levels_unchanged c = c.lay_level.ensures.levels_unchanged
+
+pub returns-clause-tag_unchanged : goal.returns-clause-tag_unchanged
+returns-clause-tag_unchanged c = (refl, refl, refl)
+
+pub returns-clause-decided_unchanged : goal.returns-clause-decided_unchanged
+returns-clause-decided_unchanged c = (refl, refl, refl)

@@ -1,4 +1,4 @@
--- `reader::bindings::put_keys` meets its contract: the keys of the first bindings are laid down.
+-- `reader::bindings::write_keys` meets its contract: the keys of the first bindings are laid down.
 use Prim.Native.Nat.{ℕ, ◌+◌}
 use mathlib.Core.Path.{◌≡◌, refl, ap, ◌∙◌}
 use native.Mathlib.Omega.{arith}
@@ -6,7 +6,7 @@ use lib.ListN.{length-set}
 use Rattle.laws.specs.Over.{overwrite}
 use Rattle.reader.specs.Known.{keys_in}
 use Rattle.reader.proofs.Known.{keys_none, keys_turn, key_read}
-use Rattle.reader.proofs.bindings.put_keys.Goals as goal
+use Rattle.reader.proofs.bindings.write_keys.Goals as goal
 
 pub loop-k-init : goal.loop-k-init
 loop-k-init c = (refl, omega arith, keys_none _ _ _ _)
