@@ -23,6 +23,7 @@ use table::words::header_of;
 use table::{Answer, Header};
 
 // Such steps until one's number is not 0 or there were so many. Each is lent the rest of the output.
+#[inline(always)]
 fn judged_steps(
     table: &[u8],
     index: &[u32; 256],

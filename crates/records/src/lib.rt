@@ -60,27 +60,13 @@ pub fn put_row_if(out: &mut [u8], at: usize, due: bool, r: Row) -> usize
     if due { put_row(out, at, r) } else { at }
 }
 
-// What a byte counts in a word, by how many bytes are behind it.
-const BYTE_1: u64 = 256;
-
-const BYTE_2: u64 = 65536;
-
-const BYTE_3: u64 = 16777216;
-
-const BYTE_4: u64 = 4294967296;
-
-const BYTE_5: u64 = 1099511627776;
-
-const BYTE_6: u64 = 281474976710656;
-
-// A record's first eight bytes as a word, but for its unit. By what a byte counts: of bytes put together again the compiler makes thrice the code.
+// A record's first eight bytes as a word, but for its unit.
 pub fn first_word(kind: u8, class: u8, at: u32, len: u32) -> u64
     ensures { (uri_at uri_len : ℕ) → result ≡ first_word (record { kind = kind; class = class; at = at; len = len; uri_at = uri_at; uri_len = uri_len }) }
 {
-    u64::from(kind) * BYTE_5
-        + u64::from(class) * BYTE_4
-        + u64::from(at) % BYTE_3 * BYTE_1
-        + u64::from(len) / BYTE_2 % BYTE_1
+    let [_, at2, at1, at0] = at.to_be_bytes();
+    let [_, len2, _, _] = len.to_be_bytes();
+    u64::from_be_bytes([0, 0, kind, class, at2, at1, at0, len2])
 }
 
 // What its unit adds to them.
@@ -95,9 +81,12 @@ pub fn unit_word(unit: u32) -> u64
 pub fn last_word(len: u32, uri_at: u32, uri_len: u32) -> u64
     ensures { (kind class at : ℕ) → result ≡ last_word (record { kind = kind; class = class; at = at; len = len; uri_at = uri_at; uri_len = uri_len }) }
 {
-    u64::from(len) % BYTE_2 * BYTE_6
-        + u64::from(uri_at) % BYTE_3 * BYTE_3
-        + u64::from(uri_len) % BYTE_3
+    let [_, _, len1, len0] = len.to_be_bytes();
+    let [_, uri_at2, uri_at1, uri_at0] = uri_at.to_be_bytes();
+    let [_, uri_len2, uri_len1, uri_len0] = uri_len.to_be_bytes();
+    u64::from_be_bytes([
+        len1, len0, uri_at2, uri_at1, uri_at0, uri_len2, uri_len1, uri_len0,
+    ])
 }
 
 // A word's eight bytes laid at `at`.

@@ -1,18 +1,15 @@
 -- `ends::text_event` meets its contract: 25, or the text's row along the strands and the place behind it.
 use Prim.Native.Nat.{ℕ, ◌/◌}
-use mathlib.Core.Path.{◌≡◌, sym, ap, ◌∙◌}
+use mathlib.Core.Path.{sym, ap, ◌∙◌}
 use mathlib.Core.Bool.{false}
 use mathlib.Core.List.{List}
 use Rattle.table.specs.Table.{Table}
 use Rattle.reader.specs.Spans.{between}
 use Rattle.model.specs.Theory.{Record}
-use Rattle.model.specs.Records.{Body, text_body}
-use Rattle.model.specs.Tree.{text}
-use Rattle.model.specs.Stream.{written}
-use Rattle.model.specs.Dispatch.{dispatch}
+use Rattle.model.specs.Records.{Body}
 use Rattle.records.specs.Rows.{body_of}
 use Rattle.records.specs.declared.Row.{Row}
-use Rattle.sessions.specs.Sessions.{session_at, state_of, with_place}
+use Rattle.sessions.specs.Sessions.{session_at, with_place}
 use Rattle.sessions.specs.Stepping.{answered, event_step}
 use Rattle.sessions.specs.Turns.{inner_records, step_in}
 use Rattle.sessions.specs.declared.Head.{Head}
